@@ -1,5 +1,6 @@
 pub mod BindingLists
 pub mod CodeLists
+pub mod FewParts
 pub mod NewSteps
 pub mod PartSteps
 pub mod PartTests

@@ -1,5 +1,5 @@
 -- What is needed to make a whole program, and what is made of its parts.
-use Rattle.std.proofs.Common.{◌≡◌, ℕ, zero, suc, ◌+◌, ◌<◌, ◌≤◌, ◌^◌, Bool, true, List, [], ◌∷◌, length, map, get_or, refl, sym, ap, ◌∙◌, subst, arith}
+use Rattle.std.proofs.Common.{◌≡◌, ℕ, zero, suc, ◌+◌, ◌-◌, ◌<◌, ◌≤◌, ◌^◌, Bool, true, List, [], ◌∷◌, length, map, get_or, refl, sym, ap, ◌∙◌, subst, arith}
 use Rattle.std.specs.Prelude.{nat_eq, slice_get, ◌&&◌}
 use Rattle.std.specs.List.{list_all}
 use Rattle.std.specs.List.Sorted.{IsNonDecreasing}
@@ -31,9 +31,15 @@ pub record Given (starts : List ℕ) (bodies : List flat_body.Body) (forms : Lis
   pub forms_fit : LabelsFitEach (length starts) (trees_of forms)
   pub valid : list_all code_valid (normal_bodies starts 0 (map body bodies) (trees_of forms) starts) ≡ true
 
--- no more bodies and forms than numbers of 32 bits, said of a program
-pub few_bodies : (starts starts' : List ℕ) (bodies bodies' : List flat_body.Body) → starts' ≡ starts → bodies' ≡ bodies → length bodies' + length starts' ≤ 2 ^ 32
-    → length (map body bodies) + length starts ≤ 2 ^ 32
+-- the labels of procedures and forms are numbers of 32 bits
+pub few_labels : (p : Source) → in_order p ≡ true → length p.bodies + count p.forms < 2 ^ 32 - 2 ^ 10 → length p.bodies + length p.starts ≤ 2 ^ 32
+few_labels p ascends few =
+    let matched = eqb-true (length p.starts) (count p.forms) (and_left (nat_eq (length p.starts) (count p.forms)) (ascending 0 (length p.bodies) p.starts) ascends) in
+    omega (arith, few, matched)
+
+-- the same of the lists that the code has
+pub few_bodies : (starts starts' : List ℕ) (bodies bodies' : List flat_body.Body) → starts' ≡ starts → bodies' ≡ bodies → length (map body bodies) + length starts ≤ 2 ^ 32
+    → length bodies' + length starts' ≤ 2 ^ 32
 few_bodies starts starts' bodies bodies' s b h = let m = length-map bodies body in let l = ap length s in let k = ap length b in omega (arith, h, m, l, k)
 
 module _ (p : Source) (few : length p.bodies + length p.starts ≤ 2 ^ 32) where

@@ -1,7 +1,7 @@
 //! From flat closures to control: operands become simple, and a body says where its procedure returns.
 #![tactic(auto)]
 
-ghost use Rattle.std.specs.Prelude.{◌≡◌, ◌≤◌, ◌+◌, ◌^◌, length, IsTrue, IfOk, OnOk};
+ghost use Rattle.std.specs.Prelude.{◌≡◌, ◌<◌, ◌≤◌, ◌+◌, ◌-◌, ◌^◌, length, IsTrue, IfOk};
 ghost use Rattle.sch_word.specs.values.StaticsView.{statics};
 ghost use Rattle.sch_control.specs.Fits.{table_fits};
 ghost use Rattle.sch_control.specs.ProgramView as control;
@@ -10,6 +10,7 @@ ghost use Rattle.sch_control.specs.Work.{codes_work};
 ghost use Rattle.sch_flat.specs.Measures as measures;
 ghost use Rattle.sch_flat.specs.Measures.{weight};
 ghost use Rattle.sch_flat.specs.ProgramView.{source};
+ghost use Rattle.sch_flat.specs.Tree.{count};
 ghost use Rattle.sch_anf_laws.specs.Counted.{BindNoMore};
 ghost use Rattle.sch_anf_laws.specs.Kept.{SameCalls, StaysCovered};
 ghost use Rattle.sch_anf_laws.specs.Normal.{normal_source};
@@ -30,12 +31,9 @@ use crate::body::normalize_bodies;
 use crate::operands::new_labels;
 use crate::sites::bound_parts;
 use sch_control::ControlProgram;
-use sch_flat::{Body, FlatProgram};
+use sch_flat::FlatProgram;
 use sch_word::{List, Mem};
 use std::alloc::Global;
-
-/// The most procedures of a program, and the most forms.
-const MAX_BODIES: usize = 1 << 31;
 
 /// The program of the language Control: what is no simple operand is bound before, from left to right, and each
 /// call is bound, tested, in tail position or the last of a form. It does what `p` does.
@@ -43,9 +41,10 @@ const MAX_BODIES: usize = 1 << 31;
 /// `(f (g x) 1)` -> y is the value of `(g x)`, and then the tail call `(f y 1)`.
 ///
 /// It takes time in proportion to the size of `p`, where a label is looked for among the places of the forms by
-/// halves, and stack in proportion to the levels of `p`. More than 2^31 procedures or forms are answered as out of
-/// memory too.
+/// halves, and stack in proportion to the levels of `p`.
 pub fn normalize(alloc: Global, p: &FlatProgram) -> Result<ControlProgram, Mem>
+    // Each procedure and each form has a label.
+    requires few { length (source p.now).bodies + count (source p.now).forms < 2 ^ 32 - 2 ^ 10 }
     ensures made { IfOk result (λ q. control.source q ≡ normal_source (source p.now)) }
     // Under every order table that fits it, limits, answers of a kernel and number of entries it runs as `p` does,
     // and is never wrong.
@@ -69,23 +68,12 @@ pub fn normalize(alloc: Global, p: &FlatProgram) -> Result<ControlProgram, Mem>
     normal_program(alloc, p)
 }
 
-// Each label of procedures and forms is a number of 32 bits.
-fn check_labels(starts: &[u32], bodies: &[Body]) -> Result<(), Mem>
-    ensures { OnOk result (length bodies.now + length starts.now ≤ 2 ^ 32) }
-{
-    if bodies.len() <= MAX_BODIES && starts.len() <= MAX_BODIES {
-        Ok(())
-    } else {
-        Err(Mem)
-    }
-}
-
 fn normal_program(alloc: Global, p: &FlatProgram) -> Result<ControlProgram, Mem>
+    requires few { length (source p.now).bodies + count (source p.now).forms < 2 ^ 32 - 2 ^ 10 }
     ensures { IfOk result (λ q. control.source q ≡ normal_source (source p.now)) }
 {
     let starts = p.starts.as_slice();
     let flat_bodies = p.bodies.as_slice();
-    check_labels(starts, flat_bodies)?;
     let bodies = normalize_bodies(alloc, starts, flat_bodies, &p.forms)?;
     let library = new_labels(alloc, starts, p.library.as_slice())?;
     let bound = bound_parts(alloc, p)?;

@@ -1,16 +1,18 @@
 //! Which parts of a flat program are bound at each of its sites.
 
-ghost use Rattle.std.specs.Prelude.{◌≡◌, ◌+◌, ◌++◌, ℕ, [], List, map, replicate, slice_set, IfOk, OnOk};
+ghost use Rattle.std.specs.Prelude.{◌≡◌, ◌≤◌, ◌<◌, ◌+◌, ◌^◌, ◌++◌, ℕ, [], List, map, replicate, slice_set, IfOk, OnOk};
 ghost use Rattle.sch_word.specs.trees.Bindings.{numbers};
+ghost use Rattle.sch_word.specs.trees.Shape.{max_operands};
 ghost use Rattle.sch_flat.specs.ProgramView.{source};
 ghost use Rattle.sch_flat.specs.Tree.{and_tree, count, no_trees};
 ghost use Rattle.sch_flat.specs.View.{body, tree, trees_of};
 ghost use Rattle.sch_anf_laws.specs.Normal as normal;
+ghost use Rattle.sch_anf.specs.FewParts.{BodiesHaveFewParts, HasFewParts, HaveFewParts};
 ghost use Rattle.sch_anf.specs.Placed.{placed, placed_bodies, placed_each};
 
 use crate::simple::is_simple;
 use sch_flat::{Body, Exp, FlatProgram};
-use sch_word::{List, Mem, add_numbers};
+use sch_word::{List, Mem};
 use std::alloc::Global;
 
 // Sets what is bound at a site, if there is one of that number.
@@ -32,30 +34,23 @@ fn add_place(place: u32, e: &Exp, all: &mut List<u32>) -> Result<(), Mem>
     all.push(place)
 }
 
-// A place as a number of 32 bits, if it is one; else it is out of memory.
-fn place_number(place: usize) -> Result<u32, Mem>
-    ensures { IfOk result (λ n. n ≡ place) }
-{
-    match u32::try_from(place) {
-        Ok(number) => Ok(number),
-        Err(_) => Err(Mem),
-    }
-}
-
 // Adds the places of the parts that are not simple, from one on.
+#[tactic(auto, using(sch_flat::proofs::Rows::count_is))]
 fn add_places(first: u32, es: &List<Exp>, all: &mut List<u32>) -> Result<(), Mem>
+    requires few { first + count (trees_of es.now) < 2 ^ 32 }
     ensures { OnOk result ((last : List ℕ) → all.new ++ last ≡ all.old ++ normal.bound_places first (trees_of es.now) last) }
 {
     let mut place = first;
     for e in es.as_slice() {
         add_place(place, e, all)?;
-        place = add_numbers(place, 1)?;
+        place += 1;
     }
     Ok(())
 }
 
 // The parts of an operation that are bound.
 fn operation_places(alloc: Global, es: &List<Exp>) -> Result<List<u32>, Mem>
+    requires few { count (trees_of es.now) ≤ max_operands }
     ensures { IfOk result (λ all. all ≡ normal.bound_places 0 (trees_of es.now) []) }
 {
     let mut all = List::new(alloc);
@@ -65,6 +60,7 @@ fn operation_places(alloc: Global, es: &List<Exp>) -> Result<List<u32>, Mem>
 
 // The parts of a call that are bound. The operator is the last.
 fn call_places(alloc: Global, f: &Exp, es: &List<Exp>) -> Result<List<u32>, Mem>
+    requires few { count (trees_of es.now) ≤ max_operands }
     ensures { IfOk result (λ all. all ≡ normal.bound_places 1 (trees_of es.now) (normal.operator_place (tree f.now))) }
 {
     let mut all = List::new(alloc);
@@ -74,12 +70,14 @@ fn call_places(alloc: Global, f: &Exp, es: &List<Exp>) -> Result<List<u32>, Mem>
 }
 
 // All parts of a binding.
+#[tactic(auto, using(sch_flat::proofs::Rows::count_is))]
 fn init_places(alloc: Global, es: &List<Exp>) -> Result<List<u32>, Mem>
+    requires few { count (trees_of es.now) ≤ max_operands }
     ensures { IfOk result (λ all. all ≡ numbers 0 (count (trees_of es.now))) }
 {
     let mut all = List::from_vec(Vec::with_capacity(alloc, es.len())?);
     for place in 0..es.len() {
-        all.push(place_number(place)?)?;
+        all.push(place as u32)?;
     }
     Ok(all)
 }
@@ -87,6 +85,7 @@ fn init_places(alloc: Global, es: &List<Exp>) -> Result<List<u32>, Mem>
 // Records which parts of an expression are bound at each of its sites.
 #[cycle(placing)]
 fn place_expression(alloc: Global, e: &Exp, bound: &mut Vec<List<u32>>) -> Result<(), Mem>
+    requires few { HasFewParts (tree e.now) }
     ensures { OnOk result (bound.new.items ≡ placed (tree e.now) bound.old.items) }
 {
     match e {
@@ -137,6 +136,7 @@ fn place_expression(alloc: Global, e: &Exp, bound: &mut Vec<List<u32>>) -> Resul
 // The same for each of some expressions, from the last to the first.
 #[cycle(placing)]
 fn place_each(alloc: Global, es: &List<Exp>, bound: &mut Vec<List<u32>>) -> Result<(), Mem>
+    requires few { HaveFewParts (trees_of es.now) }
     ensures { OnOk result (bound.new.items ≡ placed_each (trees_of es.now) bound.old.items) }
 {
     let items = es.as_slice();
@@ -161,6 +161,7 @@ fn nothing_bound(alloc: Global, sites: usize) -> Result<Vec<List<u32>>, Mem>
 
 // The same for each of some bodies.
 fn place_bodies(alloc: Global, bodies: &[Body], bound: &mut Vec<List<u32>>) -> Result<(), Mem>
+    requires few { BodiesHaveFewParts (map body bodies.now) }
     ensures { OnOk result (bound.new.items ≡ placed_bodies (map body bodies.now) bound.old.items) }
 {
     let mut left = bodies.len();
@@ -171,8 +172,7 @@ fn place_bodies(alloc: Global, bodies: &[Body], bound: &mut Vec<List<u32>>) -> R
     Ok(())
 }
 
-/// The numbers of the parts that are bound at each site of `p`, in the order in which they are bound. A site of
-/// 2^32 - 1 parts or more is answered as out of memory.
+/// The numbers of the parts that are bound at each site of `p`, in the order in which they are bound.
 pub fn bound_parts(alloc: Global, p: &FlatProgram) -> Result<List<List<u32>>, Mem>
     ensures { IfOk result (λ bound. bound ≡ normal.bound_parts (source p.now)) }
 {

@@ -135,6 +135,7 @@ module _ (setting : Setting) where
 
   jump_performs : (x : View) (i : Insn) (next to : ℕ) → GoesTo i next to → perform i next (full setting x) ≡ Runs (full setting (record x { place = to }))
   jump_performs x (insn.Jump d) next to g = ap (λ p. Runs (full setting (record x { place = p }))) g
+  jump_performs x (insn.Jump8 d) next to g = ap (λ p. Runs (full setting (record x { place = p }))) g
   jump_performs x _ next to g = absurd g
 
   pub jumps : (x : View) (l : ℕ) (is : List Item) (waiting : List MarkKind) → Stands setting waiting x.place (Jump l ∷ is) → Leads setting 1 1 waiting x (record x { place = place_of l })
@@ -142,6 +143,9 @@ module _ (setting : Setting) where
 
   branch_performs : (x : View) (c : ℕ) (i : Insn) (next to : ℕ) (taken : Bool) → BranchesTo c i next to → condition x.flags c ≡ Some taken → perform i next (full setting x) ≡ Runs (full setting (record x { place = cond taken to next }))
   branch_performs x c (insn.JumpIf n d) next to taken g e =
+      ap (λ o. moved (full setting x) (jump_if (with_place next (full setting x).core) d o)) (sym (ap (condition x.flags) g.0) ∙ e)
+      ∙ ap (λ p. Runs (full setting (record x { place = cond taken p next }))) g.1
+  branch_performs x c (insn.JumpIf8 n d) next to taken g e =
       ap (λ o. moved (full setting x) (jump_if (with_place next (full setting x).core) d o)) (sym (ap (condition x.flags) g.0) ∙ e)
       ∙ ap (λ p. Runs (full setting (record x { place = cond taken p next }))) g.1
   branch_performs x c _ next to taken g e = absurd g

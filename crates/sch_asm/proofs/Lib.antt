@@ -1,5 +1,7 @@
 pub mod Tables
+pub mod Skeleton
 pub mod Emitted
+pub mod FormsOf
 pub mod Standing
 pub mod Words
 pub mod Beside

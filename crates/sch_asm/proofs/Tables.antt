@@ -5,9 +5,9 @@ use Rattle.std.specs.List.{AllByRecursion}
 use Rattle.std.proofs.lemmas.Bool.{eqb-true, eqb-false, cases_Bool, cases_lt, or_parts}
 use Rattle.std.proofs.lemmas.Bool.Decides.{nat_tests}
 use Rattle.std.proofs.lemmas.Grind.{common_steps}
-use Rattle.std.proofs.lemmas.List.{get_or-set_same, get_or-set_other}
+use Rattle.std.proofs.lemmas.List.{map-append}
 use Rattle.std.proofs.lemmas.List.Elements.{recursion_from_All}
-use Rattle.std.proofs.Math.ListN.{length-set, get_or-eq_default}
+use Rattle.std.proofs.Math.ListN.{get_or-eq_default}
 use Rattle.sch_insn.proofs.PrefixCode.{spelling_short}
 use Rattle.sch_word.specs.declared.stop.Stop.TheVariants.{WrongType, OutOfRange, NotProcedure, WrongCount, DivideByZero, Overflow, HeapLimit, DepthLimit, Unset, OutputFailed}
 use Rattle.sch_asm.specs.declared.assembly.Word.{Word}
@@ -19,7 +19,12 @@ use Rattle.sch_asm.specs.declared.routine.Routine.TheVariants.{End, Stop, Put, P
 use Rattle.sch_asm.specs.Routines.{label_of}
 use Rattle.sch_asm.specs.Items.{AreItems, AreKnown, AreOwn, IsEachOnce, is_among, is_routine, labels_in, uses_in, word_uses}
 use Rattle.sch_asm.specs.Codes.{item_size, text_size}
-use Rattle.sch_asm.specs.Layout.{raised, label_bound, entered, placed_from, StandsAt, StandAt, StandsBelow, StandBelow, UseBelow, WordsBelow}
+use Rattle.sch_jumps.specs.declared.piece.Piece.{Piece}
+use Rattle.sch_jumps.specs.declared.piece.Piece.TheVariants as piece
+use Rattle.sch_jumps.specs.Places.{Absent, Once}
+use Rattle.sch_jumps.specs.Spans.{LabelsBelow}
+use Rattle.sch_asm.specs.Layout.{StandsBelow, StandBelow, UseBelow, WordsBelow}
+use Rattle.sch_asm.specs.Pieces.{piece_of, skeleton}
 
 -- ---- sizes
 
@@ -41,29 +46,7 @@ pub size_bound : (is : List Item) → text_size is ≤ 15 * length is
 size_bound [] = omega arith
 size_bound (i ∷ is) = let h = size_small i in let k = size_bound is in omega arith
 
--- ---- how many labels a table has room for
-
-raised_up : (b : ℕ) (i : Item) → b ≤ raised b i
-raised_up b (Label l) = omega arith
-raised_up b (Plain i) = omega arith
-raised_up b (Jump l) = omega arith
-raised_up b (JumpIf c l) = omega arith
-raised_up b (LoadLabel r l) = omega arith
-raised_up b (LoadWord r a) = omega arith
-raised_up b (StoreWord a r) = omega arith
-raised_up b (Mark m) = omega arith
-
-pub bound_up : (is : List Item) (b : ℕ) → b ≤ label_bound b is
-bound_up [] b = omega arith
-bound_up (i ∷ is) b = let h = raised_up b i in let k = bound_up is (raised b i) in omega (arith, h, k)
-
-stands_by : (i : Item) (b n : ℕ) → raised b i ≤ n → StandsBelow n i
-stands_by (Label l) b n le = omega arith
-stands_by _ b n le = tt
-
-pub stand_below : (is : List Item) (b n : ℕ) → label_bound b is ≤ n → StandBelow n is
-stand_below [] b n le = tt
-stand_below (i ∷ is) b n le = (stands_by i b n (let k = bound_up is (raised b i) in omega (arith, k, le)), stand_below is (raised b i) n le)
+-- ---- labels that stand
 
 among_by : (m l n : ℕ) (ms : List ℕ) (t : Bool) → (m == l) ≡ t → m < n → (IsTrue (is_among ms l) → l < n) → IsTrue (t || is_among ms l) → l < n
 among_by m l n ms true t lt h e = let same = eqb-true m l t in subst (λ k. k < n) same lt
@@ -154,45 +137,18 @@ pub sound_append : (xs ys : List Item) → AreItems xs → AreItems ys → AreIt
 sound_append [] ys h k = k
 sound_append (x ∷ xs) ys h k = (h.0, sound_append xs ys h.1 k)
 
-pub stand_append : (xs ys : List Item) (n : ℕ) → StandBelow n xs → StandBelow n ys → StandBelow n (xs ++ ys)
-stand_append [] ys n h k = k
-stand_append (x ∷ xs) ys n h k = (h.0, stand_append xs ys n h.1 k)
-
-pub placed_append : (a : ℕ) (xs ys : List Item) (t : List ℕ) → placed_from a (xs ++ ys) t ≡ placed_from (a + text_size xs) ys (placed_from a xs t)
-placed_append a [] ys t = let e : a + 0 ≡ a = omega arith in ap (λ b. placed_from b ys t) (sym e)
-placed_append a (x ∷ xs) ys t =
-    let e : a + item_size x + text_size xs ≡ a + text_size (x ∷ xs) = omega arith in
-    placed_append (a + item_size x) xs ys (entered x a t) ∙ ap (λ b. placed_from b ys (placed_from (a + item_size x) xs (entered x a t))) e
-
 -- ---- the places of labels
 
-abbrev IsNot : ℕ → Item → Type 0
-IsNot l (Label m) = l ≢ m
-IsNot l _ = Unit {0}
-
-abbrev Absent : ℕ → List Item → Type 0
-Absent l [] = Unit {0}
-Absent l (i ∷ is) = IsNot l i × Absent l is
-
--- no label stands twice
-abbrev Once : Item → List Item → Type 0
-Once (Label l) is = Absent l is
-Once _ is = Unit {0}
-
-abbrev pub Apart : List Item → Type 0
-Apart [] = Unit {0}
-Apart (i ∷ is) = Once i is × Apart is
-
-absent_by : (l : ℕ) (is : List Item) → AllByRecursion (λ m. l ≢ m) (labels_in is) → Absent l is
-absent_by l [] h = tt
-absent_by l (Label m ∷ is) h = (h.0, absent_by l is h.1)
-absent_by l (Plain i ∷ is) h = (tt, absent_by l is h)
-absent_by l (Jump m ∷ is) h = (tt, absent_by l is h)
-absent_by l (JumpIf c m ∷ is) h = (tt, absent_by l is h)
-absent_by l (LoadLabel r m ∷ is) h = (tt, absent_by l is h)
-absent_by l (LoadWord r a ∷ is) h = (tt, absent_by l is h)
-absent_by l (StoreWord a r ∷ is) h = (tt, absent_by l is h)
-absent_by l (Mark m ∷ is) h = (tt, absent_by l is h)
+absent_items : (l : ℕ) (is : List Item) → AllByRecursion (λ m. l ≢ m) (labels_in is) → Absent l (skeleton is)
+absent_items l [] h = tt
+absent_items l (Label m ∷ is) h = (h.0, absent_items l is h.1)
+absent_items l (Plain i ∷ is) h = absent_items l is h
+absent_items l (Jump m ∷ is) h = absent_items l is h
+absent_items l (JumpIf c m ∷ is) h = absent_items l is h
+absent_items l (LoadLabel r m ∷ is) h = absent_items l is h
+absent_items l (LoadWord r a ∷ is) h = absent_items l is h
+absent_items l (StoreWord a r ∷ is) h = absent_items l is h
+absent_items l (Mark m ∷ is) h = absent_items l is h
 
 pairs_head : (l : ℕ) (ls : List ℕ) → AllPairs (λ a b. a ≢ b) (l ∷ ls) → All (λ m. l ≢ m) ls
 pairs_head l ls h k d lt = h 0 (suc k) d (omega arith) (omega arith)
@@ -200,43 +156,69 @@ pairs_head l ls h k d lt = h 0 (suc k) d (omega arith) (omega arith)
 pairs_tail : (l : ℕ) (ls : List ℕ) → AllPairs (λ a b. a ≢ b) (l ∷ ls) → AllPairs (λ a b. a ≢ b) ls
 pairs_tail l ls h i j d lt within = h (suc i) (suc j) d (omega arith) (omega arith)
 
-pub apart_by : (is : List Item) → IsEachOnce (labels_in is) → Apart is
-apart_by [] h = tt
-apart_by (Label m ∷ is) h = (absent_by m is (recursion_from_All _ (labels_in is) (pairs_head m (labels_in is) h)), apart_by is (pairs_tail m (labels_in is) h))
-apart_by (Plain i ∷ is) h = (tt, apart_by is h)
-apart_by (Jump m ∷ is) h = (tt, apart_by is h)
-apart_by (JumpIf c m ∷ is) h = (tt, apart_by is h)
-apart_by (LoadLabel r m ∷ is) h = (tt, apart_by is h)
-apart_by (LoadWord r a ∷ is) h = (tt, apart_by is h)
-apart_by (StoreWord a r ∷ is) h = (tt, apart_by is h)
-apart_by (Mark m ∷ is) h = (tt, apart_by is h)
+once_by : (is : List Item) → IsEachOnce (labels_in is) → Once (skeleton is)
+once_by [] h = tt
+once_by (Label m ∷ is) h = (absent_items m is (recursion_from_All _ (labels_in is) (pairs_head m (labels_in is) h)), once_by is (pairs_tail m (labels_in is) h))
+once_by (Plain i ∷ is) h = once_by is h
+once_by (Jump m ∷ is) h = once_by is h
+once_by (JumpIf c m ∷ is) h = once_by is h
+once_by (LoadLabel r m ∷ is) h = once_by is h
+once_by (LoadWord r a ∷ is) h = once_by is h
+once_by (StoreWord a r ∷ is) h = once_by is h
+once_by (Mark m ∷ is) h = once_by is h
 
-absent_append : (l : ℕ) (xs ys : List Item) → Absent l xs → Absent l ys → Absent l (xs ++ ys)
-absent_append l [] ys h k = k
-absent_append l (x ∷ xs) ys h k = (h.0, absent_append l xs ys h.1 k)
+absent_append : (l : ℕ) (ps qs : List Piece) → Absent l ps → Absent l qs → Absent l (ps ++ qs)
+absent_append l [] qs h k = k
+absent_append l (piece.Bytes n ∷ ps) qs h k = absent_append l ps qs h k
+absent_append l (piece.Label m ∷ ps) qs h k = (h.0, absent_append l ps qs h.1 k)
+absent_append l (piece.Jump n m ∷ ps) qs h k = absent_append l ps qs h k
 
-absent_above : (l : ℕ) (is : List Item) → StandBelow 1024 is → 1024 ≤ l → Absent l is
+absent_above : (l : ℕ) (is : List Item) → StandBelow 1024 is → 1024 ≤ l → Absent l (skeleton is)
 absent_above l [] h le = tt
 absent_above l (Label m ∷ is) h le = (λ e. omega (arith, h.0, le, e), absent_above l is h.1 le)
-absent_above l (Plain i ∷ is) h le = (tt, absent_above l is h.1 le)
-absent_above l (Jump m ∷ is) h le = (tt, absent_above l is h.1 le)
-absent_above l (JumpIf c m ∷ is) h le = (tt, absent_above l is h.1 le)
-absent_above l (LoadLabel r m ∷ is) h le = (tt, absent_above l is h.1 le)
-absent_above l (LoadWord r a ∷ is) h le = (tt, absent_above l is h.1 le)
-absent_above l (StoreWord a r ∷ is) h le = (tt, absent_above l is h.1 le)
-absent_above l (Mark m ∷ is) h le = (tt, absent_above l is h.1 le)
+absent_above l (Plain i ∷ is) h le = absent_above l is h.1 le
+absent_above l (Jump m ∷ is) h le = absent_above l is h.1 le
+absent_above l (JumpIf c m ∷ is) h le = absent_above l is h.1 le
+absent_above l (LoadLabel r m ∷ is) h le = absent_above l is h.1 le
+absent_above l (LoadWord r a ∷ is) h le = absent_above l is h.1 le
+absent_above l (StoreWord a r ∷ is) h le = absent_above l is h.1 le
+absent_above l (Mark m ∷ is) h le = absent_above l is h.1 le
 
 -- a program's own labels are none of the routines'
-pub apart_append : (xs ys : List Item) → Apart xs → Apart ys → AllByRecursion (λ l. 1024 ≤ l) (labels_in xs) → StandBelow 1024 ys → Apart (xs ++ ys)
-apart_append [] ys h k own low = k
-apart_append (Label m ∷ xs) ys h k own low = (absent_append m xs ys h.0 (absent_above m ys low own.0), apart_append xs ys h.1 k own.1 low)
-apart_append (Plain i ∷ xs) ys h k own low = (tt, apart_append xs ys h.1 k own low)
-apart_append (Jump m ∷ xs) ys h k own low = (tt, apart_append xs ys h.1 k own low)
-apart_append (JumpIf c m ∷ xs) ys h k own low = (tt, apart_append xs ys h.1 k own low)
-apart_append (LoadLabel r m ∷ xs) ys h k own low = (tt, apart_append xs ys h.1 k own low)
-apart_append (LoadWord r a ∷ xs) ys h k own low = (tt, apart_append xs ys h.1 k own low)
-apart_append (StoreWord a r ∷ xs) ys h k own low = (tt, apart_append xs ys h.1 k own low)
-apart_append (Mark m ∷ xs) ys h k own low = (tt, apart_append xs ys h.1 k own low)
+once_append : (xs ys : List Item) → Once (skeleton xs) → Once (skeleton ys) → AllByRecursion (λ l. 1024 ≤ l) (labels_in xs) → StandBelow 1024 ys → Once (skeleton xs ++ skeleton ys)
+once_append [] ys h k own low = k
+once_append (Label m ∷ xs) ys h k own low = (absent_append m (skeleton xs) (skeleton ys) h.0 (absent_above m ys low own.0), once_append xs ys h.1 k own.1 low)
+once_append (Plain i ∷ xs) ys h k own low = once_append xs ys h k own low
+once_append (Jump m ∷ xs) ys h k own low = once_append xs ys h k own low
+once_append (JumpIf c m ∷ xs) ys h k own low = once_append xs ys h k own low
+once_append (LoadLabel r m ∷ xs) ys h k own low = once_append xs ys h k own low
+once_append (LoadWord r a ∷ xs) ys h k own low = once_append xs ys h k own low
+once_append (StoreWord a r ∷ xs) ys h k own low = once_append xs ys h k own low
+once_append (Mark m ∷ xs) ys h k own low = once_append xs ys h k own low
+
+-- No label stands twice in the items of a program and of routines.
+pub once_in_both : (xs ys : List Item) → IsEachOnce (labels_in xs) → IsEachOnce (labels_in ys) → AllByRecursion (λ l. 1024 ≤ l) (labels_in xs) → StandBelow 1024 ys → Once (skeleton (xs ++ ys))
+once_in_both xs ys once once' own low = subst Once (sym (map-append piece_of xs ys)) (once_append xs ys (once_by xs once) (once_by ys once') own low)
+
+-- A table that has room for all pieces has room for each label that stands.
+pub stand_below : (is : List Item) (n : ℕ) → LabelsBelow n (skeleton is) → StandBelow n is
+stand_below [] n h = tt
+stand_below (Label m ∷ is) n h = (h.0, stand_below is n h.1)
+stand_below (Plain i ∷ is) n h = (tt, stand_below is n h.1)
+stand_below (Jump m ∷ is) n h = (tt, stand_below is n h.1)
+stand_below (JumpIf c m ∷ is) n h = (tt, stand_below is n h.1)
+stand_below (LoadLabel r m ∷ is) n h = (tt, stand_below is n h.1)
+stand_below (LoadWord r a ∷ is) n h = (tt, stand_below is n h.1)
+stand_below (StoreWord a r ∷ is) n h = (tt, stand_below is n h.1)
+stand_below (Mark m ∷ is) n h = (tt, stand_below is n h.1)
+
+pub stand_front : (xs ys : List Item) (n : ℕ) → StandBelow n (xs ++ ys) → StandBelow n xs
+stand_front [] ys n h = tt
+stand_front (x ∷ xs) ys n h = (h.0, stand_front xs ys n h.1)
+
+pub stand_back : (xs ys : List Item) (n : ℕ) → StandBelow n (xs ++ ys) → StandBelow n ys
+stand_back [] ys n h = h
+stand_back (x ∷ xs) ys n h = stand_back xs ys n h.1
 
 stand_by : (is : List Item) (n : ℕ) → AllByRecursion (λ l. l < n) (labels_in is) → StandBelow n is
 stand_by [] n h = tt
@@ -251,60 +233,14 @@ stand_by (Mark m ∷ is) n h = (tt, stand_by is n h)
 
 -- ---- tables
 
-entered_length : (i : Item) (k : ℕ) (t : List ℕ) → length (entered i k t) ≡ length t
-entered_length (Label l) k t = length-set t l k
-entered_length _ k t = refl
-
-pub placed_length : (a : ℕ) (is : List Item) (t : List ℕ) → length (placed_from a is t) ≡ length t
-placed_length a [] t = refl
-placed_length a (i ∷ is) t = placed_length (a + item_size i) is (entered i a t) ∙ entered_length i a t
-
-entered_kept : (l : ℕ) (i : Item) (k : ℕ) (t : List ℕ) → IsNot l i → slice_index (entered i k t) l ≡ slice_index t l
-entered_kept l (Label m) k t u = get_or-set_other t m l k 0 u
-entered_kept l _ k t u = refl
-
-kept : (a : ℕ) (is : List Item) (t : List ℕ) (l : ℕ) → Absent l is → slice_index (placed_from a is t) l ≡ slice_index t l
-kept a [] t l u = refl
-kept a (i ∷ is) t l u = kept (a + item_size i) is (entered i a t) l u.1 ∙ entered_kept l i a t u.0
-
-own : (i : Item) (is : List Item) (a b : ℕ) (t : List ℕ) → Once i is → StandsBelow (length t) i → StandsAt (placed_from b is (entered i a t)) a i
-own (Label l) is a b t u v = kept b is (slice_set t l a) l u ∙ get_or-set_same t l a 0 v
-own _ is a b t u v = tt
-
-pub stand_at : (is : List Item) (a : ℕ) (t : List ℕ) → Apart is → StandBelow (length t) is → StandAt (placed_from a is t) a is
-stand_at [] a t u v = tt
-stand_at (i ∷ is) a t u v = (
-  own i is a (a + item_size i) t u.0 v.0,
-  stand_at is (a + item_size i) (entered i a t) u.1 (subst (λ n. StandBelow n is) (sym (entered_length i a t)) v.1),
-)
-
 -- each number is below a bound
 abbrev pub Below : ℕ → List ℕ → Type 0
 Below n t = (k : ℕ) → k < length t → slice_index t k < n
-
-below_set : (t : List ℕ) (l k n : ℕ) → k < n → Below n t → Below n (slice_set t l k)
-below_set t l k n lt h j within =
-    let size = length-set t l k in
-    ⊎_elim
-    (λ e. subst (λ x. x < n) (sym (ap (slice_index (slice_set t l k)) (eqb-true j l e) ∙ get_or-set_same t l k 0 (let q = eqb-true j l e in omega arith))) lt)
-    (λ e. subst (λ x. x < n) (sym (get_or-set_other t l j k 0 (λ q. eqb-false j l e q))) (h j (omega arith)))
-    (cases_Bool (j == l))
-
-below_entered : (i : Item) (k n : ℕ) (t : List ℕ) → k < n → Below n t → Below n (entered i k t)
-below_entered (Label l) k n t lt h = below_set t l k n lt h
-below_entered _ k n t lt h = h
-
-pub below_placed : (is : List Item) (a n : ℕ) (t : List ℕ) → a + text_size is < n → Below n t → Below n (placed_from a is t)
-below_placed [] a n t lt h = h
-below_placed (i ∷ is) a n t lt h = below_placed is (a + item_size i) n (entered i a t) (omega (arith, lt)) (below_entered i a n t (omega (arith, lt)) h)
 
 -- also behind the table
 pub below_anywhere : (t : List ℕ) (n : ℕ) → 0 < n → Below n t → (k : ℕ) → slice_index t k < n
 below_anywhere t n some h k =
     ⊎_elim (λ lt. h k lt) (λ le. subst (λ x. x < n) (sym (get_or-eq_default t 0 le)) some) (cases_lt k (length t))
-
-pub below_zeros : (c n : ℕ) → 0 < n → Below n (replicate c 0)
-below_zeros c n some k h = grind (arith, common_steps)
 
 -- ---- all labels that are used have a place in the table
 

@@ -47,7 +47,7 @@ pub record AreResolved (items : List Item) (data_words : List Word) (code : List
   pub codes : Codes place_of text_address items code marks
   pub bytes : words ≡ flat_map (bytes_of place_of) data_words
 
--- ---- how long a text is: jumps have their long forms
+-- ---- how long a text is at most: where all jumps have their long forms
 
 abbrev pub item_size : Item → ℕ
 item_size (Label l) = 0

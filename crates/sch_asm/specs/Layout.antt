@@ -1,5 +1,5 @@
--- The table of a text: the address of each label. Items stand one behind the other from an address on.
-use Rattle.std.specs.Prelude.{◌≡◌, ℕ, ◌+◌, ◌<◌, List, [], ◌∷◌, ◌++◌, length, max, slice_set, slice_index, Option, Some, None, ℤ, pos, ◌-ℤ◌}
+-- Where the items of a text stand, one behind the other from an address on, and what is put out of them.
+use Rattle.std.specs.Prelude.{◌≡◌, ℕ, ◌+◌, ◌<◌, List, [], ◌∷◌, ◌++◌, length, slice_index, Option, Some, None, Bool, true, false, cond, ℤ, pos, ◌-ℤ◌}
 use Rattle.sch_word.specs.runs.ProgramLayout.{text_address}
 use Rattle.sch_insn.specs.declared.insn.Arg.TheVariants.{Rip}
 use Rattle.sch_insn.specs.declared.insn.Insn.{Insn}
@@ -10,37 +10,14 @@ use Rattle.sch_asm.specs.declared.assembly.Word.TheVariants.{Fixed, Address}
 use Rattle.sch_asm.specs.declared.item.Item.{Item}
 use Rattle.sch_asm.specs.declared.item.Item.TheVariants.{Label, Plain, Jump, JumpIf, LoadLabel, LoadWord, StoreWord, Mark}
 use Rattle.sch_asm.specs.declared.item.Mark as mark
+use Rattle.sch_jumps.specs.Sizes.{Set, is_near, jump_count}
+use Rattle.sch_jumps.specs.Least.{AllReach, IsLeast}
+use Rattle.sch_jumps.specs.Places.{Own}
+use Rattle.sch_jumps.specs.Spans.{set_of}
 use Rattle.sch_asm.specs.Codes.{item_size}
+use Rattle.sch_asm.specs.Pieces.{skeleton}
 
 -- ---- labels
-
--- One more than the greatest label that stands, at least `bound`.
-abbrev pub raised : ℕ → Item → ℕ
-raised bound (Label l) = max bound (l + 1)
-raised bound _ = bound
-
-abbrev pub label_bound : ℕ → List Item → ℕ
-label_bound bound [] = bound
-label_bound bound (i ∷ is) = label_bound (raised bound i) is
-
--- A table of labels with the address of an item, if that is a label.
-abbrev pub entered : Item → ℕ → List ℕ → List ℕ
-entered (Label l) a places = slice_set places l a
-entered _ a places = places
-
--- The same with items from an address on.
-abbrev pub placed_from : ℕ → List Item → List ℕ → List ℕ
-placed_from a [] places = places
-placed_from a (i ∷ is) places = placed_from (a + item_size i) is (entered i a places)
-
--- Each label that stands has the address of its item in a table.
-abbrev pub StandsAt : List ℕ → ℕ → Item → Type 0
-StandsAt places a (Label l) = slice_index places l ≡ a
-StandsAt places a _ = Unit {0}
-
-abbrev pub StandAt : List ℕ → ℕ → List Item → Type 0
-StandAt places a [] = Unit {0}
-StandAt places a (i ∷ is) = StandsAt places a i × StandAt places (a + item_size i) is
 
 -- The labels that stand are below n.
 abbrev pub StandsBelow : ℕ → Item → Type 0
@@ -85,33 +62,77 @@ abbrev pub option_list : {A : Type 0} → Option A → List A
 option_list None = []
 option_list (Some x) = x ∷ []
 
+-- A jump, in its long or its short form.
+abbrev pub jump_of : Bool → ℤ → Insn
+jump_of true d = insn.Jump d
+jump_of false d = insn.Jump8 d
+
+abbrev pub branch_of : Bool → ℕ → ℤ → Insn
+branch_of true c d = insn.JumpIf c d
+branch_of false c d = insn.JumpIf8 c d
+
+-- How many jumps an item is, and how many bytes it has where they are long or not.
+abbrev pub jumps_of : Item → ℕ
+jumps_of (Jump l) = 1
+jumps_of (JumpIf c l) = 1
+jumps_of _ = 0
+
+abbrev pub size_of : Bool → Item → ℕ
+size_of long (Jump l) = cond long 5 2
+size_of long (JumpIf c l) = cond long 6 2
+size_of long i = item_size i
+
 -- The instruction of an item that ends before the address `next`.
-abbrev pub insns_of : (ℕ → ℕ) → ℕ → Item → List Insn
-insns_of place next (Label l) = []
-insns_of place next (Plain i) = i ∷ []
-insns_of place next (Jump l) = insn.Jump (displacement next (place l)) ∷ []
-insns_of place next (JumpIf c l) = insn.JumpIf c (displacement next (place l)) ∷ []
-insns_of place next (LoadLabel r l) = insn.Lea r (Rip (displacement next (place l))) ∷ []
-insns_of place next (LoadWord r a) = insn.MovFrom r (Rip (displacement next a)) ∷ []
-insns_of place next (StoreWord a r) = insn.MovTo (Rip (displacement next a)) r ∷ []
-insns_of place next (Mark m) = []
+abbrev pub insns_of : (ℕ → ℕ) → Bool → ℕ → Item → List Insn
+insns_of place long next (Label l) = []
+insns_of place long next (Plain i) = i ∷ []
+insns_of place long next (Jump l) = jump_of long (displacement next (place l)) ∷ []
+insns_of place long next (JumpIf c l) = branch_of long c (displacement next (place l)) ∷ []
+insns_of place long next (LoadLabel r l) = insn.Lea r (Rip (displacement next (place l))) ∷ []
+insns_of place long next (LoadWord r a) = insn.MovFrom r (Rip (displacement next a)) ∷ []
+insns_of place long next (StoreWord a r) = insn.MovTo (Rip (displacement next a)) r ∷ []
+insns_of place long next (Mark m) = []
 
 abbrev pub marks_of : ℕ → Item → List mark.Mark
 marks_of a (Mark m) = record { address = a; kind = m } ∷ []
 marks_of a _ = []
 
--- Items from an address on, where `place` has the address of each label.
-abbrev pub emitted_from : (ℕ → ℕ) → ℕ → List Item → List Insn
-emitted_from place a [] = []
-emitted_from place a (i ∷ is) = insns_of place (a + item_size i) i ++ emitted_from place (a + item_size i) is
+-- A short jump that stands at an address reaches its label.
+abbrev pub Reaches : (ℕ → ℕ) → Bool → ℕ → Item → Type 0
+Reaches place long a (Jump l) = long ≡ false → is_near (a + 2) (place l) ≡ true
+Reaches place long a (JumpIf c l) = long ≡ false → is_near (a + 2) (place l) ≡ true
+Reaches place long a _ = Unit {0}
 
-abbrev pub marked_from : ℕ → List Item → List mark.Mark
-marked_from a [] = []
-marked_from a (i ∷ is) = marks_of a i ++ marked_from (a + item_size i) is
+-- Items that stand from an address on, k jumps before them, where `place` has the address of each label and `long` says
+-- of each jump whether it is long.
+module _ (place : ℕ → ℕ) (long : Set) where
+  abbrev pub emitted_from : (k a : ℕ) → List Item → List Insn
+  emitted_from k a [] = []
+  emitted_from k a (i ∷ is) = insns_of place (long k) (a + size_of (long k) i) i ++ emitted_from (k + jumps_of i) (a + size_of (long k) i) is
 
--- The table is that of items and words: each label that stands has the address of its item, and each label that is used
--- has a place in the table.
-pub record IsLaidOut (items : List Item) (words : List Word) (places : List ℕ) : Type 0 where
-  pub standing : StandAt places text_address items
+  abbrev pub ReachFrom : (k a : ℕ) → List Item → Type 0
+  ReachFrom k a [] = Unit {0}
+  ReachFrom k a (i ∷ is) = Reaches place (long k) a i × ReachFrom (k + jumps_of i) (a + size_of (long k) i) is
+
+module _ (long : Set) where
+  abbrev pub marked_from : (k a : ℕ) → List Item → List mark.Mark
+  marked_from k a [] = []
+  marked_from k a (i ∷ is) = marks_of a i ++ marked_from (k + jumps_of i) (a + size_of (long k) i) is
+
+  abbrev pub size_from : (k : ℕ) → List Item → ℕ
+  size_from k [] = 0
+  size_from k (i ∷ is) = size_of (long k) i + size_from (k + jumps_of i) is
+
+abbrev pub jumps_in : List Item → ℕ
+jumps_in [] = 0
+jumps_in (i ∷ is) = jumps_of i + jumps_in is
+
+-- The table is that of items and words: each label that stands has the address of its item, each short jump reaches its
+-- label, and each label that is used has a place in the table.
+pub record IsLaidOut (items : List Item) (words : List Word) (places : List ℕ) (longs : List Bool) : Type 0 where
+  pub least : IsLeast (skeleton items) (set_of longs)
+  pub each : length longs ≡ jump_count (skeleton items)
+  pub standing : Own (set_of longs) (slice_index places) 0 text_address (skeleton items)
+  pub reach : AllReach (set_of longs) (slice_index places) 0 text_address (skeleton items)
   pub uses : UseBelow (length places) items
   pub words_use : WordsBelow (length places) words

@@ -1,6 +1,8 @@
 pub mod Items
 pub mod Stands
 pub mod Codes
+pub mod Pieces
+pub mod Forms
 pub mod Layout
 pub mod Data
 pub mod Views

@@ -20,10 +20,12 @@ marks_at (m ∷ ms) a = cond (m.address == a) (m.kind ∷ marks_at ms a) (marks_
 -- Where a direct jump goes, from the address behind it.
 abbrev pub GoesTo : Insn → ℕ → ℕ → Type 0
 GoesTo (insn.Jump d) next to = add64 next (word d) ≡ to
+GoesTo (insn.Jump8 d) next to = add64 next (word d) ≡ to
 GoesTo _ next to = ⊥
 
 abbrev pub BranchesTo : ℕ → Insn → ℕ → ℕ → Type 0
 BranchesTo c (insn.JumpIf n d) next to = (c ≡ n) × (add64 next (word d) ≡ to)
+BranchesTo c (insn.JumpIf8 n d) next to = (c ≡ n) × (add64 next (word d) ≡ to)
 BranchesTo c _ next to = ⊥
 
 -- The text of a program, the marks of each address, and the address of each label. The text ends before

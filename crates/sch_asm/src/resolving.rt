@@ -1,19 +1,25 @@
 //! From items to a text: `resolve`.
 
-ghost use Rattle.std.specs.Prelude.{◌≡◌, ◌+◌, ◌*◌, ◌^◌, ◌<◌, ◌≤◌, ◌++◌, length, IfOk, IfErr, IfNone, IfSome, OnOk, slice_index};
+ghost use Rattle.std.specs.Prelude.{◌≡◌, ◌+◌, ◌*◌, ◌^◌, ◌<◌, ◌≤◌, ◌++◌, cond, false, true, length, IfOk, IfErr, IfNone, IfSome, OnOk, slice_index};
 ghost use Rattle.std.specs.List.{flat_map};
 ghost use Rattle.sch_word.specs.runs.ProgramLayout.{max_text_size};
 ghost use Rattle.sch_insn.specs.Spelling.{AllValid, IsCondition, IsValid, spelling};
+ghost use Rattle.sch_jumps.specs.Least.{IsExact, IsLeast};
+ghost use Rattle.sch_jumps.specs.Sizes.{is_near};
+ghost use Rattle.sch_jumps.specs.Spans.{set_of};
 ghost use Rattle.sch_asm.specs.Items.{AreItems, AreOwn, AreRoutines, IsItem};
-ghost use Rattle.sch_asm.specs.Codes.{AreResolved, IsTooLarge, bytes_of, item_size, text_size, value_of as word_value};
-ghost use Rattle.sch_asm.specs.Layout.{IsLaidOut, UseBelow, UsesBelow, WordBelow, WordsBelow, displacement, emitted_from, insns_of, marked_from, marks_of, option_list};
+ghost use Rattle.sch_asm.specs.Codes.{AreResolved, IsTooLarge, bytes_of, value_of as word_value};
+ghost use Rattle.sch_asm.specs.Forms.{jump_forms};
+ghost use Rattle.sch_asm.specs.Layout.{IsLaidOut, ReachFrom, Reaches, UseBelow, UsesBelow, WordBelow, WordsBelow, branch_of, displacement, emitted_from, insns_of, jump_of, jumps_in, jumps_of, marked_from, marks_of, option_list, size_from, size_of};
+ghost use Rattle.sch_asm.specs.Pieces.{shortest_size, skeleton};
 
 use crate::assembly::{Asm, Word};
 use crate::error::AsmError;
 use crate::item::{Item, Mark};
-use crate::layout::{Layout, item_count, label_bound, place_labels, zeros};
+use crate::layout::{Layout, append_pieces};
 use sch_code::Text;
 use sch_insn::{Arg, Insn};
+use sch_jumps::choose;
 use sch_word::{Bytes, List, MAX_TEXT_SIZE, Mem, TEXT_ADDRESS};
 use std::alloc::Global;
 
@@ -27,25 +33,33 @@ pub struct Resolved {
 }
 
 /// Gives a text its addresses: the items of `a` from `TEXT_ADDRESS` on and behind them those of
-/// `routines`, with the data of `a` at `DATA_ADDRESS`. All jumps have their long forms.
+/// `routines`, with the data of `a` at `DATA_ADDRESS`. The text is the shortest one: of its direct jumps the least set is
+/// long for which each short one reaches its label, and a jump is short exactly where its displacement fits a byte.
 ///
-/// `TextTooLarge` comes exactly where the text has more than `MAX_TEXT_SIZE` bytes and there is memory for the table
-/// of its labels. Time and memory are linear in the items, the words and the greatest label that stands.
+/// `TextTooLarge` comes exactly where the text has more than `MAX_TEXT_SIZE` bytes and there is memory for the tables
+/// of its labels and jumps. Time and memory are linear in the items, the words and the greatest label that stands.
 pub fn resolve(alloc: Global, a: &Asm, routines: &Asm) -> Result<Resolved, AsmError>
     requires own { AreOwn a.now.items }
     requires routines { AreRoutines routines.now.items routines.now.words routines.now.zeros }
     ensures stands { IfOk result (λ r. AreResolved (a.now.items ++ routines.now.items) a.now.words r.code r.marks r.words) }
     ensures valid { IfOk result (λ r. AllValid r.code) }
+    ensures shortest { IfOk result (λ r. IsLeast (skeleton (a.now.items ++ routines.now.items)) (set_of (jump_forms r.code))) }
+    ensures exact { IfOk result (λ r. IsExact (skeleton (a.now.items ++ routines.now.items)) (set_of (jump_forms r.code))) }
     ensures words { IfOk result (λ r. length r.words ≡ 8 * length a.now.words) }
     ensures zeros { IfOk result (λ r. r.zeros ≡ a.now.zeros) }
-    ensures size { IfOk result (λ r. length (flat_map spelling r.code) ≡ text_size (a.now.items ++ routines.now.items)) }
+    ensures size { IfOk result (λ r. length (flat_map spelling r.code) ≡ shortest_size (a.now.items ++ routines.now.items)) }
     ensures fits { IfOk result (λ r. length (flat_map spelling r.code) ≤ max_text_size) }
-    ensures too_large { IfErr result (IsTooLarge (text_size (a.now.items ++ routines.now.items))) }
+    ensures too_large { IfErr result (IsTooLarge (shortest_size (a.now.items ++ routines.now.items))) }
 {
     let layout = lay_out(alloc, a, routines)?;
-    let start = TEXT_ADDRESS as u32;
+    let start = Spot {
+        at: TEXT_ADDRESS as u32,
+        jumps: 0,
+    };
     let mut code = Text::with_capacity(alloc, layout.bytes as usize)?;
     let mut marks = List::new(alloc);
+    // so jumps are numbers of 64 bits
+    item_count(a.items.as_slice(), routines.items.as_slice());
     let behind = emit(a.items.as_slice(), start, &layout, &mut code, &mut marks)?;
     emit(
         routines.items.as_slice(),
@@ -63,28 +77,28 @@ pub fn resolve(alloc: Global, a: &Asm, routines: &Asm) -> Result<Resolved, AsmEr
     })
 }
 
-// Where the labels of items stand, if their text is not too large.
+// Where the labels of items stand, and which of their jumps are long, if their text is not too large.
 fn lay_out(alloc: Global, a: &Asm, routines: &Asm) -> Result<Layout, AsmError>
     requires own { AreOwn a.now.items }
     requires routines { AreRoutines routines.now.items routines.now.words routines.now.zeros }
-    ensures places { IfOk result (λ layout. IsLaidOut (a.now.items ++ routines.now.items) a.now.words layout.places.items) }
-    ensures bytes { IfOk result (λ layout. layout.bytes ≡ text_size (a.now.items ++ routines.now.items)) }
+    ensures places { IfOk result (λ layout. IsLaidOut (a.now.items ++ routines.now.items) a.now.words layout.places.items layout.longs.items) }
+    ensures bytes { IfOk result (λ layout. layout.bytes ≡ shortest_size (a.now.items ++ routines.now.items)) }
     ensures fits { IfOk result (λ layout. layout.bytes ≤ max_text_size) }
-    ensures too_large { IfErr result (IsTooLarge (text_size (a.now.items ++ routines.now.items))) }
+    ensures too_large { IfErr result (IsTooLarge (shortest_size (a.now.items ++ routines.now.items))) }
 {
-    let own = a.items.as_slice();
-    let others = routines.items.as_slice();
-    // so the bytes are a number of 64 bits
-    item_count(own, others);
-    let bound = label_bound(label_bound(0, own), others);
-    let mut places = zeros(alloc, bound)?;
-    let behind = place_labels(own, TEXT_ADDRESS, &mut places);
-    let end = place_labels(others, behind, &mut places);
-    let bytes = end - TEXT_ADDRESS;
+    let mut pieces = Vec::new(alloc);
+    append_pieces(a.items.as_slice(), &mut pieces)?;
+    append_pieces(routines.items.as_slice(), &mut pieces)?;
+    let forms = choose(alloc, &pieces, TEXT_ADDRESS as u32)?;
+    let bytes = forms.end - TEXT_ADDRESS;
     if bytes > MAX_TEXT_SIZE {
         return Err(AsmError::TextTooLarge(bytes));
     }
-    Ok(Layout { places, bytes })
+    Ok(Layout {
+        places: forms.places,
+        longs: forms.longs,
+        bytes,
+    })
 }
 
 // From the address behind an instruction to another address.
@@ -96,24 +110,55 @@ fn displacement_to(next: u32, to: u32) -> i32
     to as i32 - next as i32
 }
 
-// The instruction of an item that stands at an address, if it has one.
-fn insn_of(item: &Item, at: u32, layout: &Layout) -> Option<Insn>
+// A jump that stands at an address to another one.
+fn jump_to(at: u32, long: bool, to: u32) -> Insn
+    requires at { at < 2 ^ 30 }
+    requires to { to < 2 ^ 30 }
+    requires near { long ≡ false → is_near (at + 2) to ≡ true }
+    ensures insn { result ≡ jump_of long (displacement (at + cond long 5 2) to) }
+    ensures valid { IsValid result }
+{
+    if long {
+        Insn::Jump(displacement_to(at + 5, to))
+    } else {
+        Insn::Jump8(displacement_to(at + 2, to) as i8)
+    }
+}
+
+// The same on a condition.
+fn branch_to(condition: u8, at: u32, long: bool, to: u32) -> Insn
+    requires condition { IsCondition condition }
+    requires at { at < 2 ^ 30 }
+    requires to { to < 2 ^ 30 }
+    requires near { long ≡ false → is_near (at + 2) to ≡ true }
+    ensures insn { result ≡ branch_of long condition (displacement (at + cond long 6 2) to) }
+    ensures valid { IsValid result }
+{
+    if long {
+        Insn::JumpIf(condition, displacement_to(at + 6, to))
+    } else {
+        Insn::JumpIf8(condition, displacement_to(at + 2, to) as i8)
+    }
+}
+
+// The instruction of an item that stands at an address, if it has one. It says of a jump whether it is long.
+fn insn_of(item: &Item, at: u32, long: bool, layout: &Layout) -> Option<Insn>
     requires sound { IsItem item.now }
-    requires short { at + item_size item.now < 2 ^ 30 }
+    requires short { at + size_of long item.now < 2 ^ 30 }
+    requires reach { Reaches (slice_index layout.now.places.items) long at item.now }
     requires uses { UsesBelow (length layout.now.places.items) item.now }
-    ensures insns { option_list result ≡ insns_of (slice_index layout.now.places.items) (at + item_size item.now) item.now }
+    ensures insns { option_list result ≡ insns_of (slice_index layout.now.places.items) long (at + size_of long item.now) item.now }
     ensures valid { IfSome result IsValid }
-    ensures size { IfSome result (λ insn. length (spelling insn) ≡ item_size item.now) }
-    ensures none { IfNone result (item_size item.now ≡ 0) }
+    ensures size { IfSome result (λ insn. length (spelling insn) ≡ size_of long item.now) }
+    ensures none { IfNone result (size_of long item.now ≡ 0) }
 {
     match item {
         Item::Label(_) | Item::Mark(_) => None,
         Item::Plain(insn) => Some(*insn),
-        Item::Jump(label) => Some(Insn::Jump(displacement_to(at + 5, layout.place(*label)))),
-        Item::JumpIf(condition, label) => Some(Insn::JumpIf(
-            *condition,
-            displacement_to(at + 6, layout.place(*label)),
-        )),
+        Item::Jump(label) => Some(jump_to(at, long, layout.place(*label))),
+        Item::JumpIf(condition, label) => {
+            Some(branch_to(*condition, at, long, layout.place(*label)))
+        }
         Item::LoadLabel(register, label) => Some(Insn::Lea(
             *register,
             Arg::Rip(displacement_to(at + 7, layout.place(*label))),
@@ -126,6 +171,16 @@ fn insn_of(item: &Item, at: u32, layout: &Layout) -> Option<Insn>
             Arg::Rip(displacement_to(at + 7, *address as u32)),
             *register,
         )),
+    }
+}
+
+// How many jumps an item is.
+fn jump_count(item: &Item) -> usize
+    ensures { result ≡ jumps_of item.now }
+{
+    match item {
+        Item::Jump(_) | Item::JumpIf(_, _) => 1,
+        _ => 0,
     }
 }
 
@@ -142,31 +197,74 @@ fn mark_of(item: &Item, at: u32) -> Option<Mark>
     }
 }
 
-// Puts out the instructions and marks of the items from an address on, and gives the address behind them.
-fn emit(
-    items: &[Item],
-    from: u32,
+// A place in a text: its address, and how many jumps stand before it.
+#[derive(Clone, Copy)]
+struct Spot {
+    at: u32,
+    jumps: usize,
+}
+
+// Puts out the instruction or the mark of an item at a place, and gives the place behind it.
+fn emit_one(
+    item: &Item,
+    from: Spot,
     layout: &Layout,
     code: &mut Text,
     marks: &mut List<Mark>,
-) -> Result<u32, Mem>
+) -> Result<Spot, Mem>
+    requires sound { IsItem item.now }
+    requires uses { UsesBelow (length layout.now.places.items) item.now }
+    requires few { from.jumps < 2 ^ 63 }
+    requires short { from.at + size_of (set_of layout.now.longs.items from.jumps) item.now < 2 ^ 30 }
+    requires reach { Reaches (slice_index layout.now.places.items) (set_of layout.now.longs.items from.jumps) from.at item.now }
+    ensures code { OnOk result (code.new ≡ code.old ++ insns_of (slice_index layout.now.places.items) (set_of layout.now.longs.items from.jumps) (from.at + size_of (set_of layout.now.longs.items from.jumps) item.now) item.now) }
+    ensures marks { OnOk result (marks.new ≡ marks.old ++ marks_of from.at item.now) }
+    ensures end { IfOk result (λ end. end.at ≡ from.at + size_of (set_of layout.now.longs.items from.jumps) item.now) }
+    ensures jumps { IfOk result (λ end. end.jumps ≡ from.jumps + jumps_of item.now) }
+{
+    if let Some(mark) = mark_of(item, from.at) {
+        marks.push(mark)?;
+    }
+    let size = match insn_of(item, from.at, layout.is_long(from.jumps), layout) {
+        Some(insn) => code.push(insn)? as u32,
+        None => 0,
+    };
+    Ok(Spot {
+        at: from.at + size,
+        jumps: from.jumps + jump_count(item),
+    })
+}
+
+// Puts out the instructions and marks of the items from a place on, and gives the place behind them.
+fn emit(
+    items: &[Item],
+    from: Spot,
+    layout: &Layout,
+    code: &mut Text,
+    marks: &mut List<Mark>,
+) -> Result<Spot, Mem>
     requires sound { AreItems items.now }
     requires uses { UseBelow (length layout.now.places.items) items.now }
-    requires short { from + text_size items.now < 2 ^ 30 }
-    ensures code { OnOk result (code.new ≡ code.old ++ emitted_from (slice_index layout.now.places.items) from items.now) }
-    ensures marks { OnOk result (marks.new ≡ marks.old ++ marked_from from items.now) }
-    ensures end { IfOk result (λ end. end ≡ from + text_size items.now) }
+    requires few { from.jumps + length items.now < 2 ^ 63 }
+    requires short { from.at + size_from (set_of layout.now.longs.items) from.jumps items.now < 2 ^ 30 }
+    requires reach { ReachFrom (slice_index layout.now.places.items) (set_of layout.now.longs.items) from.jumps from.at items.now }
+    ensures code { OnOk result (code.new ≡ code.old ++ emitted_from (slice_index layout.now.places.items) (set_of layout.now.longs.items) from.jumps from.at items.now) }
+    ensures marks { OnOk result (marks.new ≡ marks.old ++ marked_from (set_of layout.now.longs.items) from.jumps from.at items.now) }
+    ensures end { IfOk result (λ end. end.at ≡ from.at + size_from (set_of layout.now.longs.items) from.jumps items.now) }
+    ensures jumps { IfOk result (λ end. end.jumps ≡ from.jumps + jumps_in items.now) }
 {
-    let mut at = from;
+    let mut spot = from;
     for item in items {
-        if let Some(mark) = mark_of(item, at) {
-            marks.push(mark)?;
-        }
-        if let Some(insn) = insn_of(item, at, layout) {
-            at += code.push(insn)? as u32;
-        }
+        spot = emit_one(item, spot, layout, code, marks)?;
     }
-    Ok(at)
+    Ok(spot)
+}
+
+// How many items two lists have. An item takes at least 16 bytes of memory, so there are fewer than 2^60.
+fn item_count(items: &[Item], routines: &[Item]) -> usize
+    ensures { length items.now + length routines.now < 2 ^ 62 }
+{
+    items.len() + routines.len()
 }
 
 // A word's value.

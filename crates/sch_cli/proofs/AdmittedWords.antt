@@ -2,7 +2,7 @@
 use Rattle.std.proofs.Common.{codes, refl, List, ℕ, [], ◌∷◌, Some, None, ◌≡◌}
 use Rattle.sch_words.specs.GivenTexts.{Texts}
 use Rattle.sch_words.specs.PlainReading.{given_in, positionals_in}
-use Rattle.sch_cli.specs.Command.{admitted, command, compile, run, step}
+use Rattle.sch_cli.specs.Command.{admitted, command, compile, gen, list, run, step}
 
 abbrev texts : (verb name : List ℕ) → Texts
 texts verb name = record { verb = Some verb; name = Some name; second = None; listing = None; heap = None; depth = None; steps = None }
@@ -76,9 +76,64 @@ steps_without_depth = refl
 steps_without_listing : admitted (record (texts (codes "step") (codes "a")) { listing = Some (codes "f") }) ≡ None
 steps_without_listing = refl
 
+-- ---- `gen`
+
+makes_of_a_number : admitted (texts (codes "gen") (codes "0")) ≡ Some (gen 0 1000000000)
+makes_of_a_number = refl
+
+makes_with_steps : admitted (record (texts (codes "gen") (codes "007")) { steps = Some (codes "5") }) ≡ Some (gen 7 5)
+makes_with_steps = refl
+
+greatest_number : admitted (texts (codes "gen") (codes "2147483647")) ≡ Some (gen 2147483647 1000000000)
+greatest_number = refl
+
+number_too_large : admitted (texts (codes "gen") (codes "2147483648")) ≡ None
+number_too_large = refl
+
+makes_of_no_name : admitted (texts (codes "gen") (codes "a")) ≡ None
+makes_of_no_name = refl
+
+makes_of_no_sign : admitted (texts (codes "gen") (codes "-1")) ≡ None
+makes_of_no_sign = refl
+
+makes_of_no_empty_number : admitted (texts (codes "gen") (codes "")) ≡ None
+makes_of_no_empty_number = refl
+
+makes_of_no_second_number : admitted (record (texts (codes "gen") (codes "0")) { second = Some (codes "1") }) ≡ None
+makes_of_no_second_number = refl
+
+makes_without_heap : admitted (record (texts (codes "gen") (codes "0")) { heap = Some (codes "4096") }) ≡ None
+makes_without_heap = refl
+
+makes_without_depth : admitted (record (texts (codes "gen") (codes "0")) { depth = Some (codes "1") }) ≡ None
+makes_without_depth = refl
+
+makes_without_listing : admitted (record (texts (codes "gen") (codes "0")) { listing = Some (codes "f") }) ≡ None
+makes_without_listing = refl
+
+-- ---- `list`
+
+lists_one_name : admitted (texts (codes "list") (codes "a")) ≡ Some (list (codes "a") 67108864 100000)
+lists_one_name = refl
+
+lists_with_limits : admitted (record (texts (codes "list") (codes "a")) { heap = Some (codes "4096"); depth = Some (codes "7") }) ≡ Some (list (codes "a") 4096 7)
+lists_with_limits = refl
+
+lists_no_second_name : admitted (record (texts (codes "list") (codes "a")) { second = Some (codes "b") }) ≡ None
+lists_no_second_name = refl
+
+lists_no_empty_name : admitted (texts (codes "list") (codes "")) ≡ None
+lists_no_empty_name = refl
+
+lists_without_steps : admitted (record (texts (codes "list") (codes "a")) { steps = Some (codes "1") }) ≡ None
+lists_without_steps = refl
+
+lists_without_listing : admitted (record (texts (codes "list") (codes "a")) { listing = Some (codes "f") }) ≡ None
+lists_without_listing = refl
+
 -- ---- no verb of the table
 
-other_verb : admitted (texts (codes "list") (codes "a")) ≡ None
+other_verb : admitted (texts (codes "count") (codes "a")) ≡ None
 other_verb = refl
 
 capital_verb : admitted (texts (codes "Run") (codes "a")) ≡ None
@@ -175,6 +230,18 @@ option_twice = refl
 help_is_unknown : command (codes "--help" ∷ []) ≡ None
 unfolding given_in positionals_in
 help_is_unknown = refl
+
+makes_of_words : command (codes "gen" ∷ codes "--steps=9" ∷ codes "12" ∷ []) ≡ Some (gen 12 9)
+unfolding given_in positionals_in
+makes_of_words = refl
+
+makes_of_no_flag : command (codes "gen" ∷ codes "-1" ∷ []) ≡ None
+unfolding given_in positionals_in
+makes_of_no_flag = refl
+
+makes_of_something : command (codes "gen" ∷ []) ≡ None
+unfolding given_in positionals_in
+makes_of_something = refl
 
 no_words : command [] ≡ None
 unfolding given_in positionals_in

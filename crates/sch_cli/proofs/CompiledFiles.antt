@@ -6,7 +6,7 @@ use Rattle.sch_prelude.specs.LibraryText.{library_text}
 use Rattle.sch_driver.specs.Causes.{max_source_size}
 use Rattle.sch_driver.specs.Compiled.{IsCompiled}
 use Rattle.sch_driver.specs.Headline.{IsImageOf}
-use Rattle.sch_driver.specs.declared.listing.Listing.{Listing}
+use Rattle.sch_listing.specs.declared.listing.Listing.{Listing}
 use Rattle.sch_cli.specs.Builds.{HasFile, IsFileOf}
 
 pub file_of : (text file : List ℕ) (listing : Listing) (heap depth : ℕ) → length text ≤ max_source_size → IsCompiled library_text text heap depth file listing → IsFileOf text heap depth file

@@ -8,6 +8,8 @@ use Rattle.sch_driver.specs.Causes.{max_source_size}
 use Rattle.sch_cli.specs.Builds.{IsFileOf}
 use Rattle.sch_cli.specs.Compiles.{Compiles, WroteProgram, written, not_read, not_written, refused, no_memory}
 use Rattle.sch_cli.specs.Files.{IsUnread, HasRead}
+use Rattle.sch_cli.specs.Lists as lists
+use Rattle.sch_cli.specs.Lists.{ListsSource}
 use Rattle.sch_cli.specs.Seen.{DiskChange, DiskState, StreamChange, TookNothing, SameFiles, FilesChange, FileIs, HadAtMostCalls, HadCalls, DiskFailed}
 use Rattle.sch_cli.specs.Steps as runs
 use Rattle.sch_cli.specs.Steps.{RunsSource, StepsImage, max_image_file_size}
@@ -63,6 +65,13 @@ unread_steps name steps disk out failure.ReadFailed h nothing = runs.not_read h 
 unread_steps name steps disk out failure.TooLong h nothing = runs.too_long h nothing
 unread_steps name steps disk out failure.Memory h nothing = runs.no_memory nothing
 unread_steps name steps disk out _ h nothing = absurd h
+
+pub unread_lists : (name : List ℕ) (heap depth : ℕ) (disk : DiskChange) (out : StreamChange) (why : Failure) → IsUnread name max_source_size why disk → TookNothing out
+    → ListsSource name heap depth disk out (Err why)
+unread_lists name heap depth disk out failure.ReadFailed h nothing = lists.not_read h nothing
+unread_lists name heap depth disk out failure.TooLong h nothing = lists.refused failure.TooLong h nothing
+unread_lists name heap depth disk out failure.Memory h nothing = lists.no_memory nothing
+unread_lists name heap depth disk out _ h nothing = absurd h
 
 -- ---- a target that was written
 

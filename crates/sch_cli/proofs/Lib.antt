@@ -1,7 +1,9 @@
 pub mod CompiledFiles
 pub mod Digits
 pub mod DiskSteps
+pub mod LoneRuns
 pub mod MachineEnds
+pub mod NoImageStatus
 pub mod OneStatus
 pub mod SomeVerdict
 pub mod ProgramRuns

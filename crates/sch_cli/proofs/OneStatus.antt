@@ -25,7 +25,7 @@ use Rattle.sch_driver.specs.Causes.{IsLibraryText, IsLibraryErrorOf, IsReadError
 use Rattle.sch_driver.specs.Compiled.{IsCompiled}
 use Rattle.sch_driver.specs.declared.error.CompileError.TheVariants as compiling
 use Rattle.sch_driver.specs.declared.error.Part.TheVariants.{Library, User}
-use Rattle.sch_driver.specs.declared.listing.Listing.{Listing}
+use Rattle.sch_listing.specs.declared.listing.Listing.{Listing}
 use Rattle.sch_driver.proofs.Meanings.{same_library}
 use Rattle.sch_driver.proofs.Sizes.{bytes_of, frame_is, stack_fits, text_fits}
 use Rattle.sch_cli.specs.declared.failure.Failure.{Failure}
@@ -199,6 +199,8 @@ found text depth _ (refused failure.Memory h v) = absurd (v refl)
 found text depth _ (refused failure.ReadFailed h v) = absurd h
 found text depth _ (refused failure.WriteFailed h v) = absurd h
 found text depth _ (refused (failure.Image error) h v) = absurd h
+found text depth _ (refused failure.StepsSpent h v) = absurd h
+found text depth _ (refused failure.OutputFailed h v) = absurd h
 
 pub same : (text : List ℕ) (depth : ℕ) (one two : Result ⊤ Failure) → IsVerdict text depth one → IsVerdict text depth two → one ≡ two
 same text depth one two h k = one_in_texts library_text text depth one two (found text depth one h) (found text depth two k)

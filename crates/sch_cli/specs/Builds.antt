@@ -5,7 +5,7 @@ use Rattle.sch_elf.specs.Stands.{StandsFor}
 use Rattle.sch_prelude.specs.LibraryText.{library_text}
 use Rattle.sch_driver.specs.Causes.{max_source_size}
 use Rattle.sch_driver.specs.Compiled.{IsCompiled}
-use Rattle.sch_driver.specs.declared.listing.Listing.{Listing}
+use Rattle.sch_listing.specs.declared.listing.Listing.{Listing}
 
 -- The file is compiled of the text, which is no longer than a source may be, with the library's text and beside some
 -- listing: it is all that the driver promises of the two.

@@ -1,5 +1,5 @@
 -- The words that are a command: read as one simple command, they give texts that the table of verbs admits.
-use Rattle.std.specs.Prelude.{ℕ, ◌^◌, ◌%◌, nat_le, List, [], ◌∷◌, length, codes, Bool, true, false, not, ◌&&◌, ◌||◌, ◌==◌, Option, Some, None, if◌then◌else◌}
+use Rattle.std.specs.Prelude.{ℕ, ◌^◌, ◌-◌, ◌%◌, nat_le, List, [], ◌∷◌, length, codes, Bool, true, false, not, ◌&&◌, ◌||◌, ◌==◌, Option, Some, None, if◌then◌else◌}
 use Rattle.std.specs.Str.{bytes_eq}
 use Rattle.std.specs.Char.{is_ascii_digit}
 use Rattle.std.specs.List.{list_all}
@@ -24,11 +24,14 @@ default_depth = 10 ^ 5
 -- ---- commands
 
 -- `compile` reads a source and writes a target; `run` compiles a source and runs it, both under limits of
--- heap and depth; `step` runs an image. What is run takes at most `steps` steps.
+-- heap and depth; `list` lists what is compiled of a source, under limits; `step` runs an image; `gen` compiles and runs the text that is made of a number. What is run takes at
+-- most `steps` steps.
 pub data Command : Type 0 where
   compile : (source target : List ℕ) → (heap depth : ℕ) → Command
   run : (source : List ℕ) → (heap depth steps : ℕ) → Command
   step : (image : List ℕ) → (steps : ℕ) → Command
+  gen : (number steps : ℕ) → Command
+  list : (source : List ℕ) → (heap depth : ℕ) → Command
 
 -- ---- names
 
@@ -61,6 +64,15 @@ abbrev pub number_or : ℕ → Option Text → Option ℕ
 number_or other None = Some other
 number_or other (Some digits) = if is_number digits then Some (digits_value 10 digits) else None
 
+-- the greatest number of which a text is made
+abbrev pub max_program_number : ℕ
+max_program_number = 2 ^ 31 - 1
+
+-- the number of a text, in decimal digits
+abbrev pub program_number : Text → Option ℕ
+program_number digits =
+    if is_number digits && nat_le (digits_value 10 digits) max_program_number then Some (digits_value 10 digits) else None
+
 -- the most steps
 abbrev pub max_steps : ℕ
 max_steps = 10 ^ 18
@@ -91,15 +103,25 @@ abbrev pub step_of : Texts → Option Command
 step_of given = if is_some given.heap || is_some given.depth then None
     else option_and_then (λ image. option_map (λ steps. step image steps) (steps_of given)) (only_name given)
 
+abbrev pub gen_of : Texts → Option Command
+gen_of given = if is_some given.heap || is_some given.depth then None
+    else option_and_then (λ name. option_and_then (λ number. option_map (λ steps. gen number steps) (steps_of given)) (program_number name)) (only_name given)
+
+abbrev pub list_of : Texts → Option Command
+list_of given = if is_some given.steps then None
+    else option_and_then (λ source. option_map (λ limits. list source limits.0 limits.1) (limits_of given)) (only_name given)
+
 abbrev pub verb_of : Text → Texts → Option Command
 verb_of verb given =
     if bytes_eq verb (codes "compile") then compile_of given
     else if bytes_eq verb (codes "run") then run_of given
     else if bytes_eq verb (codes "step") then step_of given
+    else if bytes_eq verb (codes "gen") then gen_of given
+    else if bytes_eq verb (codes "list") then list_of given
     else None
 
--- The command of texts: `compile NAME NAME2 [--heap N] [--depth N]`, `run NAME [--heap N] [--depth N] [--steps N]` or
--- `step NAME [--steps N]`.
+-- The command of texts: `compile NAME NAME2 [--heap N] [--depth N]`, `run NAME [--heap N] [--depth N] [--steps N]`,
+-- `step NAME [--steps N]`, `gen N [--steps N]` or `list NAME [--heap N] [--depth N]`.
 abbrev pub admitted : Texts → Option Command
 admitted given = if is_some given.listing then None else option_and_then (λ verb. verb_of verb given) given.verb
 
@@ -107,7 +129,7 @@ admitted given = if is_some given.listing then None else option_and_then (λ ver
 abbrev pub command : (words : List Text) → Option Command
 command words = option_and_then admitted (plain_reading words)
 
--- what holds of the names, limits and steps of a verb, where the words are its command
+-- what holds of the names, the number, the limits and the steps of a verb, where the words are its command
 abbrev pub IfCompile : Option Command → ((source target : List ℕ) → (heap depth : ℕ) → Type 0) → Type 0
 IfCompile (Some (compile source target heap depth)) P = P source target heap depth
 IfCompile _ P = Unit {0}
@@ -119,3 +141,11 @@ IfRun _ P = Unit {0}
 abbrev pub IfStep : Option Command → ((image : List ℕ) → (steps : ℕ) → Type 0) → Type 0
 IfStep (Some (step image steps)) P = P image steps
 IfStep _ P = Unit {0}
+
+abbrev pub IfGen : Option Command → ((number steps : ℕ) → Type 0) → Type 0
+IfGen (Some (gen number steps)) P = P number steps
+IfGen _ P = Unit {0}
+
+abbrev pub IfList : Option Command → ((source : List ℕ) → (heap depth : ℕ) → Type 0) → Type 0
+IfList (Some (list source heap depth)) P = P source heap depth
+IfList _ P = Unit {0}

@@ -1,9 +1,11 @@
 -- A command of the code as one of the definitions.
 use Rattle.sch_cli.specs.Command as commands
 use Rattle.sch_cli.specs.declared.command.Command.{Command}
-use Rattle.sch_cli.specs.declared.command.Command.TheVariants.{Compile, Run, Step}
+use Rattle.sch_cli.specs.declared.command.Command.TheVariants.{Compile, Run, Step, Generate, List}
 
 abbrev pub command_of : Command → commands.Command
 command_of (Compile source target limits) = commands.compile source.now target.now limits.heap limits.depth
 command_of (Run wanted) = commands.run wanted.source.now wanted.limits.heap wanted.limits.depth wanted.steps
 command_of (Step image steps) = commands.step image.now steps
+command_of (Generate number steps) = commands.gen number steps
+command_of (List source limits) = commands.list source.now limits.heap limits.depth

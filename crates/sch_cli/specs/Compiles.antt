@@ -3,15 +3,13 @@ use Rattle.std.specs.Prelude.{◌≡◌, ℕ, List, [], Result, Ok, Err, ⊤, Is
 use Rattle.std.specs.FinMap.{get}
 use Rattle.sch_io.specs.Files.{Files, Replaces, Spoils}
 use Rattle.sch_cli.specs.Builds.{IsFileOf}
-use Rattle.sch_cli.specs.Failures.{failure_line, failure_status}
+use Rattle.sch_cli.specs.Failures.{done_status, failure_line}
 use Rattle.sch_cli.specs.Messages.{Says}
 use Rattle.sch_cli.specs.Refusals.{IsRefused}
 use Rattle.sch_cli.specs.Seen.{DiskChange, StreamChange, FilesChange, SameFiles, FileIs, HadAtMostCalls, HadCalls, DiskFailed}
 use Rattle.sch_cli.specs.Statuses.{status_number}
 use Rattle.sch_cli.specs.declared.failure.Failure.{Failure}
 use Rattle.sch_cli.specs.declared.failure.Failure.TheVariants.{ReadFailed, WriteFailed, Memory}
-use Rattle.sch_cli.specs.declared.status.Status.{Status}
-use Rattle.sch_cli.specs.declared.status.Status.TheVariants.{Done}
 
 -- From these files to those the target was replaced by a program for the source, under these limits.
 abbrev pub WroteProgram : (source target : List ℕ) → (heap depth : ℕ) → Files → Files → Type 0
@@ -34,10 +32,6 @@ pub data Compiles (source target : List ℕ) (heap depth : ℕ) (disk : DiskChan
   -- the words were not read, or the source was not, or nothing was made of it
   no_memory : SameFiles disk → HadAtMostCalls 1 disk → Compiles source target heap depth disk (Err Memory)
 
-abbrev pub compile_status : Result ⊤ Failure → Status
-compile_status (Ok done) = Done
-compile_status (Err failure) = failure_status failure
-
 -- a failed write concerns the target, any other failure the source
 abbrev pub concerned : (source target : List ℕ) → Failure → List ℕ
 concerned source target WriteFailed = target
@@ -50,6 +44,6 @@ compile_line source target (Err failure) = failure_line (concerned source target
 -- How `compile` ends: with the status, the line and the disk of one answer.
 pub record EndsCompile (source target : List ℕ) (heap depth status : ℕ) (disk : DiskChange) (err : StreamChange) : Type 0 where
   pub answer : Result ⊤ Failure
-  pub status_is : status ≡ status_number (compile_status answer)
+  pub status_is : status ≡ status_number (done_status answer)
   pub says : Says (compile_line source target answer) err
   pub compiles : Compiles source target heap depth disk answer

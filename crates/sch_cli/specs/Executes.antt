@@ -1,5 +1,5 @@
 -- What it is to run an image over an outlet, of at most n steps.
-use Rattle.std.specs.Prelude.{◌≡◌, ◌++◌, ℕ, List, All}
+use Rattle.std.specs.Prelude.{◌≡◌, ◌++◌, ℕ, List, [], length, All}
 use Rattle.sch_word.specs.declared.answer.Answer.{Answer}
 use Rattle.sch_io.specs.Told.{Tells}
 use Rattle.sch_elf.specs.declared.image.Image.{Image}
@@ -11,6 +11,7 @@ use Rattle.sch_word.specs.runs.Answers.{TakesNothing}
 use Rattle.sch_step.specs.declared.ends.RunEnd.{RunEnd}
 use Rattle.sch_step.specs.declared.ends.RunEnd.TheVariants as run_end
 use Rattle.sch_cli.specs.Seen.{StreamChange, BytesChange, StreamFailed}
+use Rattle.sch_cli.specs.declared.generated.LoneRun.{LoneRun}
 
 -- The machine of an image at its start: every register is 0, the flags are unknown, and there are no
 -- spare words.
@@ -27,6 +28,12 @@ run_end_of (Stuck cause s) = run_end.Stuck (record { at = s.core.place; cause = 
 pub record EndsUnder (image : Image) (steps : ℕ) (answers : List Answer) (end : RunEnd) (output : List ℕ) : Type 0 where
   pub end_is : run_end_of (mach steps (started image answers)) ≡ end
   pub output_is : output_of (mach steps (started image answers)) ≡ output
+
+-- Where no answers of the kernel are held ready the image ends so, and has written as many bytes.
+pub record EndsAlone (image : Image) (steps : ℕ) (lone : LoneRun) : Type 0 where
+  pub output : List ℕ
+  pub ends : EndsUnder image steps [] lone.end output
+  pub size : lone.output ≡ length output
 
 -- The image was run over an outlet: under the answers that the outlet held ready, where it tells them,
 -- and under the answers that it gave. It took the output. An answer took nothing only where it failed.

@@ -1,5 +1,5 @@
 -- Why a command was not done: each cause with its status and its line.
-use Rattle.std.specs.Prelude.{ℕ, List, [], ◌++◌, codes}
+use Rattle.std.specs.Prelude.{ℕ, List, [], ◌++◌, codes, Result, Ok, Err, ⊤}
 use Rattle.std.specs.Fmt.{decimal}
 use Rattle.sch_read.specs.declared.error.ReadError.{ReadError}
 use Rattle.sch_read.specs.declared.error.ReadError.TheVariants as read
@@ -16,8 +16,8 @@ use Rattle.sch_elf.specs.declared.error.ImageError.TheVariants as image
 use Rattle.sch_cli.specs.declared.failure.Failure.{Failure}
 use Rattle.sch_cli.specs.declared.failure.Failure.TheVariants as failure
 use Rattle.sch_cli.specs.declared.status.Status.{Status}
-use Rattle.sch_cli.specs.declared.status.Status.TheVariants.{ReadFailed, WriteFailed, BadText, BadForm, Unbound, PastLimit, BadImage, OutOfMemory}
-use Rattle.sch_cli.specs.Messages.{out_of_memory_line, place_line}
+use Rattle.sch_cli.specs.declared.status.Status.TheVariants.{Done, ReadFailed, WriteFailed, BadText, BadForm, Unbound, PastLimit, BadImage, StepsSpent, OutOfMemory}
+use Rattle.sch_cli.specs.Messages.{out_of_memory_line, output_failed_line, place_line, spent_line}
 
 -- ---- the statuses
 
@@ -51,9 +51,16 @@ failure_status failure.WriteFailed = WriteFailed
 failure_status failure.TooLong = PastLimit
 failure_status (failure.Compile error) = refusal_status error
 failure_status (failure.Image error) = image_status error
+failure_status failure.StepsSpent = StepsSpent
+failure_status failure.OutputFailed = WriteFailed
 failure_status failure.Memory = OutOfMemory
 
--- ---- the lines, over the name of the file that each concerns
+-- of a command that is done, or is not for this failure
+abbrev pub done_status : Result ⊤ Failure → Status
+done_status (Ok done) = Done
+done_status (Err failure) = failure_status failure
+
+-- ---- the lines, over the name of what each concerns
 
 abbrev pub read_line : List ℕ → ReadError → List ℕ
 read_line name (read.Unclosed at) = place_line name at (codes "unclosed") []
@@ -104,4 +111,11 @@ failure_line name failure.WriteFailed = name ++ codes ": write failed\n"
 failure_line name failure.TooLong = name ++ codes ": limit file\n"
 failure_line name (failure.Compile error) = refusal_line name error
 failure_line name (failure.Image error) = image_line name error
+failure_line name failure.StepsSpent = spent_line
+failure_line name failure.OutputFailed = output_failed_line
 failure_line name failure.Memory = out_of_memory_line
+
+-- of a command that is done, which says nothing, or is not for this failure
+abbrev pub done_line : List ℕ → Result ⊤ Failure → List ℕ
+done_line name (Ok done) = []
+done_line name (Err failure) = failure_line name failure

@@ -7,7 +7,7 @@ use Rattle.sch_select.specs.Program.{frames_bytes, max_stack}
 use Rattle.sch_driver.specs.Causes.{frame_words_of, max_source_size, text_bytes_of}
 use Rattle.sch_driver.specs.Compiled.{IsCompiled}
 use Rattle.sch_driver.specs.declared.error.CompileError.TheVariants.{StackTooLarge, TextTooLarge}
-use Rattle.sch_driver.specs.declared.listing.Listing.{Listing}
+use Rattle.sch_listing.specs.declared.listing.Listing.{Listing}
 use Rattle.sch_cli.specs.Failures.{failure_status}
 use Rattle.sch_cli.specs.Refusals.{IsAccepted, IsRefused}
 use Rattle.sch_cli.specs.declared.failure.Failure.{Failure}

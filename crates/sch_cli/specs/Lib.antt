@@ -4,9 +4,12 @@ pub mod CommandView
 pub mod Compiles
 pub mod Executes
 pub mod Failures
+pub mod Figures
 pub mod Files
 pub mod Laws
+pub mod Lists
 pub mod Messages
+pub mod Prints
 pub mod Refusals
 pub mod Seen
 pub mod Statuses

@@ -18,6 +18,9 @@ usage_line = codes "usage: schc VERB NAME [NAME2] [--listing F] [--heap N] [--de
 abbrev pub out_of_memory_line : List ℕ
 out_of_memory_line = codes "out of memory\n"
 
+abbrev pub output_failed_line : List ℕ
+output_failed_line = codes "output failed\n"
+
 -- what is wrong at a place of a source; some causes name a subject
 abbrev pub place_line : (name : List ℕ) → (at : ℕ) → (what subject : List ℕ) → List ℕ
 place_line name at what subject = name ++ (codes ": byte " ++ (decimal at ++ (codes ": " ++ (what ++ (subject ++ codes "\n")))))

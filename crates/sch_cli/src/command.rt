@@ -6,14 +6,14 @@ ghost use Rattle.std.specs.List.{list_all};
 ghost use Rattle.std.specs.Option.{option_map};
 ghost use Rattle.std.specs.Str.Parse.{digits_value};
 ghost use Rattle.sch_words.specs.View.{texts_of};
-ghost use Rattle.sch_cli.specs.Command.{admitted, both_names, command, compile_of, is_number, limits_of, number_or, only_name, run_of, step_of, steps_of};
+ghost use Rattle.sch_cli.specs.Command.{admitted, both_names, command, compile_of, default_depth, default_heap, gen_of, is_number, limits_of, list_of, number_or, only_name, program_number, run_of, step_of, steps_of};
 ghost use Rattle.sch_cli.specs.CommandView.{command_of};
 
 use sch_word::{Limits, Mem};
 use sch_words::{Words, read_words};
 use std::alloc::Global;
 
-/// A command: the names are those in the words.
+/// A command: the names are those in the words, and a program that is made goes by its number.
 #[derive(Clone, Copy)]
 pub enum Command<'a> {
     Compile {
@@ -25,6 +25,14 @@ pub enum Command<'a> {
     Step {
         image: &'a str,
         steps: u64,
+    },
+    Generate {
+        number: u32,
+        steps: u64,
+    },
+    List {
+        source: &'a str,
+        limits: Limits,
     },
 }
 
@@ -48,6 +56,19 @@ const DEFAULT_DEPTH: u64 = 100_000;
 const MAX_STEPS: u64 = 1_000_000_000_000_000_000;
 
 const MAX_DIGITS: usize = 19;
+
+/// The greatest number of which a program is made: 2,147,483,647.
+const MAX_PROGRAM_NUMBER: u64 = (1 << 31) - 1;
+
+/// The limits of a program where the words give none.
+pub fn default_limits() -> Limits
+    ensures { (result.heap ≡ default_heap) × (result.depth ≡ default_depth) }
+{
+    Limits {
+        heap: DEFAULT_HEAP,
+        depth: DEFAULT_DEPTH,
+    }
+}
 
 /// The command that the words are, if they are one. The only error is out of memory.
 pub fn read_command<'a>(alloc: Global, words: &'a [String]) -> Result<Option<Command<'a>>, Mem>
@@ -75,6 +96,12 @@ fn admit<'a>(given: Words<'a>) -> Option<Command<'a>>
     }
     if verb == "step" {
         return admit_step(given);
+    }
+    if verb == "gen" {
+        return admit_gen(given);
+    }
+    if verb == "list" {
+        return admit_list(given);
     }
     None
 }
@@ -116,6 +143,41 @@ fn admit_step<'a>(given: Words<'a>) -> Option<Command<'a>>
     let image = only_name(given)?;
     let steps = steps_of(given)?;
     Some(Command::Step { image, steps })
+}
+
+fn admit_gen<'a>(given: Words<'a>) -> Option<Command<'a>>
+    ensures { gen_of (texts_of given.entry) ≡ option_map command_of result }
+{
+    if given.heap.is_some() || given.depth.is_some() {
+        return None;
+    }
+    let name = only_name(given)?;
+    let number = program_number(name)?;
+    let steps = steps_of(given)?;
+    Some(Command::Generate { number, steps })
+}
+
+fn admit_list<'a>(given: Words<'a>) -> Option<Command<'a>>
+    ensures { list_of (texts_of given.entry) ≡ option_map command_of result }
+{
+    if given.steps.is_some() {
+        return None;
+    }
+    let source = only_name(given)?;
+    let limits = limits_of(given)?;
+    Some(Command::List { source, limits })
+}
+
+// The number of which a program is made.
+fn program_number(digits: &str) -> Option<u32>
+    ensures { program_number digits.now ≡ result }
+{
+    let number = read_number(digits)?;
+    if number <= MAX_PROGRAM_NUMBER {
+        Some(number as u32)
+    } else {
+        None
+    }
 }
 
 // The name, where there is no second one.

@@ -1,7 +1,8 @@
 //! The verb `compile`.
 
 ghost use Rattle.std.specs.Prelude.{◌≡◌, ◌≢◌};
-ghost use Rattle.sch_cli.specs.Compiles.{Compiles, EndsCompile, compile_line, compile_status, concerned};
+ghost use Rattle.sch_cli.specs.Compiles.{Compiles, EndsCompile, compile_line, concerned};
+ghost use Rattle.sch_cli.specs.Failures.{done_status};
 ghost use Rattle.sch_cli.specs.Messages.{Says};
 ghost use Rattle.sch_cli.specs.Seen.{disk_change, stream_change};
 ghost use Rattle.sch_cli.specs.Statuses.{status_number};
@@ -38,7 +39,7 @@ pub fn report_compile<E: Outlet>(
     target: &str,
     answer: &Result<(), Failure>,
 ) -> Status
-    ensures status { result ≡ compile_status answer.now }
+    ensures status { result ≡ done_status answer.now }
     ensures no_usage { status_number result ≢ 1 }
     ensures line { Says (compile_line source.now target.now answer.now) (stream_change E.bytes E.left E.faults err.old err.new) }
 {

@@ -7,7 +7,7 @@ ghost use Rattle.sch_cli.specs.Messages.{Says};
 ghost use Rattle.sch_cli.specs.Seen.{stream_change};
 ghost use Rattle.sch_cli.specs.declared.failure.Failure.TheVariants as failure;
 
-use crate::message::{say, say_at, say_numbered, say_out_of_memory};
+use crate::message::{say, say_at, say_numbered, say_out_of_memory, say_spent};
 use crate::status::Status;
 use sch_core::{CoreError, Kind};
 use sch_driver::{CompileError, Part};
@@ -29,6 +29,10 @@ pub enum Failure {
     Compile(CompileError),
     /// The file stands for no image.
     Image(ImageError),
+    /// The steps of a program that is made were spent.
+    StepsSpent,
+    /// The standard output did not take all that the command prints.
+    OutputFailed,
     /// There was no memory.
     Memory,
 }
@@ -69,6 +73,8 @@ impl Failure {
             Failure::TooLong => Status::PastLimit,
             Failure::Compile(error) => refusal_status(error),
             Failure::Image(error) => image_status(*error),
+            Failure::StepsSpent => Status::StepsSpent,
+            Failure::OutputFailed => Status::WriteFailed,
             Failure::Memory => Status::OutOfMemory,
         }
     }
@@ -119,7 +125,7 @@ fn image_status(error: ImageError) -> Status
     }
 }
 
-/// Says the line of a failure that concerns the file `name`.
+/// Says the line of a failure that concerns the file or the number `name`.
 pub fn say_failure<E: Outlet>(err: &mut E, name: &str, failure: &Failure)
     ensures line { Says (failure_line name.now failure.now) (stream_change E.bytes E.left E.faults err.old err.new) }
     ensures faults { E.faults err.old ≤ E.faults err.new }
@@ -130,6 +136,8 @@ pub fn say_failure<E: Outlet>(err: &mut E, name: &str, failure: &Failure)
         Failure::TooLong => say(err, name, ": limit file\n"),
         Failure::Compile(error) => say_refusal(err, name, error),
         Failure::Image(error) => say_image_error(err, name, *error),
+        Failure::StepsSpent => say_spent(err),
+        Failure::OutputFailed => say(err, "output failed", "\n"),
         Failure::Memory => say_out_of_memory(err),
     }
 }

@@ -3,9 +3,11 @@
 
 ghost use Rattle.std.specs.Prelude.{◌≡◌, ◌≢◌, ◌⊎◌, None, Some, map, string_bytes, if◌then◌else◌, ◌==◌};
 ghost use Rattle.std.specs.IoError.{error_kind};
-ghost use Rattle.sch_cli.specs.Command.{IfCompile, IfRun, IfStep, command};
+ghost use Rattle.sch_cli.specs.Command.{IfCompile, IfGen, IfList, IfRun, IfStep, command};
 ghost use Rattle.sch_cli.specs.CommandView.{command_of};
 ghost use Rattle.sch_cli.specs.Compiles.{EndsCompile};
+ghost use Rattle.sch_cli.specs.Lists.{EndsList};
+ghost use Rattle.sch_cli.specs.Prints.{EndsGen};
 ghost use Rattle.sch_cli.specs.Messages.{Says, out_of_memory_line, usage_line};
 ghost use Rattle.sch_cli.specs.Seen.{disk_change, stream_change};
 ghost use Rattle.sch_cli.specs.Steps.{EndsRun, RunsSource, StepsImage};
@@ -15,16 +17,23 @@ mod command;
 mod compile;
 mod execute;
 mod failure;
+mod figures;
 mod file;
+mod generated;
 mod laws;
+mod list;
 mod message;
+mod print;
 mod run;
 mod status;
 
 use command::{Command, read_command};
 use compile::{compile, report_compile};
+use generated::{generate_program, report_generated};
 pub use laws::a_source_has_one_status;
+use list::list_source;
 use message::{say, say_out_of_memory};
+use print::report_printed;
 use run::{report_run, run_source, step_image};
 use sch_io::{Disk, Outlet};
 use sch_word::Mem;
@@ -39,12 +48,14 @@ const USAGE: &str =
 ///
 /// `compile NAME NAME2` reads the source NAME and writes NAME2, an executable that does what the source
 /// means: 0. `run NAME` compiles the source and runs its image, `step NAME` runs the image NAME, both of at
-/// most 1,000,000,000 steps or of those in `--steps N`; what the image writes goes to `out`. A program that
-/// is compiled has a heap of 67,108,864 bytes or of those in `--heap N`, and a depth of 100,000 pending calls or of
+/// most 1,000,000,000 steps or of those in `--steps N`; what the image writes goes to `out`. `gen N` makes a
+/// text of the number N, compiles it and runs it with as many steps, and prints on `out` the bytes of the text, of its image
+/// and of its output, its instructions and its status. `list NAME` compiles the source
+/// NAME and prints its listing on `out`. A program that is compiled has a heap of 67,108,864 bytes or of those in `--heap N`, and a depth of 100,000 pending calls or of
 /// those in `--depth N`.
 ///
 /// The other statuses, each with its line on `err`: 1 the words are no command, 2 NAME was not read,
-/// 3 NAME2 was not written, 4 NAME is not accepted by the reader, 5 it has a bad form or defines a
+/// 3 NAME2 or what `gen` or `list` prints was not written, 4 NAME is not accepted by the reader, 5 it has a bad form or defines a
 /// keyword, 6 it has an unbound variable, 7 it passes a limit, as that of 1,048,576 bytes (an image:
 /// 134,217,728), that of the frames at its depth or that of the text of its image, 16,777,216 bytes, 8 NAME
 /// stands for no image, or its image got stuck or exited with a status of no stop, 9 the steps were spent,
@@ -75,15 +86,28 @@ pub fn schc<D: Disk, O: Outlet, E: Outlet>(
         (stream_change E.bytes E.left E.faults err.old err.new)) }
     ensures compile_out { IfCompile (command (map string_bytes words.now)) (λ source target heap depth. out.new ≡ out.old) }
 
-    // A source that is run ends as it means, and an image as the machine does, with a line that says so.
+    // A source that is run ends as it means, and an image as the machine does, with a line that says so. 8 comes of an image
+    // alone that was read from a file.
     ensures run { IfRun (command (map string_bytes words.now)) (λ source heap depth steps. EndsRun source result
         (disk_change D.files D.faults D.calls disk.old disk.new) (stream_change E.bytes E.left E.faults err.old err.new)
         (RunsSource source heap depth steps (disk_change D.files D.faults D.calls disk.old disk.new)
         (stream_change O.bytes O.left O.faults out.old out.new))) }
+    ensures run_no_image { IfRun (command (map string_bytes words.now)) (λ source heap depth steps. result ≢ 8) }
     ensures step { IfStep (command (map string_bytes words.now)) (λ image steps. EndsRun image result
         (disk_change D.files D.faults D.calls disk.old disk.new) (stream_change E.bytes E.left E.faults err.old err.new)
         (StepsImage image steps (disk_change D.files D.faults D.calls disk.old disk.new)
         (stream_change O.bytes O.left O.faults out.old out.new))) }
+
+    // The figures of the text that is made of a number are printed, or there are none. The disk is not called.
+    ensures figures { IfGen (command (map string_bytes words.now)) (λ number steps. EndsGen number steps result
+        (stream_change E.bytes E.left E.faults err.old err.new) (stream_change O.bytes O.left O.faults out.old out.new)) }
+    ensures figures_disk { IfGen (command (map string_bytes words.now)) (λ number steps. disk.new ≡ disk.old) }
+    ensures figures_no_image { IfGen (command (map string_bytes words.now)) (λ number steps. result ≢ 8) }
+
+    // The listing of a source is printed, or there is none.
+    ensures list { IfList (command (map string_bytes words.now)) (λ source heap depth. EndsList source heap depth result
+        (disk_change D.files D.faults D.calls disk.old disk.new) (stream_change E.bytes E.left E.faults err.old err.new)
+        (stream_change O.bytes O.left O.faults out.old out.new)) }
 {
     match read_command(alloc, words) {
         Ok(Some(command)) => perform(alloc, command, disk, out, err),
@@ -109,10 +133,18 @@ fn perform<D: Disk, O: Outlet, E: Outlet>(
         (disk_change D.files D.faults D.calls disk.old disk.new) (stream_change E.bytes E.left E.faults err.old err.new)
         (RunsSource source heap depth steps (disk_change D.files D.faults D.calls disk.old disk.new)
         (stream_change O.bytes O.left O.faults out.old out.new))) }
+    ensures run_no_image { IfRun (Some (command_of command.entry)) (λ source heap depth steps. result ≢ 8) }
     ensures step { IfStep (Some (command_of command.entry)) (λ image steps. EndsRun image result
         (disk_change D.files D.faults D.calls disk.old disk.new) (stream_change E.bytes E.left E.faults err.old err.new)
         (StepsImage image steps (disk_change D.files D.faults D.calls disk.old disk.new)
         (stream_change O.bytes O.left O.faults out.old out.new))) }
+    ensures figures { IfGen (Some (command_of command.entry)) (λ number steps. EndsGen number steps result
+        (stream_change E.bytes E.left E.faults err.old err.new) (stream_change O.bytes O.left O.faults out.old out.new)) }
+    ensures figures_disk { IfGen (Some (command_of command.entry)) (λ number steps. disk.new ≡ disk.old) }
+    ensures figures_no_image { IfGen (Some (command_of command.entry)) (λ number steps. result ≢ 8) }
+    ensures list { IfList (Some (command_of command.entry)) (λ source heap depth. EndsList source heap depth result
+        (disk_change D.files D.faults D.calls disk.old disk.new) (stream_change E.bytes E.left E.faults err.old err.new)
+        (stream_change O.bytes O.left O.faults out.old out.new)) }
 {
     let status = match command {
         Command::Compile {
@@ -130,6 +162,14 @@ fn perform<D: Disk, O: Outlet, E: Outlet>(
         Command::Step { image, steps } => {
             let answer = step_image(alloc, image, steps, disk, out);
             report_run(err, image, &answer)
+        }
+        Command::Generate { number, steps } => {
+            let answer = generate_program(alloc, number, steps, out);
+            report_generated(err, number, &answer)
+        }
+        Command::List { source, limits } => {
+            let answer = list_source(alloc, source, limits, disk, out);
+            report_printed(err, source, &answer)
         }
     };
     status.number()

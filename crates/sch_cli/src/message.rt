@@ -104,7 +104,8 @@ pub fn say_end<E: Outlet>(err: &mut E, name: &str, end: RunEnd)
     }
 }
 
-fn say_spent<E: Outlet>(err: &mut E)
+/// The line where the steps were spent.
+pub fn say_spent<E: Outlet>(err: &mut E)
     ensures line { Says spent_line (stream_change E.bytes E.left E.faults err.old err.new) }
     ensures faults { E.faults err.old ≤ E.faults err.new }
 {

@@ -34,6 +34,7 @@ pub fn run_source<D: Disk, O: Outlet>(
     ensures few_calls { HadAtMostCalls 1 (disk_change D.files D.faults D.calls disk.old disk.new) }
     ensures ran { RunsSource wanted.entry.source.now wanted.entry.limits.heap wanted.entry.limits.depth wanted.entry.steps
         (disk_change D.files D.faults D.calls disk.old disk.new) (stream_change O.bytes O.left O.faults out.old out.new) result }
+    ensures no_image { status_number (run_status result) ≢ 8 }
 {
     let text = read_file(alloc, disk, wanted.source, MAX_SOURCE_SIZE)?;
     let image = image_of(alloc, text.as_slice(), wanted.limits)?;

@@ -15,7 +15,7 @@ pub enum Status {
     Usage,
     /// A file was not read.
     ReadFailed,
-    /// A file was not written.
+    /// A file was not written, or the text that the command prints.
     WriteFailed,
     /// The reader does not accept the text.
     BadText,

@@ -45,7 +45,7 @@ in_a_group = refl
 nested_weight : (before.weight nested_lambdas ∷ behind.weight nested ∷ []) ≡ 57 ∷ 57 ∷ []
 nested_weight = refl
 
-group_weight : (before.weight even_odd ∷ behind.weight made.even_odd ∷ []) ≡ 108 ∷ 108 ∷ []
+group_weight : (before.weight even_odd ∷ behind.weight made.even_odd ∷ []) ≡ 112 ∷ 112 ∷ []
 group_weight = refl
 
 -- ## Covered programs, before and after

@@ -6,3 +6,4 @@ pub mod ScopedKept
 pub mod ValidKept
 pub mod VariablesKept
 pub mod CoveredKept
+pub mod BodyCount

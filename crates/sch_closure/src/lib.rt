@@ -1,7 +1,7 @@
 //! From cells to flat closures: a procedure becomes a record of the values of its free variables.
 #![tactic(auto)]
 
-ghost use Rattle.std.specs.Prelude.{◌≡◌, ◌<◌, ◌^◌, ◌-◌, length, map, IfOk, IsTrue};
+ghost use Rattle.std.specs.Prelude.{◌≡◌, ◌<◌, ◌+◌, ◌^◌, ◌-◌, length, map, IfOk, IsTrue};
 ghost use Rattle.sch_word.specs.runs.Runs.{SameRuns};
 ghost use Rattle.sch_word.specs.values.StaticsView.{statics};
 ghost use Rattle.sch_cells.specs.Bodies.{bodies_of};
@@ -14,6 +14,7 @@ ghost use Rattle.sch_cells.specs.View.{trees_of as trees};
 ghost use Rattle.sch_flat.specs.Measures as measures;
 ghost use Rattle.sch_flat.specs.ProgramView as view;
 ghost use Rattle.sch_flat.specs.Run as meaning;
+ghost use Rattle.sch_flat.specs.Tree.{count};
 ghost use Rattle.sch_flat.specs.Covered as covered;
 ghost use Rattle.sch_flat.specs.View.{body, made, trees_of};
 ghost use Rattle.sch_closure.specs.Closed.{closed_source};
@@ -54,6 +55,8 @@ pub fn close(alloc: Global, p: &CellProgram<Boxed>) -> Result<FlatProgram, Mem>
     // Each body has its name, its formals, its free variables as fields and its count of variables.
     ensures bodies { IfOk result (λ q. map procedure_of (map body q.bodies) ≡ procedures_in (source p.now)) }
     ensures forms { IfOk result (λ q. flat_forms (trees_of q.forms) ≡ forms_in (trees p.now.forms)) }
+    // Procedures and forms are together as many as the bodies of `p`.
+    ensures count { IfOk result (λ q. length (view.source q).bodies + count (view.source q).forms ≡ length (bodies_of (source p.now))) }
     ensures size { IfOk result (λ q. measures.program_size (view.source q) ≡ program_size (source p.now)) }
     // It weighs what `p` does.
     ensures weight { IfOk result (λ q. measures.weight (view.source q) ≡ weight (source p.now)) }

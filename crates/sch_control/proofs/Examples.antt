@@ -111,9 +111,9 @@ looping = program []
     ∷ record { at = 3; closure = record { label = 2; fields = source.Atom (Variable 2) ∷ [] } } ∷ [])
     (bind 4 (call (applied 0 (held_in 2) (number 2 ∷ [])) []) (end (shown 1 (held_in 4)))))
     ∷ lambda 1 1 5 (branch (perform (operation.Prim 2 Equal (held_in 2 ∷ number 0 ∷ []))) (return (perform (operation.Operand (truth true))))
-    (bind 3 (perform (operation.Field 1 0)) (bind 4 (perform (operation.Prim 3 Subtract (held_in 2 ∷ number 1 ∷ []))) (tail_call (applied 4 (held_in 3) (held_in 4 ∷ []))))))
+    (bind 3 (perform (operation.Prim 3 Subtract (held_in 2 ∷ number 1 ∷ []))) (bind 4 (perform (operation.Field 1 0)) (tail_call (applied 4 (held_in 4) (held_in 3 ∷ []))))))
     ∷ lambda 1 1 5 (branch (perform (operation.Prim 5 Equal (held_in 2 ∷ number 0 ∷ []))) (return (perform (operation.Operand (truth false))))
-    (bind 3 (perform (operation.Field 1 0)) (bind 4 (perform (operation.Prim 6 Subtract (held_in 2 ∷ number 1 ∷ []))) (tail_call (applied 7 (held_in 3) (held_in 4 ∷ []))))))
+    (bind 3 (perform (operation.Prim 6 Subtract (held_in 2 ∷ number 1 ∷ []))) (bind 4 (perform (operation.Field 1 0)) (tail_call (applied 7 (held_in 4) (held_in 3 ∷ []))))))
     ∷ [])
     (2 ∷ 1 ∷ 2 ∷ 2 ∷ 2 ∷ 2 ∷ 2 ∷ 2 ∷ []) ([] ∷ (0 ∷ []) ∷ [] ∷ [] ∷ (1 ∷ 0 ∷ []) ∷ [] ∷ [] ∷ (1 ∷ 0 ∷ []) ∷ [])
 
@@ -123,7 +123,7 @@ looping_runs = refl
 looping_valid : (is_valid looping && list_all code_valid looping.bodies) ≡ true
 looping_valid = refl
 
--- the operator and the operand are bound in this order, so a table that has them in the other does not fit
+-- the operand is bound before the operator, so a table that has them in the other does not fit
 looping_fits : table_fits looping ((0 ∷ 1 ∷ []) ∷ (0 ∷ []) ∷ (1 ∷ 0 ∷ []) ∷ (0 ∷ 1 ∷ []) ∷ (1 ∷ 0 ∷ []) ∷ (0 ∷ 1 ∷ []) ∷ (1 ∷ 0 ∷ []) ∷ (1 ∷ 0 ∷ []) ∷ []) ≡ true
 looping_fits = refl
 

@@ -3,10 +3,13 @@ mod ReadingExamples
 mod ValidExamples
 mod CoveredExamples
 mod WorkExamples
+pub mod RegisterUnits
 pub mod FittingTable
 pub mod OrderLists
 pub mod PlainMarks
 pub mod OrderExamples
 mod FlowExamples
+mod PlaceExamples
+pub mod ExactPlaces
 pub mod ExactSets
 pub mod NumberLists

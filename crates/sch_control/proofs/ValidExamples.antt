@@ -1,5 +1,5 @@
 -- Worked rows: for each test of validity what passes, and beside it what does not.
-use Rattle.std.proofs.Common.{◌≡◌, refl, ℕ, Bool, true, false, List, [], ◌∷◌, Option, Some, None, replicate}
+use Rattle.std.proofs.Common.{◌≡◌, refl, ℕ, Bool, true, false, List, [], ◌∷◌, map, Option, Some, None, replicate}
 use Rattle.std.specs.Prelude.{codes, not}
 use Rattle.std.specs.List.{list_all}
 use Rattle.sch_word.specs.declared.constant.Const.TheVariants.{Character, Nil, Symbol}
@@ -17,6 +17,8 @@ use Rattle.sch_control.specs.declared.operation.Operation.{Operation}
 use Rattle.sch_control.specs.declared.operation.Operation.TheVariants as operation
 use Rattle.sch_control.specs.declared.operation.Application.{Application}
 use Rattle.sch_control.specs.Tree.{Expression, perform, bind, sequence, branch, fix, call, tail_call, return, end, save, Source}
+use Rattle.sch_control.specs.BoundParts as bound_parts
+use Rattle.sch_control.specs.BoundParts.{application_parts, in_turn, operation_parts, parts_in_turn}
 use Rattle.sch_control.specs.Valid.{bound_in, numbered, only_reads, operand_shaped, operation_shaped, application_shaped, group_shaped, entry_shaped, each_part, source_field, operation_field, group_fields, fields_known, is_bare, in_scope, atom_known, global_known, closure_known, operation_known, application_known, group_known, Names, sites_of, sites_once, bound_known, library_known, statics_known, code_valid, is_valid}
 use Rattle.sch_control.proofs.Examples.{number, held_in, applied, form, lambda, program, shown}
 
@@ -332,6 +334,56 @@ ready = refl
 ready_not : fails statics_known (with_statics ((256 ∷ []) ∷ []) [] [] ∷ with_statics [] (Some 0 ∷ []) [] ∷ with_statics [] (Some 1 ∷ []) (1 ∷ []) ∷ []) ≡ true
 ready_not = refl
 
+-- ## What is bound
+
+-- the sites of what is done and called, each with its parts: what is read among the operands has its own
+sites_with_parts : (operation_parts (operation.Prim 3 Cons (number 1 ∷ operand.Read 4 Eq (Variable 2 ∷ Constant Nil ∷ []) ∷ []))
+    ≡ (3, number 1 ∷ operand.Read 4 Eq (Variable 2 ∷ Constant Nil ∷ []) ∷ []) ∷ (4, held_in 2 ∷ operand.Atom (Constant Nil) ∷ []) ∷ [])
+    × (operation_parts (operation.SetGlobal 0 (test_of 2)) ≡ (0, held_in 2 ∷ []) ∷ [])
+    × (application_parts (applied 1 (held_in 2) (test_of 3 ∷ [])) ≡ (1, held_in 2 ∷ test_of 3 ∷ []) ∷ (0, held_in 3 ∷ []) ∷ [])
+sites_with_parts = (refl, refl, refl)
+
+-- parts 1 and 0 are variables 4 and 6, which are bound in this order, others between them
+turns : list_all (in_turn (held_in 6 ∷ held_in 4 ∷ number 1 ∷ []) (1 ∷ 0 ∷ [])) ((4 ∷ 6 ∷ []) ∷ (3 ∷ 4 ∷ 5 ∷ 6 ∷ 7 ∷ []) ∷ []) ≡ true
+turns = refl
+
+-- bound in the other order, or one of them not at all
+turns_not : fails (in_turn (held_in 6 ∷ held_in 4 ∷ number 1 ∷ []) (1 ∷ 0 ∷ [])) ((6 ∷ 4 ∷ []) ∷ (4 ∷ []) ∷ (6 ∷ []) ∷ [] ∷ []) ≡ true
+turns_not = refl
+
+-- a part that is no variable, and one that there is not
+no_turns : fails (λ ks. in_turn (held_in 6 ∷ held_in 4 ∷ number 1 ∷ []) ks (4 ∷ 6 ∷ [])) ((2 ∷ []) ∷ (3 ∷ []) ∷ (1 ∷ 2 ∷ []) ∷ []) ≡ true
+no_turns = refl
+
+-- a call with its operator, part 0, bound behind its operand, part 1
+abbrev bound_call : (x y : ℕ) → Expression
+bound_call x y = bind 2 nothing_done (bind 3 nothing_done (call (applied 0 (held_in x) (held_in y ∷ [])) []))
+
+-- an expression in each place where one may stand, the others having no site
+abbrev around_it : Expression → List Expression
+around_it e =
+    let other = nothing_done in
+    e ∷ bind 4 e other ∷ bind 4 other e ∷ sequence e other ∷ sequence other e ∷ branch e other other ∷ branch other e other ∷ branch other other e
+    ∷ fix [] e ∷ return e ∷ end e ∷ save [] e ∷ []
+
+calls_in_turn : list_all (λ e. parts_in_turn ((1 ∷ 0 ∷ []) ∷ []) e []) (around_it (bound_call 3 2)) ≡ true
+calls_in_turn = refl
+
+calls_not_in_turn : fails (λ e. parts_in_turn ((1 ∷ 0 ∷ []) ∷ []) e []) (bound_call 3 3 ∷ around_it (bound_call 2 3)) ≡ true
+calls_not_in_turn = refl
+
+tail_calls_in_turn : map (λ e. parts_in_turn ((0 ∷ []) ∷ []) e []) (bind 2 nothing_done (tail_call (applied 0 (held_in 2) [])) ∷ tail_call (applied 0 (held_in 2) []) ∷ []) ≡ true ∷ false ∷ []
+tail_calls_in_turn = refl
+
+-- what is bound in an arm or in a value is out of sight behind it
+out_of_sight : fails (λ e. parts_in_turn ((0 ∷ []) ∷ []) e []) (bind 3 (bind 2 nothing_done nothing_done) calling ∷ sequence (bind 2 nothing_done nothing_done) calling
+    ∷ branch (bind 2 nothing_done nothing_done) calling nothing_done ∷ branch nothing_done (bind 2 nothing_done nothing_done) calling ∷ []) ≡ true
+out_of_sight = refl
+
+bound_rows : map (λ bound. bound_parts.parts_bound (program [] (form 4 (end (bound_call 3 2)) ∷ []) (2 ∷ []) (bound ∷ []))) ((1 ∷ 0 ∷ []) ∷ (0 ∷ 1 ∷ []) ∷ (1 ∷ []) ∷ (0 ∷ []) ∷ [] ∷ [])
+    ≡ true ∷ false ∷ true ∷ true ∷ true ∷ []
+bound_rows = refl
+
 -- ## Whole bodies and programs, each of which fails one test
 
 bodies_not : fails code_valid (form 2 (end (perform (operation.Operand (held_in 2)))) ∷ form 1 (end (perform (operation.Operand (number 1)))) ∷ form 2 nothing_done
@@ -339,5 +391,6 @@ bodies_not : fails code_valid (form 2 (end (perform (operation.Operand (held_in 
 bodies_not = refl
 
 programs_not : fails is_valid (program [] (form 2 (end nothing_done) ∷ []) [] [] ∷ two_shown 0 0 (1 ∷ []) ([] ∷ []) ∷ two_shown 0 1 (1 ∷ 1 ∷ []) ([] ∷ [])
+    ∷ program (None ∷ []) (form 4 (end (bound_call 3 2)) ∷ []) (2 ∷ []) ((0 ∷ 1 ∷ []) ∷ [])
     ∷ with_statics [] [] (0 ∷ []) ∷ with_statics ((256 ∷ []) ∷ []) [] [] ∷ []) ≡ true
 programs_not = refl

@@ -1,14 +1,15 @@
 -- Worked rows of what is counted of bodies.
 use Rattle.std.proofs.Common.{◌≡◌, ◌+◌, refl, true, false, [], ◌∷◌, map}
 use Rattle.sch_control.specs.declared.operation.Operation.TheVariants as operation
+use Rattle.sch_control.specs.RegisterWork.{code_copies, code_done, expression_copies, expression_done}
 use Rattle.sch_control.specs.Sizes.{bind_within, dropped_in, dropped_of, most_variables, tests_in, tests_of}
 use Rattle.sch_control.specs.Tree as tree
 use Rattle.sch_control.specs.Work.{code_work, codes_work, expression_work}
 use Rattle.sch_control.proofs.Examples.{around, looping, number, shown, taking}
 
 -- a form with a group of two closures of one field each (5), a call of one operand (9) that is bound (1) and shown (3);
--- and two procedures of one formal (4), each with a branch (3) over 3, 3 and 14
-looping_work : (map code_work looping.bodies) ≡ 18 ∷ 27 ∷ 27 ∷ []
+-- and two procedures of one formal (4), each with a branch (5) over 3, 3 and 14
+looping_work : (map code_work looping.bodies) ≡ 18 ∷ 29 ∷ 29 ∷ []
 looping_work = refl
 
 -- a cell (2), a closure (2), an assignment (3) and a call as above, in a sequence (1) and bound (3); and a procedure
@@ -17,6 +18,22 @@ taking_work = refl
 
 saved_work : expression_work (around []) ≡ 10
 saved_work = refl
+
+-- ## With variables in registers
+
+-- a form with a group of two (5), a call of one operand (8), what is shown (2) and its end (1); and two procedures (1), each
+-- with a branch (3) over 3, 3 and 12, in which is a tail call of one operand (7)
+looping_done : (map code_done looping.bodies) ≡ 16 ∷ 22 ∷ 22 ∷ []
+looping_done = refl
+
+-- a group of two, a call of one operand (4) with eight restored, which is bound (2); and two procedures of one formal, with
+-- eight saved at the entry and at each arm, two bindings and a tail call of one operand
+looping_copies : (map code_copies looping.bodies) ≡ 16 ∷ 34 ∷ 34 ∷ []
+looping_copies = refl
+
+-- a region is counted where it stands, by how many may be saved there, not by what is
+around_copies : (expression_copies (around []) ∷ expression_copies (around (0 ∷ 2 ∷ [])) ∷ expression_done (around []) ∷ []) ≡ 12 ∷ 12 ∷ 7 ∷ []
+around_copies = refl
 
 -- the form has five variables, its procedure four
 most_row : most_variables taking.bodies ≡ 5

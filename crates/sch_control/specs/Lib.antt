@@ -1,4 +1,5 @@
 pub mod AtomsAndSites
+pub mod BoundParts
 pub mod Covered
 pub mod CoveredOperands
 pub mod Fits
@@ -6,6 +7,7 @@ pub mod Meaning
 pub mod Operations
 pub mod OrderTable
 pub mod ProgramView
+pub mod RegisterWork
 pub mod Run
 pub mod Sizes
 pub mod SourceView

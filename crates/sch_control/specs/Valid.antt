@@ -21,6 +21,7 @@ use Rattle.sch_control.specs.declared.operation.Member.{Member}
 use Rattle.sch_control.specs.declared.operation.Operation.{Operation}
 use Rattle.sch_control.specs.declared.operation.Operation.TheVariants as operation
 use Rattle.sch_control.specs.declared.operation.Application.{Application}
+use Rattle.sch_control.specs.BoundParts.{parts_bound}
 use Rattle.sch_control.specs.AtomsAndSites.{operation_atoms, application_atoms, member_atoms, operation_sites, application_sites}
 use Rattle.sch_control.specs.Tree as tree
 use Rattle.sch_control.specs.Tree.{Expression, perform, bind, sequence, branch, fix, call, tail_call, return, end, save, Code}
@@ -397,4 +398,4 @@ statics_known p = statics_valid (length p.library) p.statics && statics_in_range
 
 -- all that the type of a program keeps beside the validity of its bodies
 abbrev pub is_valid : tree.Source → Bool
-is_valid p = all_known p && (sites_once p && (bound_known p && (library_known p && statics_known p)))
+is_valid p = all_known p && (sites_once p && (bound_known p && (parts_bound p && (library_known p && statics_known p))))

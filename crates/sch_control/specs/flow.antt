@@ -1,8 +1,10 @@
+pub mod Apart
 pub mod Bare
 pub mod Live
 pub mod LiveOrSaved
 pub mod LiveSets
 pub mod Middle
 pub mod Paths
+pub mod Places
 pub mod Regions
 pub mod RestoredView

@@ -1,6 +1,7 @@
 //! Programs of the language Control.
 
 ghost use Rattle.std.specs.Prelude.{IsTrue};
+ghost use Rattle.sch_control.specs.BoundParts.{parts_bound};
 ghost use Rattle.sch_control.specs.SourceView.{source_of};
 ghost use Rattle.sch_control.specs.Valid.{all_known, bound_known, library_known, sites_once, statics_known};
 
@@ -27,6 +28,8 @@ pub struct ControlProgram {
     ghost sited: { IsTrue (sites_once (source_of statics library bodies sites bound)) },
     // The parts that are bound are parts of their site, each once.
     ghost ordered: { IsTrue (bound_known (source_of statics library bodies sites bound)) },
+    // The parts that are bound are variables, and they are bound in the order in which they are listed.
+    ghost turns: { IsTrue (parts_bound (source_of statics library bodies sites bound)) },
     // The library's procedures have no free variables.
     ghost free: { IsTrue (library_known (source_of statics library bodies sites bound)) },
     // Symbols, literals and globals are few enough, name what there is and are in range.

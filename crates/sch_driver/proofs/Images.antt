@@ -17,10 +17,12 @@ use Rattle.sch_asm.specs.declared.error.AsmError.TheVariants.{TextTooLarge, Memo
 use Rattle.sch_asm.specs.declared.item.Item.{Item}
 use Rattle.sch_asm.specs.declared.item.Mark.{Mark}
 use Rattle.sch_asm.specs.Codes.{AreResolved, Codes, text_size, IsTooLarge}
+use Rattle.sch_asm.specs.Pieces.{shortest_size}
 use Rattle.sch_asm.specs.Data.{data_at}
 use Rattle.sch_asm.specs.Effects.{AreEffective}
 use Rattle.sch_asm.specs.Stands.{marks_at}
 use Rattle.sch_asm.specs.Views.{text_at}
+use Rattle.sch_asm.proofs.Skeleton.{at_most_sum, same_append, same_shortest}
 use Rattle.sch_asm.proofs.Tables.{size_append}
 use Rattle.sch_elf.specs.declared.image.Image.{Image}
 use Rattle.sch_elf.specs.Layout.{memory}
@@ -57,7 +59,7 @@ use Rattle.sch_driver.specs.Causes.{IsErrorOf, HasFrames, Means, text_bound}
 use Rattle.sch_driver.specs.FitsProgram.{FitsProgram}
 use Rattle.sch_driver.specs.Framed.{IsMarked, framed, framed_size}
 use Rattle.sch_driver.specs.Assembled.{IsAssembled, IsFrameSize, IsUnfit, assembled_bound, of_assembly, steps_of}
-use Rattle.sch_select.proofs.items.SameSize.{same_size}
+use Rattle.sch_select.proofs.items.SameSize.{same_pieces}
 use Rattle.sch_driver.proofs.Resolved.{resolved_many}
 use Rattle.sch_driver.proofs.Steps.{ends_later, steps_fit}
 
@@ -105,14 +107,13 @@ framed_parts p f statics library bodies words =
 
 -- the items of its frame program and the routines are as long as its text
 pub size_of_frames : (p : control.Source) (f : frames.Source) (heap depth : ℕ) (items routines : List Item) → items ≡ program_code f heap depth → routines ≡ routine_items → f ≡ framed p
-    → text_size (items ++ routines) ≡ framed_size p
+    → shortest_size (items ++ routines) ≡ framed_size p
 size_of_frames p f heap depth items routines made are is_framed =
-    ap (λ is. text_size (is ++ routines)) made
-    ∙ ap (λ rs. text_size (program_code f heap depth ++ rs)) are
-    ∙ size_append (program_code f heap depth) routine_items
-    ∙ ap (λ n. n + text_size routine_items) (same_size f heap depth)
-    ∙ sym (size_append (program_code f 0 0) routine_items)
-    ∙ ap (λ g. text_size (program_code g 0 0 ++ routine_items)) is_framed
+    ap (λ is. shortest_size (is ++ routines)) made
+    ∙ ap (λ rs. shortest_size (program_code f heap depth ++ rs)) are
+    ∙ same_shortest (program_code f heap depth ++ routine_items) (program_code f 0 0 ++ routine_items)
+    (same_append (program_code f heap depth) (program_code f 0 0) routine_items routine_items (same_pieces f heap depth) refl)
+    ∙ ap (λ g. shortest_size (program_code g 0 0 ++ routine_items)) is_framed
 
 -- what `select` says of the items and the data of a frame program
 pub record AreSelected (f : frames.Source) (heap depth : ℕ) (a : Asm) : Type 0 where
@@ -132,7 +133,7 @@ pub record AreSelected (f : frames.Source) (heap depth : ℕ) (a : Asm) : Type 0
 pub assembled : (p : control.Source) (f : frames.Source) (heap depth : ℕ) (a routines : Asm) (code : List Insn) (marks : List Mark) (words text : List ℕ) (zeros : ℕ) (image : Image) (instructions : ℕ)
     → instructions ≡ length code → SameRuns p f → f ≡ framed p → AreSelected f heap depth a → routines.items ≡ routine_items → IsFrameSize p f.words → frames_bytes f.words depth ≤ max_stack → length words ≡ 8 * length a.words
     → AreEffective routines.items → AreResolved (a.items ++ routines.items) a.words code marks words → AllValid code
-    → length (flat_map spelling code) ≤ max_text_size → length (flat_map spelling code) ≡ text_size (a.items ++ routines.items)
+    → length (flat_map spelling code) ≤ max_text_size → length (flat_map spelling code) ≡ shortest_size (a.items ++ routines.items)
     → length (flat_map spelling code) ≤ assembled_bound p → text ≡ flat_map spelling code → zeros ≡ a.zeros → IsProgramImage text words zeros image → IsAssembled p heap depth f.words instructions marks image
 assembled p f heap depth a routines code marks words text zeros image instructions counted same is_framed selected items frame stack long effective resolved valid short size bound text_is zeros_are lies =
     let many : suc (instructions_in a.items) ≤ instructions =
@@ -179,9 +180,13 @@ assembled p f heap depth a routines code marks words text zeros image instructio
 -- ## What is too large
 
 -- the text of a program's items and of the routines, by the work in its bodies
-pub text_within : (f : frames.Source) (a routines : List Item) (work : ℕ) → text_size a ≤ 2048 + (64 * program_work f + 8 * program_copies f) → program_work f ≤ work → program_copies f ≤ work
-    → text_size routines ≤ 1024 → text_size (a ++ routines) ≤ 65536 + 72 * work
-text_within f a routines work text done few short = let e = size_append a routines in omega (arith, e, text, done, few, short)
+pub text_within : (f : frames.Source) (a routines : List Item) (work : ℕ) → text_size a ≤ 2048 + (64 * program_work f + 8 * program_copies f) → 64 * program_work f + 8 * program_copies f ≤ 72 * work
+    → text_size routines ≤ 1024 → shortest_size (a ++ routines) ≤ 65536 + 72 * work
+text_within f a routines work text fits short = let e = size_append a routines in let m = at_most_sum (a ++ routines) in omega (arith, e, m, text, fits, short)
+
+-- with no more to do than units of work, and no more copies than these
+pub units_within : (f : frames.Source) (work : ℕ) → program_work f ≤ work → program_copies f ≤ work → 64 * program_work f + 8 * program_copies f ≤ 72 * work
+units_within f work done few = omega (arith, done, few)
 
 pub unfit : (p : control.Source) (words depth n : ℕ) (error : AsmError) → IsFrameSize p words → frames_bytes words depth ≤ max_stack → n ≡ framed_size p → n ≤ assembled_bound p → IsTooLarge n error
     → IsUnfit p depth (of_assembly error)

@@ -1,6 +1,8 @@
+mod PrintableListing
 mod ProgramFits
 pub mod Images
 mod PartErrors
+pub mod LibraryCount
 pub mod Meanings
 pub mod Resolved
 pub mod Steps

@@ -29,16 +29,21 @@ pub program_fits : (p : lang.Source) (q : ControlProgram) → source q ≡ contr
     → tests_of (source q).bodies ≡ measures.tests_of p → dropped_of (source q).bodies ≤ measures.dropped_of p → FitsProgram p (source q)
 program_fits p q made runs fits covered statics library names variables calls tests dropped = record {
   made = made;
-  valid = and_from _ _ q.known (and_from _ _ q.sited (and_from _ _ q.ordered (and_from _ _ q.free q.ready)));
+  valid = and_from _ _ q.known (and_from _ _ q.sited (and_from _ _ q.ordered (and_from _ _ q.turns (and_from _ _ q.free q.ready))));
   bodies = bodies_valid q.bodies;
   covered = covered;
   statics = statics;
   library = library;
   runs = runs;
-  fits = fits;
+  under = record {
+    orders = fits;
+    bound = q.turns;
+    runs = runs.same (given_table (source q)) fits;
+    calls = calls;
+    once = q.sited;
+    tests = tests;
+    dropped = dropped;
+    variables = variables;
+  };
   names = names;
-  variables = variables;
-  calls = calls;
-  tests = tests;
-  dropped = dropped;
 }

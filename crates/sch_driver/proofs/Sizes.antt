@@ -9,7 +9,7 @@ use Rattle.sch_driver.specs.Causes.{HasFrames, frame_words_of, text_bytes_of}
 use Rattle.sch_driver.specs.Compiled.{IsCompiled}
 use Rattle.sch_driver.specs.FitsProgram.{FitsProgram}
 use Rattle.sch_driver.specs.Framed.{framed_size}
-use Rattle.sch_driver.specs.declared.listing.Listing.{Listing}
+use Rattle.sch_listing.specs.declared.listing.Listing.{Listing}
 
 pub words_of : (p : tree.Source) (q : control.Source) → FitsProgram p q → most_words q.bodies ≡ frame_words_of p
 unfolding frame_words_of

@@ -20,7 +20,7 @@ use Rattle.sch_driver.specs.Assembled.{steps_of}
 use Rattle.sch_driver.specs.Causes.{Means, frame_bound, text_bound}
 use Rattle.sch_driver.specs.FitsProgram.{FitsProgram}
 use Rattle.sch_driver.specs.Framed.{IsMarked, framed, framed_size}
-use Rattle.sch_driver.specs.declared.listing.Listing.{Listing}
+use Rattle.sch_listing.specs.declared.listing.Listing.{Listing}
 use Rattle.sch_driver.specs.Headline.{IsProgram}
 
 -- What is listed is of one control program that fits the core program: the orders are those given for it, and of its

@@ -5,7 +5,8 @@ use Rattle.sch_word.specs.runs.ProgramLayout.{text_address}
 use Rattle.sch_word.specs.runs.Runs.{Run}
 use Rattle.sch_insn.specs.declared.insn.Insn.{Insn}
 use Rattle.sch_asm.specs.declared.item.Mark.{Mark}
-use Rattle.sch_asm.specs.Codes.{Codes, text_size}
+use Rattle.sch_asm.specs.Codes.{Codes}
+use Rattle.sch_asm.specs.Pieces.{shortest_size}
 use Rattle.sch_asm.specs.Stands.{marks_at}
 use Rattle.sch_elf.specs.declared.image.Image.{Image}
 use Rattle.sch_elf.specs.Layout.{memory}
@@ -23,10 +24,10 @@ use Rattle.sch_select.specs.Program.{program_code}
 abbrev pub framed : control.Source → frames.Source
 framed q = record { statics = q.statics; library = q.library; bodies = map slots_code q.bodies; words = most_words q.bodies }
 
--- The bytes of its text: those of its items and of the run-time routines. Its numbers and jumps have their long forms,
--- so that it is as long whatever the limits of heap and depth are.
+-- The bytes of its text: those of its items and of the run-time routines, with jumps as short as they can be. It is as
+-- long whatever the limits of heap and depth are.
 abbrev pub framed_size : control.Source → ℕ
-framed_size q = text_size (program_code (framed q) 0 0 ++ routine_items)
+framed_size q = shortest_size (program_code (framed q) 0 0 ++ routine_items)
 
 -- The marks of an image with this text are those of a frame program that has these runs, under limits of heap and
 -- depth: the text is that of its items and of the routines, and each mark stands at the instruction behind it. The machine of the image passes those that the frame program

@@ -1,4 +1,5 @@
 pub mod FitsProgram
+pub mod FitsUnder
 pub mod Framed
 pub mod Assembled
 pub mod Causes

@@ -5,6 +5,7 @@ ghost use Rattle.std.specs.Prelude.{◌≤◌, length, IfOk, IfErr};
 ghost use Rattle.sch_prelude.specs.LibraryText.{library_text};
 ghost use Rattle.sch_driver.specs.Causes.{IsErrorOf, max_source_size};
 ghost use Rattle.sch_driver.specs.Compiled.{IsCompiled};
+ghost use Rattle.sch_listing.specs.ListingText.{IsPrintable};
 
 mod assembly;
 mod error;
@@ -16,9 +17,10 @@ use crate::assembly::assemble;
 use crate::reading::read_program;
 pub use error::{CompileError, Part};
 pub use laws::a_text_has_one_meaning;
-pub use listing::{Compiled, Cycle, Listing};
+pub use listing::Compiled;
 use sch_control::given_orders;
 use sch_elf::write_image;
+use sch_listing::Listing;
 use sch_passes::control_program;
 use sch_prelude::library_text;
 use sch_word::{Limits, List};
@@ -35,6 +37,8 @@ pub fn compile(alloc: Global, text: &[u8], limits: Limits) -> Result<Compiled, C
     requires short { length text.now ≤ max_source_size }
     ensures compiled { IfOk result (λ c. IsCompiled library_text text.now limits.heap limits.depth c.file c.listing) }
     ensures refused { IfErr result (IsErrorOf library_text text.now limits.depth) }
+    // The listing has a text.
+    ensures printable { IfOk result (λ c. IsPrintable c.listing) }
 {
     let program = read_program(alloc, library_text(), text)?;
     let control = control_program(alloc, &program)?;

@@ -21,13 +21,13 @@ use sch_word::{Const, Fix, Mem, Primitive};
 use std::alloc::Global;
 
 /// The constant that the results of a primitive begin with.
-fn unit<'a>(at: u32, p: Primitive) -> Result<Sketch<'a>, Mem>
-    ensures { IfOk result (λ k. sketch_of k ≡ table.unit at p) }
+fn unit<'a>(at: u32, p: Primitive) -> Sketch<'a>
+    ensures { sketch_of result ≡ table.unit at p }
 {
-    match Fix::new(unit_of(p) as i128) {
-        Some(value) => Ok(constant(at, Const::Fixnum(value))),
-        None => Err(Mem),
-    }
+    let Some(value) = Fix::new(unit_of(p) as i128) else {
+        unreachable!();
+    };
+    constant(at, Const::Fixnum(value))
 }
 
 /// The number of operands before the last. A number past 32 bits is out of memory.
@@ -79,13 +79,9 @@ pub fn combination<'a>(
             let made = texts_only(alloc, Kind::Prim(p), at, items)?;
             Ok(made)
         }
-        Operation::Unit(p) => {
-            let made = unit(at, p)?;
-            Ok(made)
-        }
+        Operation::Unit(p) => Ok(unit(at, p)),
         Operation::UnitAnd(p) => {
-            let first = unit(at, p)?;
-            let made = and_texts(alloc, Kind::Prim(p), at, first, items)?;
+            let made = and_texts(alloc, Kind::Prim(p), at, unit(at, p), items)?;
             Ok(made)
         }
         Operation::Nested(p) => {

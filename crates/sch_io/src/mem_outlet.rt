@@ -2,6 +2,7 @@
 
 ghost use Rattle.std.specs.Prelude.{◌≡◌, ◌≤◌, ◌<◌, ◌+◌, ◌++◌, ◌↔◌, [], Some, None, drop, length, vec_len, vec_capacity, IfOk, IsSome, IfSome, IsTrue};
 ghost use Rattle.std.specs.Bool.{OnTrue, OnFalse};
+ghost use Rattle.std.specs.Option.{option_map};
 ghost use Rattle.sch_io.specs.Answers.{AnswersNext, IsRefusal, IsWithin, taken};
 ghost use Rattle.sch_io.specs.Counters.{Rose, raised};
 ghost use Rattle.sch_io.specs.Told.{Tells};
@@ -49,6 +50,13 @@ impl MemOutlet {
         ensures { IfSome (told_bytes self.now) (λ bytes. result.now ≡ bytes) }
     {
         &self.bytes
+    }
+
+    /// All that was taken, and `None` where the outlet has ceased to tell it.
+    pub fn told(&self) -> Option<&[u8]>
+        ensures { option_map (λ bytes. bytes.now) result ≡ told_bytes self.now }
+    {
+        if self.tells { Some(&self.bytes) } else { None }
     }
 
     // Uses up the answer that is held ready.

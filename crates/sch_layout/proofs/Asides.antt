@@ -53,7 +53,7 @@ target_by : (tail : Bool) (limit k : ℕ) → target tail limit (suc k) ≡ in_e
 target_by true limit k = ap (in_either (argument_register k)) (omega arith)
 target_by false limit k = refl
 
-targets_apart : (tail : Bool) (limit k m : ℕ) → k ≢ m → same_place (target tail limit k) (target tail limit m) ≡ false
+pub targets_apart : (tail : Bool) (limit k m : ℕ) → k ≢ m → same_place (target tail limit k) (target tail limit m) ≡ false
 targets_apart tail limit zero zero n = absurd (n refl)
 targets_apart tail limit zero (suc m) n = ap (same_place (Reg 14)) (target_by tail limit m) ∙ by (argument_register m) refl where
   by : (o : Option ℕ) → argument_register m ≡ o → same_place (Reg 14) (in_either o (first_slot tail limit + argument_slot m)) ≡ false
@@ -74,11 +74,11 @@ targets_apart tail limit (suc k) (suc m) n =
 
 -- ## Moves in two parts
 
-both_moved : (t : Store) (xs ys : List Move) (c : Contents) → moved t (xs ++ ys) c ≡ moved t ys (moved t xs c)
+pub both_moved : (t : Store) (xs ys : List Move) (c : Contents) → moved t (xs ++ ys) c ≡ moved t ys (moved t xs c)
 both_moved t [] ys c = refl
 both_moved t (m ∷ xs) ys c = both_moved t xs ys (moved_one t m c)
 
-both_carry : (t : Store) (os : List (Operand Place)) (start : Contents) (xs ys : List Move) (c : Contents) → Carries t os start c xs → Carries t os start (moved t xs c) ys → Carries t os start c (xs ++ ys)
+pub both_carry : (t : Store) (os : List (Operand Place)) (start : Contents) (xs ys : List Move) (c : Contents) → Carries t os start c xs → Carries t os start (moved t xs c) ys → Carries t os start c (xs ++ ys)
 both_carry t os start [] ys c h k = k
 both_carry t os start (m ∷ xs) ys c h k = (h.0, both_carry t os start xs ys (moved_one t m c) h.1 k)
 
@@ -155,7 +155,7 @@ module _ (t : Store) (base number : ℕ) (test : Place → Bool) (apart : (p : P
         (onward_arrives count (suc k) (omega (arith, le)) _ i (omega (arith, lt))
         ∙ ap (λ z. cond z (c (Slot (base + k))) (c (Slot (base + (suc k + i))))) (clear k (suc k + i) (omega arith) (omega (arith, le, lt))))
 
-there_is : {A : Type 0} (xs : List A) (k : ℕ) → k < length xs → (x : A) × (slice_get xs k ≡ Some x)
+pub there_is : {A : Type 0} (xs : List A) (k : ℕ) → k < length xs → (x : A) × (slice_get xs k ≡ Some x)
 there_is [] k lt = absurd (omega (arith, lt))
 there_is (x ∷ xs) zero lt = (x, refl)
 there_is (x ∷ xs) (suc k) lt = there_is xs k (omega (arith, lt))

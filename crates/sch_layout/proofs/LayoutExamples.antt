@@ -377,7 +377,7 @@ looping = program []
     (bind 3 (call (applied 0 (held_in 2) (number 3 ∷ number 1 ∷ number 2 ∷ number 3 ∷ number 4 ∷ number 5 ∷ operand.Atom (Constant (Boolean true)) ∷ [])) []) (end (perform (operation.Prim 1 Put (held_in 3 ∷ []))))))
     ∷ lambda 7 0 10 (branch (perform (operation.Prim 2 Equal (held_in 2 ∷ number 0 ∷ []))) (return (perform (operation.Operand (held_in 8))))
     (bind 9 (perform (operation.Prim 3 Subtract (held_in 2 ∷ number 1 ∷ []))) (tail_call (applied 4 (held_in 1) (held_in 9 ∷ held_in 3 ∷ held_in 4 ∷ held_in 5 ∷ held_in 6 ∷ held_in 7 ∷ held_in 8 ∷ [])))))
-    ∷ []) (8 ∷ 1 ∷ 2 ∷ 2 ∷ 8 ∷ []) ([] ∷ (0 ∷ []) ∷ [] ∷ [] ∷ (0 ∷ []) ∷ [])
+    ∷ []) (8 ∷ 1 ∷ 2 ∷ 2 ∷ 8 ∷ []) ([] ∷ (0 ∷ []) ∷ [] ∷ [] ∷ (1 ∷ []) ∷ [])
 
 looping_runs : Both looping 1 4 (seen (codes "#t") 4 16 (ended 0))
 looping_runs = (refl, refl)

@@ -1,4 +1,4 @@
-mod Asides
+pub mod Asides
 pub mod CarriedCopies
 pub mod does
 pub mod EntryCopies

@@ -9,6 +9,7 @@ use Rattle.sch_word.proofs.facts.Booleans.{false_true}
 use Rattle.sch_word.specs.declared.place.Place.{Place}
 use Rattle.sch_word.specs.declared.place.Place.TheVariants.{Reg, Slot}
 use Rattle.sch_word.specs.trees.NumberSets.{has}
+use Rattle.sch_control.specs.flow.Apart.{EachHas}
 use Rattle.sch_control.specs.declared.body.Entry.{Entry}
 use Rattle.sch_control.specs.declared.operation.Application.{Application}
 use Rattle.sch_control.specs.declared.operation.Atom.{Atom}
@@ -26,18 +27,17 @@ use Rattle.sch_frames.proofs.FramePlaces.{slot_of}
 use Rattle.sch_layout.specs.Asides.{aside_each, onward_each}
 use Rattle.sch_layout.specs.BodyLayout.{Plan, arrived, arguments_at, atoms_at, in_either, operand_at, operands_at, target}
 use Rattle.sch_layout.specs.Laws.{AtomsHave, EntersSlots, Uses}
-use Rattle.sch_control.specs.flow.Live.{named, known, ByResult, AfterValue, Across, Later, Mentions, Perhaps, nothing_later}
-use Rattle.sch_control.specs.flow.LiveOrSaved.{LiveOrSaved}
+use Rattle.sch_control.specs.flow.Live.{named, known, ByResult, AfterValue, Across, Later, Live, Mentions, Perhaps, nothing_later}
 use Rattle.sch_layout.specs.Moves.{EachMove, Move, is_own, reads_own, reads_own_atom}
-use Rattle.sch_layout.specs.OwnSlots.{OwnSlotsPlaced, SavesLow, is_late, most_operands, own_place, own_slots}
-use Rattle.sch_layout.specs.SharedPlaces.{Alone, Arrives, Brings, EachHas, FreeInCall, FreeInTail, HomeApart, Homes, Placed, entered_with}
+use Rattle.sch_layout.specs.OwnSlots.{OwnSlotsPlaced, SavesUnbound, is_late, most_operands, own_place, own_slots}
+use Rattle.sch_layout.specs.SharedPlaces.{Alone, Arrives, Brings, FreeInCall, FreeInTail, HomeApart, Homes, Placed, entered_with}
 use Rattle.sch_layout.proofs.Asides.{aside_shuffles}
 use Rattle.sch_layout.proofs.does.MovesDo.{EachReads, atom_tested}
 use Rattle.sch_layout.proofs.does.OperationsFollow.{have_left, have_right}
 
 -- ## What is live is below the number of variables
 
-mentioned : (P : ℕ → Type 0) (atoms : List (Atom ℕ)) → AtomsHave P atoms → (x : ℕ) → Mentions x atoms → P x
+pub mentioned : (P : ℕ → Type 0) (atoms : List (Atom ℕ)) → AtomsHave P atoms → (x : ℕ) → Mentions x atoms → P x
 mentioned P [] h x m = absurd (cc)
 mentioned P (Constant c ∷ atoms) h x m = mentioned P atoms h.1 x m
 mentioned P (Literal n ∷ atoms) h x m = mentioned P atoms h.1 x m
@@ -57,36 +57,35 @@ module _ (n : ℕ) (some : 0 < n) (x : ℕ) where
   abbrev Low : ℕ → Type 0
   Low y = y < n
 
-  perhaps_low : (L : Bool → Type 0) → ((t : Bool) → L t → x < n) → Perhaps L → x < n
+  pub perhaps_low : (L : Bool → Type 0) → ((t : Bool) → L t → x < n) → Perhaps L → x < n
   perhaps_low L h (inl l) = h true l
   perhaps_low L h (inr l) = h false l
 
-  live_low : (e : Expression) (L : Bool → Type 0) → Uses Low e → SavesLow n e → ((t : Bool) → L t → x < n) → LiveOrSaved x e L → x < n
-  live_low (perform o) L u s h (inl m) = mentioned Low (operation_atoms o) u x m
-  live_low (perform o) L u s h (inr l) = perhaps_low L h (after_perhaps o L l)
-  live_low (bind y a b) L u s h l = live_low a (λ t. Across y x (LiveOrSaved x b L)) u.1.0 s.0 (λ t k. live_low b L u.1.1 s.1 h k.1) l
-  live_low (sequence a b) L u s h l = live_low a (λ t. LiveOrSaved x b L) u.0 s.0 (λ t k. live_low b L u.1 s.1 h k) l
-  live_low (branch a b c) L u s h l = live_low a (λ t. MatchBool t (LiveOrSaved x b L) (LiveOrSaved x c L)) u.0 s.0 (λ t k. by t (live_low b L u.1.0 s.1.0 h) (live_low c L u.1.1 s.1.1 h) k) l where
-    by : (t : Bool) → (LiveOrSaved x b L → x < n) → (LiveOrSaved x c L → x < n) → MatchBool t (LiveOrSaved x b L) (LiveOrSaved x c L) → x < n
+  pub live_low : (e : Expression) (L : Bool → Type 0) → Uses Low e → ((t : Bool) → L t → x < n) → Live x e L → x < n
+  live_low (perform o) L u h (inl m) = mentioned Low (operation_atoms o) u x m
+  live_low (perform o) L u h (inr l) = perhaps_low L h (after_perhaps o L l)
+  live_low (bind y a b) L u h l = live_low a (λ t. Across y x (Live x b L)) u.1.0 (λ t k. live_low b L u.1.1 h k.1) l
+  live_low (sequence a b) L u h l = live_low a (λ t. Live x b L) u.0 (λ t k. live_low b L u.1 h k) l
+  live_low (branch a b c) L u h l = live_low a (λ t. MatchBool t (Live x b L) (Live x c L)) u.0 (λ t k. by t (live_low b L u.1.0 h) (live_low c L u.1.1 h) k) l where
+    by : (t : Bool) → (Live x b L → x < n) → (Live x c L → x < n) → MatchBool t (Live x b L) (Live x c L) → x < n
     by true f g k = f k
     by false f g k = g k
-  live_low (fix members e) L u s h l = by l.1 (live_low e L u.1.1 s h) where
-    by : Mentions x (member_atoms members) ⊎ LiveOrSaved x e L → (LiveOrSaved x e L → x < n) → x < n
+  live_low (fix members e) L u h l = by l.1 (live_low e L u.1.1 h) where
+    by : Mentions x (member_atoms members) ⊎ Live x e L → (Live x e L → x < n) → x < n
     by (inl m) more = mentioned Low (member_atoms members) u.1.0 x m
     by (inr k) more = more k
-  live_low (call a restores) L u s h (inl m) = mentioned Low (application_atoms a) u x m
-  live_low (call a restores) L u s h (inr l) = perhaps_low L h l
-  live_low (tail_call a) L u s h (inl e) = omega (arith, e, some)
-  live_low (tail_call a) L u s h (inr m) = mentioned Low (application_atoms a) u x m
-  live_low (return e) L u s h l = live_low e (λ t. x ≡ 0) u s (λ t i. omega (arith, i, some)) l
-  live_low (end e) L u s h l = live_low e (λ t. ⊥) u s (λ t i. absurd i) l
-  live_low (save saves e) L u s h (inl m) = s.0 x m
-  live_low (save saves e) L u s h (inr l) = live_low e L u s.1 h l
+  live_low (call a restores) L u h (inl m) = mentioned Low (application_atoms a) u x m
+  live_low (call a restores) L u h (inr l) = perhaps_low L h l
+  live_low (tail_call a) L u h (inl e) = omega (arith, e, some)
+  live_low (tail_call a) L u h (inr m) = mentioned Low (application_atoms a) u x m
+  live_low (return e) L u h l = live_low e (λ t. x ≡ 0) u (λ t i. omega (arith, i, some)) l
+  live_low (end e) L u h l = live_low e (λ t. ⊥) u (λ t i. absurd i) l
+  live_low (save saves e) L u h l = live_low e L u h l
 
 -- ## Calls have few operands
 
 -- each call has no more than this
-abbrev Few : ℕ → Expression → Type 0
+abbrev pub Few : ℕ → Expression → Type 0
 Few most (perform o) = Unit {0}
 Few most (bind x a b) = Few most a × Few most b
 Few most (sequence a b) = Few most a × Few most b
@@ -98,7 +97,7 @@ Few most (return e) = Few most e
 Few most (end e) = Few most e
 Few most (save saves e) = Few most e
 
-few_is : (most : ℕ) (e : Expression) → most_operands e ≤ most → Few most e
+pub few_is : (most : ℕ) (e : Expression) → most_operands e ≤ most → Few most e
 few_is most (perform o) le = tt
 few_is most (bind x a b) le =
     let l = le-max_left (most_operands a) (most_operands b) in let r = le-max_right (most_operands a) (most_operands b) in
@@ -339,27 +338,31 @@ module _ (formals base number limit most : ℕ) (fit : formals ≤ 6 + base) (wi
   each_free live [] = tt
   each_free live (x ∷ xs) = (free live x, each_free live xs)
 
-  own_placed : (e : Expression) (inside : ℕ → Bool) (L : Later) → Uses (λ x. x < number) e → SavesLow number e → Few most e → ((x : ℕ) (t : Bool) → L x t → x < number) → Placed plan e inside L
+  each_inside : (inside : ℕ → Bool) (live : ℕ → Type 0) (xs : List ℕ) → EachHas (λ x. inside x ≡ true) xs → EachHas (λ x. (inside x ≡ true) × Alone plan live x) xs
+  each_inside inside live [] h = tt
+  each_inside inside live (x ∷ xs) h = ((h.0, free live x), each_inside inside live xs h.1)
+
+  own_placed : (e : Expression) (inside : ℕ → Bool) (L : Later) → Uses (λ x. x < number) e → SavesUnbound e inside → Few most e → ((x : ℕ) (t : Bool) → L x t → x < number) → Placed plan e inside L
   own_placed (perform o) inside L u s few low = tt
   own_placed (bind y a b) inside L u s few low =
-      (free _ y, (own_placed a inside _ u.1.0 s.0 few.0 (λ x t l. live_low number some x b (L x) u.1.1 s.1 (low x) l.1), own_placed b inside L u.1.1 s.1 few.1 low))
+      (free _ y, (own_placed a inside _ u.1.0 s.0 few.0 (λ x t l. live_low number some x b (L x) u.1.1 (low x) l.1), own_placed b inside L u.1.1 s.1 few.1 low))
   own_placed (sequence a b) inside L u s few low =
-      (own_placed a inside _ u.0 s.0 few.0 (λ x t l. live_low number some x b (L x) u.1 s.1 (low x) l), own_placed b inside L u.1 s.1 few.1 low)
+      (own_placed a inside _ u.0 s.0 few.0 (λ x t l. live_low number some x b (L x) u.1 (low x) l), own_placed b inside L u.1 s.1 few.1 low)
   own_placed (branch a b c) inside L u s few low = (
-    own_placed a inside _ u.0 s.0 few.0 (λ x t l. by x t (live_low number some x b (L x) u.1.0 s.1.0 (low x)) (live_low number some x c (L x) u.1.1 s.1.1 (low x)) l),
+    own_placed a inside _ u.0 s.0 few.0 (λ x t l. by x t (live_low number some x b (L x) u.1.0 (low x)) (live_low number some x c (L x) u.1.1 (low x)) l),
     (own_placed b inside L u.1.0 s.1.0 few.1.0 low, own_placed c inside L u.1.1 s.1.1 few.1.1 low),
   ) where
-    by : (x : ℕ) (t : Bool) → (LiveOrSaved x b (L x) → x < number) → (LiveOrSaved x c (L x) → x < number) → MatchBool t (LiveOrSaved x b (L x)) (LiveOrSaved x c (L x)) → x < number
+    by : (x : ℕ) (t : Bool) → (Live x b (L x) → x < number) → (Live x c (L x) → x < number) → MatchBool t (Live x b (L x)) (Live x c (L x)) → x < number
     by x true f g k = f k
     by x false f g k = g k
   own_placed (fix members e) inside L u s few low = (each_free _ (member_variables members), own_placed e inside L u.1.1 s few low)
   own_placed (call a restores) inside L u s few low =
       let behind : (x : ℕ) → Perhaps (L x) → x < number = λ x l. perhaps_low number some x (L x) (low x) l in
-      (own_brings false (FreeInCall plan (λ x. Perhaps (L x))) (free_in_call (λ x. Perhaps (L x)) behind) a few u, (λ x l. own_inside x (behind x l), each_free _ restores))
+      (own_brings false (FreeInCall plan (λ x. Perhaps (L x))) (free_in_call (λ x. Perhaps (L x)) behind) a few u, (λ x l. own_inside x (behind x l), each_inside inside _ restores s))
   own_placed (tail_call a) inside L u s few low = (own_brings true (FreeInTail plan) (λ j le. refl) a few u, omega (arith, few, wide))
   own_placed (return e) inside L u s few low = own_placed e inside _ u s few (λ x t i. omega (arith, i, some))
   own_placed (end e) inside L u s few low = own_placed e inside _ u s few (λ x t i. absurd i)
-  own_placed (save saves e) inside L u s few low = own_placed e _ L u s.1 few low
+  own_placed (save saves e) inside L u s few low = (λ x h b l. false_true b (s.0 x h), own_placed e _ L u s.1 few low)
 
 pub own_slots_placed : OwnSlotsPlaced
 own_slots_placed entry e base number limit u s some fit wide = (
@@ -370,9 +373,9 @@ own_slots_placed entry e base number limit u s some fit wide = (
   },
   enter entry fit,
 ) where
-  arrive : (entry : Option Entry) → formals_of entry ≤ 6 + base → Arrives (own_slots (formals_of entry) base number limit) (λ x. LiveOrSaved x e (nothing_later x)) (entered_with entry)
+  arrive : (entry : Option Entry) → formals_of entry ≤ 6 + base → Arrives (own_slots (formals_of entry) base number limit) (λ x. Live x e (nothing_later x)) (entered_with entry)
   arrive None fit = λ y ly s x lx l n. absurd (omega (arith, ly))
-  arrive (Some i) fit = own_arrive i.formals base number limit (most_operands e) fit wide some (λ x. LiveOrSaved x e (nothing_later x))
+  arrive (Some i) fit = own_arrive i.formals base number limit (most_operands e) fit wide some (λ x. Live x e (nothing_later x))
 
   enter : (entry : Option Entry) → formals_of entry ≤ 6 + base → EntersSlots (own_slots (formals_of entry) base number limit) (entered_with entry)
   enter None fit = λ x lt s i. absurd (omega (arith, lt))

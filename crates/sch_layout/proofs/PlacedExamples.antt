@@ -16,9 +16,11 @@ use Rattle.sch_control.specs.declared.operation.Atom.TheVariants.{Variable}
 use Rattle.sch_control.specs.declared.operation.Operand.{Operand}
 use Rattle.sch_control.specs.declared.operation.Operand.TheVariants as operand
 use Rattle.sch_control.specs.declared.operation.Operation.TheVariants as operation
-use Rattle.sch_control.specs.Meaning.{Callee, do_body, no_region}
+use Rattle.sch_control.specs.Meaning.{Callee, binds, do_body, no_region}
 use Rattle.sch_control.specs.Operations.{Procedure, operand_value}
 use Rattle.sch_control.specs.Run as control_run
+use Rattle.sch_word.specs.trees.NumberSets.{has}
+use Rattle.sch_word.proofs.facts.Booleans.{false_true}
 use Rattle.sch_control.specs.Tree.{Expression, perform, bind, call, return, save}
 use Rattle.sch_control.proofs.Examples.{applied, held_in}
 use Rattle.sch_frames.specs.declared.instruction.Instruction.TheVariants.{Do, Store, Copy, Call, Return, Mark}
@@ -26,11 +28,10 @@ use Rattle.sch_frames.specs.Does.{EndsAs, CalleesFollow, world}
 use Rattle.sch_frames.specs.Meaning.{is_slot, same_place, execute_each, beginning}
 use Rattle.sch_layout.specs.BodyLayout.{Plan, arguments_at, entering, lay, target, unmarked_reading}
 use Rattle.sch_layout.specs.Moves.{Contents, Move, is_own, moved}
-use Rattle.sch_control.specs.flow.Live.{nothing_later}
-use Rattle.sch_control.specs.flow.LiveOrSaved.{LiveOrSaved}
+use Rattle.sch_control.specs.flow.Live.{Live, nothing_later}
 use Rattle.sch_layout.specs.SharedPlaces.{Arrives, Brings, FreeInCall, HomeApart, PlacedBody}
 use Rattle.sch_layout.proofs.MoveExamples.{given_by}
-use Rattle.sch_layout.proofs.SharedExamples.{two_formals}
+use Rattle.sch_layout.proofs.SharedExamples.{each_at, two_formals}
 use Rattle.sch_layout.proofs.does.PlacedBodies.{body_does}
 
 abbrev place : ℕ → Place
@@ -79,8 +80,11 @@ home (suc (suc (suc (suc (suc x))))) s = absurd (cc)
 abbrev after : Expression
 after = return (perform (operation.Prim 1 Subtract (held_in 4 ∷ held_in 3 ∷ [])))
 
+abbrev saved_round : Expression
+saved_round = bind 4 (call (applied 0 (held_in 2) (held_in 3 ∷ [])) (0 ∷ 3 ∷ [])) after
+
 abbrev body : Expression
-body = save (0 ∷ 3 ∷ []) (bind 4 (call (applied 0 (held_in 2) (held_in 3 ∷ [])) (0 ∷ 3 ∷ [])) after)
+body = save (0 ∷ 3 ∷ []) saved_round
 
 -- nothing is brought anywhere
 comes : (live : ℕ → Type 0) → Arrives plan live 4
@@ -112,7 +116,7 @@ brings live = record {
   arrives t start (suc (suc k)) o e = absurd (cc)
 
 -- behind the call f is no longer live
-value_alone : (x : ℕ) → LiveOrSaved x after (nothing_later x) → x ≢ 4 → same_place (place x) (Reg 3) ≡ false
+value_alone : (x : ℕ) → Live x after (nothing_later x) → x ≢ 4 → same_place (place x) (Reg 3) ≡ false
 value_alone zero l n = refl
 value_alone (suc zero) l n = refl
 value_alone (suc (suc zero)) (inl e) n = absurd (cc)
@@ -141,9 +145,12 @@ third_alone (suc (suc (suc (suc (suc x))))) n = refl
 is_placed : PlacedBody plan two_formals body
 is_placed = record {
   homes = record { link = refl; home = home };
-  arrives = comes (λ x. LiveOrSaved x body (nothing_later x));
-  placed = (value_alone, ((brings _, (λ x l. own x, (λ x l n. link_alone x n, (λ x l n. third_alone x n, tt)))), tt));
-}
+  arrives = comes (λ x. Live x body (nothing_later x));
+  placed = (fresh, (value_alone, ((brings _, (λ x l. own x, ((refl, λ x l n. link_alone x n), ((refl, λ x l n. third_alone x n), tt)))), tt)));
+} where
+  -- what is saved is bound before
+  fresh : (x : ℕ) → has x (0 ∷ 3 ∷ []) ≡ true → binds x saved_round ≡ true → Live x body (nothing_later x) → ⊥
+  fresh x h b l = false_true b (each_at (λ x. binds x saved_round ≡ false) (0 ∷ 3 ∷ []) (refl, (refl, tt)) x h)
 
 -- so its layout does what it does, from where the closure and the arguments arrive
 its_layout_does : (callee callee' : Callee) → CalleesFollow callee callee'

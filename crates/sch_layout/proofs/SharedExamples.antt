@@ -1,7 +1,8 @@
 -- Worked rows: variables that share a place, and formals that stay where they arrive.
-use Rattle.std.proofs.Common.{◌≡◌, ◌≢◌, refl, ap, arith, ℕ, zero, suc, ◌+◌, ◌<◌, ◌≤◌, true, false, List, [], ◌∷◌, Option, Some, None, pos, ◌⊎◌, inl, inr}
-use Rattle.std.specs.Prelude.{cond, nat_eq, slice_get}
-use Rattle.std.proofs.lemmas.Bool.{lt-ltb, ne_eqb}
+use Rattle.std.proofs.Common.{◌≡◌, ◌≢◌, refl, ap, arith, ℕ, zero, suc, ◌+◌, ◌<◌, ◌≤◌, true, false, List, [], ◌∷◌, Option, Some, None, pos, ◌⊎◌, inl, inr, subst, sym}
+use Rattle.std.specs.Prelude.{Bool, ◌||◌, cond, nat_eq, slice_get}
+use Rattle.std.proofs.lemmas.Bool.{eqb-true, lt-ltb, ne_eqb}
+use Rattle.sch_word.proofs.facts.Booleans.{false_true}
 use Rattle.sch_word.specs.declared.constant.Const.TheVariants.{Fixnum}
 use Rattle.sch_word.specs.declared.place.Place.{Place}
 use Rattle.sch_word.specs.declared.place.Place.TheVariants.{Reg, Slot}
@@ -9,14 +10,18 @@ use Rattle.sch_word.specs.declared.primitive.Primitive.TheVariants.{Subtract}
 use Rattle.sch_word.specs.values.Values.{Value, constant_value}
 use Rattle.sch_word.specs.runs.Computation.{State}
 use Rattle.sch_word.specs.runs.Store.{Store as Memory}
+use Rattle.sch_control.specs.flow.Apart.{EachHas}
 use Rattle.sch_control.specs.declared.body.Entry.{Entry}
 use Rattle.sch_word.specs.declared.mark.MarkKind.{MarkKind}
 use Rattle.sch_word.specs.declared.mark.MarkKind.TheVariants as mark
 use Rattle.sch_control.specs.declared.operation.Member.{Member}
 use Rattle.sch_control.specs.declared.operation.Operand.{Operand}
 use Rattle.sch_control.specs.declared.operation.Operation.TheVariants as operation
-use Rattle.sch_control.specs.Meaning.{Callee, Environment, do_body, falls_off, no_region, nothing}
+use Rattle.sch_control.specs.Meaning.{Callee, Environment, binds, do_body, falls_off, no_region, nothing}
+use Rattle.sch_control.specs.AtomsAndSites.{member_atoms}
 use Rattle.sch_control.specs.Operations.{Procedure, operand_value}
+use Rattle.sch_control.specs.Valid.{member_variables}
+use Rattle.sch_word.specs.trees.NumberSets.{has}
 use Rattle.sch_control.specs.Tree.{Expression, perform, bind, fix, call, return, save}
 use Rattle.sch_control.proofs.Examples.{applied, held_in, number}
 use Rattle.sch_frames.specs.declared.instruction.Instruction.TheVariants.{Do, Store, Copy, Call, Return, Mark}
@@ -25,13 +30,20 @@ use Rattle.sch_frames.specs.Meaning.{Frame, is_slot, same_place, execute_each}
 use Rattle.sch_layout.specs.BodyLayout.{Plan, arguments_at, entering, lay, target, unmarked_reading}
 use Rattle.sch_layout.specs.Asides.{aside_moves}
 use Rattle.sch_layout.specs.Moves.{Contents, is_own, moved}
-use Rattle.sch_control.specs.flow.Live.{nothing_later}
-use Rattle.sch_control.specs.flow.LiveOrSaved.{LiveOrSaved, Grouped}
+use Rattle.sch_control.specs.flow.Live.{Live, Mentions, nothing_later}
 use Rattle.sch_layout.specs.SharedPlaces.{Arrives, Brings, FreeInCall, HomeApart, Homes, Placed}
-use Rattle.sch_layout.proofs.does.LayoutDoes.{same}
+use Rattle.sch_layout.proofs.does.LayoutDoes.{Kept, same}
 use Rattle.sch_layout.proofs.does.PlacesAgree.{Agrees}
 use Rattle.sch_layout.proofs.LayoutExamples.{begun, given, gives_first, holding, variables}
 use Rattle.sch_layout.proofs.MoveExamples.{given_by}
+
+-- what is so of each number of a list is so of one that is in it
+pub each_at : (P : ℕ → Type 0) (xs : List ℕ) → EachHas P xs → (x : ℕ) → has x xs ≡ true → P x
+each_at P [] h x i = absurd (cc)
+each_at P (y ∷ ys) h x i = by (nat_eq x y) refl i (λ k. each_at P ys h.1 x k) where
+  by : (t : Bool) → nat_eq x y ≡ t → (t || has x ys) ≡ true → (has x ys ≡ true → P x) → P x
+  by true j k more = subst P (sym (eqb-true x y j)) h.0
+  by false j k more = more k
 
 -- ## Variables 2 and 3 live in one register, RBX
 
@@ -72,10 +84,13 @@ sharing_homes = record { link = refl; home = home } where
   home (suc (suc (suc (suc (suc x))))) s = absurd (cc)
 
 -- Variable 2 is read for the last time by the call whose value variable 3 is.
+abbrev saved_round : Expression
+saved_round =
+    bind 2 (perform (operation.Operand (number 5)))
+    (bind 3 (call (applied 0 (held_in 4) (held_in 2 ∷ [])) (0 ∷ [])) (return (perform (operation.Operand (held_in 3)))))
+
 abbrev one_after_the_other : Expression
-one_after_the_other =
-    save (0 ∷ []) (bind 2 (perform (operation.Operand (number 5)))
-    (bind 3 (call (applied 0 (held_in 4) (held_in 2 ∷ [])) (0 ∷ [])) (return (perform (operation.Operand (held_in 3))))))
+one_after_the_other = save (0 ∷ []) saved_round
 
 own : (x : ℕ) → is_own 40 (in_one x) ≡ true
 own zero = refl
@@ -87,7 +102,7 @@ own (suc (suc (suc (suc (suc x))))) = refl
 
 -- Its two arguments are set aside in the slots 1 and 2, where no variable lives and none is saved.
 abbrev behind : ℕ → Type 0
-behind x = ((x ≢ 3) × LiveOrSaved x (return (perform (operation.Operand (held_in 3)))) (nothing_later x)) ⊎ ((x ≢ 3) × LiveOrSaved x (return (perform (operation.Operand (held_in 3)))) (nothing_later x))
+behind x = ((x ≢ 3) × Live x (return (perform (operation.Operand (held_in 3)))) (nothing_later x)) ⊎ ((x ≢ 3) × Live x (return (perform (operation.Operand (held_in 3)))) (nothing_later x))
 
 shared_brings : Brings sharing false (FreeInCall sharing behind) (applied 0 (held_in 4) (held_in 2 ∷ []))
 shared_brings = record {
@@ -118,8 +133,12 @@ shared_brings = record {
 
 -- so the plan is one for it
 shared_placed : Placed sharing one_after_the_other no_region nothing_later
-shared_placed = (second, (tt, (third, ((shared_brings, (λ x l. own x, (link, tt))), tt)))) where
-  link : (x : ℕ) → ((x ≢ 3) × LiveOrSaved x (return (perform (operation.Operand (held_in 3)))) (nothing_later x)) ⊎ ((x ≢ 3) × LiveOrSaved x (return (perform (operation.Operand (held_in 3)))) (nothing_later x))
+shared_placed = (fresh, (second, (tt, (third, ((shared_brings, (λ x l. own x, ((refl, link), tt))), tt))))) where
+  -- the return address is not bound
+  fresh : (x : ℕ) → has x (0 ∷ []) ≡ true → binds x saved_round ≡ true → Live x one_after_the_other (nothing_later x) → ⊥
+  fresh x h b l = false_true b (each_at (λ x. binds x saved_round ≡ false) (0 ∷ []) (refl, tt) x h)
+
+  link : (x : ℕ) → ((x ≢ 3) × Live x (return (perform (operation.Operand (held_in 3)))) (nothing_later x)) ⊎ ((x ≢ 3) × Live x (return (perform (operation.Operand (held_in 3)))) (nothing_later x))
       → x ≢ 0 → same_place (in_one x) (Reg 15) ≡ false
   link zero l n = absurd (n refl)
   link (suc zero) l n = refl
@@ -128,7 +147,7 @@ shared_placed = (second, (tt, (third, ((shared_brings, (λ x l. own x, (link, tt
   link (suc (suc (suc (suc zero)))) l n = refl
   link (suc (suc (suc (suc (suc x))))) l n = refl
 
-  second : (x : ℕ) → LiveOrSaved x (bind 3 (call (applied 0 (held_in 4) (held_in 2 ∷ [])) (0 ∷ [])) (return (perform (operation.Operand (held_in 3))))) (nothing_later x)
+  second : (x : ℕ) → Live x (bind 3 (call (applied 0 (held_in 4) (held_in 2 ∷ [])) (0 ∷ [])) (return (perform (operation.Operand (held_in 3))))) (nothing_later x)
       → x ≢ 2 → same_place (in_one x) (Reg 3) ≡ false
   second zero l n = refl
   second (suc zero) l n = refl
@@ -139,7 +158,7 @@ shared_placed = (second, (tt, (third, ((shared_brings, (λ x l. own x, (link, tt
   second (suc (suc (suc (suc zero)))) l n = refl
   second (suc (suc (suc (suc (suc x))))) l n = refl
 
-  third : (x : ℕ) → LiveOrSaved x (return (perform (operation.Operand (held_in 3)))) (nothing_later x) → x ≢ 3 → same_place (in_one x) (Reg 3) ≡ false
+  third : (x : ℕ) → Live x (return (perform (operation.Operand (held_in 3)))) (nothing_later x) → x ≢ 3 → same_place (in_one x) (Reg 3) ≡ false
   third zero l n = refl
   third (suc zero) l n = refl
   third (suc (suc zero)) (inl e) n = absurd (cc)
@@ -151,7 +170,7 @@ shared_placed = (second, (tt, (third, ((shared_brings, (λ x l. own x, (link, tt
 
 -- and its layout by it does what it does, from any frame with its live variables
 shared_does : (callee callee' : Callee) → CalleesFollow callee callee' → (depth : ℕ) (environment : Environment) (f : Frame) (s : State Procedure) (marks marks' : List MarkKind)
-    → Agrees sharing (λ x. LiveOrSaved x one_after_the_other (nothing_later x)) environment nothing f.places
+    → Agrees sharing (λ x. Live x one_after_the_other (nothing_later x)) (Kept no_region (λ x. Live x one_after_the_other (nothing_later x))) environment nothing f.places
     → EndsAs (do_body (unmarked_reading sharing) callee depth one_after_the_other environment (world s marks))
     (execute_each callee' depth (lay sharing one_after_the_other no_region 0 None []) None f (world s marks'))
 shared_does callee callee' follow depth environment f s marks marks' a =
@@ -212,19 +231,24 @@ seven = member 2 ∷ member 3 ∷ member 4 ∷ member 5 ∷ member 6 ∷ member 
 abbrev gives_five : Expression
 gives_five = return (perform (operation.Operand (number 5)))
 
--- outside regions none of them is saved, and none is live behind the group
+-- none of them is live behind the group
 members_placed : Placed together (fix seven gives_five) no_region nothing_later
 members_placed = ((apart, (apart, (apart, (apart, (apart, (apart, (apart, tt))))))), tt) where
-  apart : {y : ℕ} (x : ℕ) → Grouped no_region seven (λ x. LiveOrSaved x gives_five (nothing_later x)) x → x ≢ y → same_place (together.place x) (Reg 3) ≡ false
+  apart : {y : ℕ} (x : ℕ) → Mentions x (member_atoms seven) ⊎ Live x gives_five (nothing_later x) → x ≢ y → same_place (together.place x) (Reg 3) ≡ false
   apart zero l n = refl
   apart (suc x) (inl l) n = absurd (cc)
   apart (suc x) (inr (inl l)) n = absurd (cc)
-  apart (suc x) (inr (inr (inl l))) n = absurd (cc)
-  apart (suc x) (inr (inr (inr l))) n = absurd (omega (arith, l))
+  apart (suc x) (inr (inr l)) n = absurd (omega (arith, l))
 
--- inside one they are saved, and so their places are apart
-members_apart : Placed together (save (2 ∷ 3 ∷ []) (fix seven gives_five)) no_region nothing_later → ⊥
-members_apart p = clash (p.0.0 3 (inl refl) (λ e. omega (arith, e))) where
+-- and so it is inside a region that saves two of them, whatever is saved
+saved_members_placed : Placed together (save (2 ∷ 3 ∷ []) (fix seven gives_five)) no_region nothing_later
+saved_members_placed = (λ x h b l. dead x l.0 h, members_placed) where
+  dead : (x : ℕ) → has x (member_variables seven) ≡ false → has x (2 ∷ 3 ∷ []) ≡ true → ⊥
+  dead x o h = false_true (each_at (λ x. has x (member_variables seven) ≡ true) (2 ∷ 3 ∷ []) (refl, (refl, tt)) x h) o
+
+-- where one of them is read, the others live elsewhere
+members_apart : Placed together (fix seven (return (perform (operation.Operand (held_in 3))))) no_region nothing_later → ⊥
+members_apart p = clash (p.0.0 3 (inr (inl refl)) (λ e. omega (arith, e))) where
   clash : true ≡ false → ⊥
   clash e = absurd (cc)
 

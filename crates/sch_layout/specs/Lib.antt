@@ -1,5 +1,6 @@
 pub mod Asides
 pub mod BodyLayout
+pub mod FewCopies
 pub mod LayoutSizes
 pub mod Laws
 pub mod Moves

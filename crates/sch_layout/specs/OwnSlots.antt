@@ -3,8 +3,9 @@ use Rattle.std.specs.Prelude.{◌≡◌, ℕ, zero, suc, ◌+◌, ◌-◌, ◌<�
 use Rattle.sch_word.specs.declared.place.Place.{Place}
 use Rattle.sch_word.specs.declared.place.Place.TheVariants.{Slot}
 use Rattle.sch_word.specs.trees.NumberSets.{has}
+use Rattle.sch_control.specs.flow.Apart.{EachHas}
 use Rattle.sch_control.specs.declared.body.Entry.{Entry}
-use Rattle.sch_control.specs.Meaning.{heads, no_region}
+use Rattle.sch_control.specs.Meaning.{binds, no_region, with_region}
 use Rattle.sch_control.specs.Tree as control
 use Rattle.sch_control.specs.Tree.{Expression, perform, bind, sequence, branch, fix, call, tail_call, return, end, save}
 use Rattle.sch_frames.specs.declared.instruction.Instruction.{Instruction}
@@ -98,22 +99,22 @@ slots_code c = record { entry = c.entry; words = slots_words c; labels = labels 
 
 -- ## The law: every tree is placed so, where the slots are enough
 
--- each variable that is saved is below a number
-abbrev pub SavesLow : ℕ → Expression → Type 0
-SavesLow n (perform o) = Unit {0}
-SavesLow n (bind x a b) = SavesLow n a × SavesLow n b
-SavesLow n (sequence a b) = SavesLow n a × SavesLow n b
-SavesLow n (branch a b c) = SavesLow n a × (SavesLow n b × SavesLow n c)
-SavesLow n (fix members e) = SavesLow n e
-SavesLow n (call a restores) = Unit {0}
-SavesLow n (tail_call a) = Unit {0}
-SavesLow n (return e) = SavesLow n e
-SavesLow n (end e) = SavesLow n e
-SavesLow n (save saves e) = ((x : ℕ) → has x (heads e saves) ≡ true → x < n) × SavesLow n e
+-- each region saves what it does not bind, and a call restores what a region round it saves
+abbrev pub SavesUnbound : Expression → (inside : ℕ → Bool) → Type 0
+SavesUnbound (perform o) inside = Unit {0}
+SavesUnbound (bind x a b) inside = SavesUnbound a inside × SavesUnbound b inside
+SavesUnbound (sequence a b) inside = SavesUnbound a inside × SavesUnbound b inside
+SavesUnbound (branch a b c) inside = SavesUnbound a inside × (SavesUnbound b inside × SavesUnbound c inside)
+SavesUnbound (fix members e) inside = SavesUnbound e inside
+SavesUnbound (call a restores) inside = EachHas (λ x. inside x ≡ true) restores
+SavesUnbound (tail_call a) inside = Unit {0}
+SavesUnbound (return e) inside = SavesUnbound e inside
+SavesUnbound (end e) inside = SavesUnbound e inside
+SavesUnbound (save saves e) inside = ((x : ℕ) → has x saves ≡ true → binds x e ≡ false) × SavesUnbound e (with_region saves inside)
 
 abbrev pub OwnSlotsPlaced : Type 0
 OwnSlotsPlaced =
-    (entry : Option Entry) (e : Expression) (base number limit : ℕ) → Uses (λ x. x < number) e → SavesLow number e → 0 < number
+    (entry : Option Entry) (e : Expression) (base number limit : ℕ) → Uses (λ x. x < number) e → SavesUnbound e no_region → 0 < number
     → formals_of entry ≤ 6 + base → base + number + most_operands e < limit
     → PlacedBody (own_slots (formals_of entry) base number limit) entry e
     × EntersSlots (own_slots (formals_of entry) base number limit) (entered_with entry)

@@ -1,23 +1,19 @@
 -- What a plan owes to the tree that is laid out by it. Variables may share a place that are never live together.
-use Rattle.std.specs.Prelude.{◌≡◌, ◌≢◌, ℕ, ◌+◌, ◌<◌, ◌≤◌, nat_lt, cond, List, [], ◌∷◌, length, Option, None, Some, Bool, true, false}
+use Rattle.std.specs.Prelude.{◌≡◌, ◌≢◌, ℕ, ◌+◌, ◌<◌, ◌≤◌, nat_lt, cond, length, Option, None, Some, Bool, true, false}
 use Rattle.std.specs.Bool.{MatchBool}
 use Rattle.sch_word.specs.declared.place.Place.{Place}
 use Rattle.sch_control.specs.declared.body.Entry.{Entry}
 use Rattle.sch_control.specs.declared.operation.Application.{Application}
+use Rattle.sch_word.specs.trees.NumberSets.{has}
 use Rattle.sch_control.specs.AtomsAndSites.{application_atoms}
-use Rattle.sch_control.specs.Meaning.{no_region, with_region}
+use Rattle.sch_control.specs.Meaning.{binds, no_region, with_region}
 use Rattle.sch_control.specs.Tree.{Expression, perform, bind, sequence, branch, fix, call, tail_call, return, end, save}
 use Rattle.sch_control.specs.Valid.{member_variables}
 use Rattle.sch_frames.specs.Meaning.{is_slot, link_register, same_place}
 use Rattle.sch_layout.specs.BodyLayout.{Plan, arguments_at, arrived, target}
 use Rattle.sch_layout.specs.Moves.{EachMove, Shuffled, is_own, reads_own}
-use Rattle.sch_control.specs.flow.Live.{Mentions, Perhaps, Across, Later, nothing_later}
-use Rattle.sch_control.specs.flow.LiveOrSaved.{LiveOrSaved, Grouped}
-
--- each number of a list has a property
-abbrev pub EachHas : (ℕ → Type 0) → List ℕ → Type 0
-EachHas P [] = Unit {0}
-EachHas P (x ∷ xs) = P x × EachHas P xs
+use Rattle.sch_control.specs.flow.Apart.{Around, EachHas}
+use Rattle.sch_control.specs.flow.Live.{Mentions, Perhaps, Across, Later, Live, nothing_later}
 
 -- ## What is saved, whether it is live or not
 
@@ -65,25 +61,27 @@ module _ (plan : Plan) where
     pub inside : Inside (λ x. Mentions x (application_atoms a))
 
   -- What a plan owes to an expression, by what is live behind it: a variable that is bound or restored is alone in its
-  -- place among what is live then. `inside` has the variables of the regions round it, as a layout has them: a member of a
-  -- group that is inside is saved when all of them are in their places.
+  -- place among what is live then, for a member of a group also what the fields of all of them are. `inside` has the
+  -- variables of the regions round it, as a layout has them: what is restored is one of them, and what a region saves where it
+  -- is bound is not live before. What is saved and is not live may be anything, as nobody reads it.
   abbrev pub Placed : Expression → (inside : ℕ → Bool) → Later → Type 0
   Placed (perform o) inside L = Unit {0}
   Placed (bind y a b) inside L =
-      Alone (λ x. LiveOrSaved x b (L x)) y
-      × (Placed a inside (λ x t. Across y x (LiveOrSaved x b (L x))) × Placed b inside L)
-  Placed (sequence a b) inside L = Placed a inside (λ x t. LiveOrSaved x b (L x)) × Placed b inside L
+      Alone (λ x. Live x b (L x)) y × (Placed a inside (λ x t. Across y x (Live x b (L x))) × Placed b inside L)
+  Placed (sequence a b) inside L = Placed a inside (λ x t. Live x b (L x)) × Placed b inside L
   Placed (branch a b c) inside L =
-      Placed a inside (λ x t. MatchBool t (LiveOrSaved x b (L x)) (LiveOrSaved x c (L x)))
+      Placed a inside (λ x t. MatchBool t (Live x b (L x)) (Live x c (L x)))
       × (Placed b inside L × Placed c inside L)
   Placed (fix members e) inside L =
-      EachHas (Alone (Grouped inside members (λ x. LiveOrSaved x e (L x)))) (member_variables members) × Placed e inside L
+      EachHas (Alone (Around members (λ x. Live x e (L x)))) (member_variables members) × Placed e inside L
   Placed (call a restores) inside L =
-      Brings false (FreeInCall (λ x. Perhaps (L x))) a × (Inside (λ x. Perhaps (L x)) × EachHas (Alone (λ x. Perhaps (L x))) restores)
+      Brings false (FreeInCall (λ x. Perhaps (L x))) a
+      × (Inside (λ x. Perhaps (L x)) × EachHas (λ x. (inside x ≡ true) × Alone (λ x. Perhaps (L x)) x) restores)
   Placed (tail_call a) inside L = Brings true FreeInTail a × (length a.operands ≤ 6 + plan.limit)
   Placed (return e) inside L = Placed e inside (λ x t. x ≡ 0)
   Placed (end e) inside L = Placed e inside (λ x t. ⊥)
-  Placed (save saves e) inside L = Placed e (with_region saves inside) L
+  Placed (save saves e) inside L =
+      ((x : ℕ) → has x saves ≡ true → binds x e ≡ true → Live x e (L x) → ⊥) × Placed e (with_region saves inside) L
 
   -- ## Entries
 
@@ -109,5 +107,5 @@ entered_with (Some e) = 2 + e.formals
 -- All that a plan owes to a body, by how it is entered and by the tree that is laid out for it.
 pub record PlacedBody (plan : Plan) (entry : Option Entry) (e : Expression) : Type 0 where
   pub homes : Homes plan
-  pub arrives : Arrives plan (λ x. LiveOrSaved x e (nothing_later x)) (entered_with entry)
+  pub arrives : Arrives plan (λ x. Live x e (nothing_later x)) (entered_with entry)
   pub placed : Placed plan e no_region nothing_later

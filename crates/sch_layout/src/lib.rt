@@ -2,6 +2,7 @@
 //! and where they stand, and the layout with a slot for each variable.
 #![tactic(auto)]
 
+ghost use Rattle.sch_layout.specs.FewCopies.{FewCopiesFit};
 ghost use Rattle.sch_layout.specs.Laws.{LaidBodiesDo, LaidMarksStand, WaysArePaths};
 ghost use Rattle.sch_layout.specs.OwnMarks.{OwnMarksStand};
 ghost use Rattle.sch_layout.specs.OwnSlots.{OwnSlotsPlaced};
@@ -32,4 +33,10 @@ pub fn own_marks_stand()
 /// The law that a slot for each variable, with arguments set aside in slots behind these, serves for any tree.
 pub fn own_slots_placed()
     ensures { OwnSlotsPlaced }
+{}
+
+/// The law that the text of a layout is within 72 bytes for each unit of work of its body, where no more variables are saved
+/// at the head of a body or of an arm, or restored behind a call, than there are registers to keep.
+pub fn few_copies_fit()
+    ensures { FewCopiesFit }
 {}

@@ -14,6 +14,7 @@ ghost use Rattle.sch_link_tables.specs.Quoted.{quotes_in, quotes_in_each};
 ghost use Rattle.sch_link_tables.specs.Sites.{widths, widths_of_each};
 ghost use Rattle.sch_link_tables.specs.Constants.{HasConstants, HaveConstants};
 ghost use Rattle.sch_link_tables.specs.Numbered.{first_of};
+ghost use Rattle.sch_link_drafts.specs.Kinds.{IsBind, IsBranch, IsCall, IsLetrec};
 ghost use Rattle.sch_link_drafts.specs.Numbering.{expression_with, expressions_with, literals_with};
 
 use sch_lang::Exp;
@@ -24,7 +25,7 @@ use sch_link_tables::{
 use sch_names::{Name, Names};
 use sch_read::Datum;
 use sch_sketch::Draft;
-use sch_word::{Const, List, Mem, add_counts};
+use sch_word::{Const, List, Mem};
 use std::alloc::Global;
 
 /// The tables by which numbers are given: the globals of the text's own, and all globals and symbols of the
@@ -133,7 +134,7 @@ pub fn number(
     }
 }
 
-/// The expression of a choice, and of nothing else.
+/// The expression of a choice.
 #[cycle(numbering)]
 #[inline(never)]
 fn number_branch(
@@ -142,13 +143,14 @@ fn number_branch(
     e: &Draft<'_>,
     out: &mut Output,
 ) -> Result<Exp, Mem>
+    requires kind { IsBranch (draft_of e.now) }
     ensures made { IfOk result (λ q. (v : Option (Listed ℕ)) → expression q ≡ expression_with tables.now out.old v (draft_of e.now)) }
     ensures sites { OnOk result (out.new.sites ≡ out.old.sites ++ widths (draft_of e.now)) }
     ensures literals { OnOk result (map literal out.new.literals ≡ literals_with tables.now out.old (quotes_in (draft_of e.now))) }
     ensures constants { OnOk result (HasConstants (draft_of e.now)) }
 {
     let Draft::If(a, b, c) = e else {
-        return Err(Mem);
+        unreachable!();
     };
     let a = number(alloc, tables, None, a, out)?;
     let b = number(alloc, tables, None, b, out)?;
@@ -157,7 +159,7 @@ fn number_branch(
     Ok(made)
 }
 
-/// The expression of a `let`, and of nothing else.
+/// The expression of a `let`.
 #[cycle(numbering)]
 #[inline(never)]
 fn number_let(
@@ -166,13 +168,14 @@ fn number_let(
     e: &Draft<'_>,
     out: &mut Output,
 ) -> Result<Exp, Mem>
+    requires kind { IsBind (draft_of e.now) }
     ensures made { IfOk result (λ q. (v : Option (Listed ℕ)) → expression q ≡ expression_with tables.now out.old v (draft_of e.now)) }
     ensures sites { OnOk result (out.new.sites ≡ out.old.sites ++ widths (draft_of e.now)) }
     ensures literals { OnOk result (map literal out.new.literals ≡ literals_with tables.now out.old (quotes_in (draft_of e.now))) }
     ensures constants { OnOk result (HasConstants (draft_of e.now)) }
 {
     let Draft::Let(names, es, e) = e else {
-        return Err(Mem);
+        unreachable!();
     };
     let site = new_site(out, es.len())?;
     let inits = number_each(alloc, tables, names.as_slice(), es.as_slice(), out)?;
@@ -181,7 +184,7 @@ fn number_let(
     Ok(made)
 }
 
-/// The expression of a `letrec`, and of nothing else.
+/// The expression of a `letrec`.
 #[cycle(numbering)]
 #[inline(never)]
 fn number_letrec(
@@ -190,13 +193,14 @@ fn number_letrec(
     e: &Draft<'_>,
     out: &mut Output,
 ) -> Result<Exp, Mem>
+    requires kind { IsLetrec (draft_of e.now) }
     ensures made { IfOk result (λ q. (v : Option (Listed ℕ)) → expression q ≡ expression_with tables.now out.old v (draft_of e.now)) }
     ensures sites { OnOk result (out.new.sites ≡ out.old.sites ++ widths (draft_of e.now)) }
     ensures literals { OnOk result (map literal out.new.literals ≡ literals_with tables.now out.old (quotes_in (draft_of e.now))) }
     ensures constants { OnOk result (HasConstants (draft_of e.now)) }
 {
     let Draft::Letrec(names, procedures, es, e) = e else {
-        return Err(Mem);
+        unreachable!();
     };
     let group = is_group(alloc, *procedures, es.as_slice(), e)?;
     let site = site_unless(group, out, es.len())?;
@@ -206,7 +210,7 @@ fn number_letrec(
     Ok(made)
 }
 
-/// The expression of a call, and of nothing else.
+/// The expression of a call.
 #[cycle(numbering)]
 #[inline(never)]
 fn number_call(
@@ -215,13 +219,14 @@ fn number_call(
     e: &Draft<'_>,
     out: &mut Output,
 ) -> Result<Exp, Mem>
+    requires kind { IsCall (draft_of e.now) }
     ensures made { IfOk result (λ q. (v : Option (Listed ℕ)) → expression q ≡ expression_with tables.now out.old v (draft_of e.now)) }
     ensures sites { OnOk result (out.new.sites ≡ out.old.sites ++ widths (draft_of e.now)) }
     ensures literals { OnOk result (map literal out.new.literals ≡ literals_with tables.now out.old (quotes_in (draft_of e.now))) }
     ensures constants { OnOk result (HasConstants (draft_of e.now)) }
 {
     let Draft::Call(f, es) = e else {
-        return Err(Mem);
+        unreachable!();
     };
     let site = call_site(out, es.len())?;
     let operator = number(alloc, tables, None, f, out)?;
@@ -251,8 +256,7 @@ pub fn number_each(
         let v = name_at(names, at);
         let made = number(alloc, tables, v, e, out)?;
         all.push(made)?;
-        let next = add_counts(at, 1)?;
-        at = next;
+        at += 1;
     }
     Ok(all)
 }

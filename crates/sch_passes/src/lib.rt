@@ -15,6 +15,7 @@ ghost use Rattle.sch_lang.specs.Measures as measures;
 ghost use Rattle.sch_lang.specs.Measures.{nodes_and_bound, program_size};
 ghost use Rattle.sch_lang.specs.ProgramView.{source};
 ghost use Rattle.sch_lang.specs.Tree.{count_lambdas};
+ghost use Rattle.sch_word.specs.trees.Shape.{max_library};
 ghost use Rattle.sch_control.specs.OrderTable.{given_table};
 ghost use Rattle.sch_passes.specs.Chain.{RunsAs, control_of};
 
@@ -27,14 +28,13 @@ use sch_rename::rename;
 use sch_word::Mem;
 use std::alloc::Global;
 
-/// The most procedures of a library.
-const MAX_LIBRARY: usize = 1_048_576;
-
 /// The control program of a core program: variables have numbers, assigned ones cells, procedures are records of
 /// their free variables, and operands are simple.
 ///
-/// It takes stack in proportion to the levels of `p`. More than 1,048,576 procedures of the library are out of memory.
+/// It takes stack in proportion to the levels of `p`.
 pub fn control_program(alloc: Global, p: &Program) -> Result<ControlProgram, Mem>
+    // A library has at most 1,048,576 procedures.
+    requires library { count_lambdas (source p.now).library ≤ max_library }
     requires small { nodes_and_bound (source p.now) ≤ 2 ^ 30 }
     // It is what the passes are defined to make, one of what the one before it made, with the parts that are bound at
     // each site of the tree.
@@ -66,9 +66,6 @@ pub fn control_program(alloc: Global, p: &Program) -> Result<ControlProgram, Mem
     // Each body has at most two variables more than the body of `p` at its place may need.
     ensures each_variables { IfOk result (λ q. IsTrue (bind_within (control_view.source q).bodies (map (λ b. b.variables) (bodies_of (source p.now))))) }
 {
-    if p.library.len() > MAX_LIBRARY {
-        return Err(Mem);
-    }
     let renamed = rename(alloc, p)?;
     let converted = convert_assign(alloc, &renamed)?;
     drop(renamed);

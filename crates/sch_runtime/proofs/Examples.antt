@@ -1,5 +1,5 @@
 -- Small programs joined with the routines, run by the machine.
-use Rattle.std.proofs.Common.{◌≡◌, ℕ, List, [], ◌∷◌, ◌++◌, Option, Some, refl}
+use Rattle.std.proofs.Common.{◌≡◌, ℕ, List, [], ◌∷◌, ◌++◌, Option, Some, true, refl}
 use Rattle.std.specs.List.{flat_map}
 use Rattle.std.specs.Prelude.{codes, pos, negsuc, replicate, slice_index, ℤ}
 use Rattle.sch_word.specs.runs.ProgramLayout.{text_address}
@@ -21,20 +21,25 @@ use Rattle.sch_asm.specs.declared.routine.Routine.TheVariants.{End, Stop, Put, P
 use Rattle.sch_asm.specs.Routines.{label_of}
 use Rattle.sch_asm.specs.Codes.{text_size}
 use Rattle.sch_asm.specs.Data.{data_at}
-use Rattle.sch_asm.specs.Layout.{emitted_from, placed_from}
+use Rattle.sch_asm.specs.Layout.{emitted_from}
+use Rattle.sch_asm.specs.Pieces.{skeleton}
+use Rattle.sch_jumps.specs.Sizes.{Set, placed_from}
 use Rattle.sch_asm.specs.Views.{text_at}
 use Rattle.sch_runtime.specs.Code.{routine_items}
 
--- the routines take this many bytes
+-- the routines take this many bytes at most
 routine_bytes : text_size routine_items ≡ 489
 routine_bytes = refl
 
--- a program's text
+-- a program's text, with all jumps long
+abbrev all_long : Set
+all_long = λ k. true
+
 abbrev text_of : List Item → List ℕ
 text_of items =
     let all = items ++ routine_items in
-    let places = placed_from text_address all (replicate 1030 0) in
-    flat_map spelling (emitted_from (slice_index places) text_address all)
+    let places = placed_from all_long 0 text_address (skeleton all) (replicate 1030 0) in
+    flat_map spelling (emitted_from (slice_index places) all_long 0 text_address all)
 
 -- how it ends within 400 steps, where some bytes stand behind the routines' own words
 abbrev ends : List Item → List ℕ → List Answer → Option (ℕ × List ℕ)

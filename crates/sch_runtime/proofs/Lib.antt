@@ -9,3 +9,4 @@ pub mod FillLoop
 pub mod Effective
 pub mod RoutineItems
 mod Examples
+mod FormExamples

@@ -1,11 +1,12 @@
 //! The items of the run-time routines, made.
 
-ghost use Rattle.std.specs.Prelude.{◌≡◌, ◌≤◌, ◌%◌, [], ◌∷◌, ◌++◌, IfOk};
+ghost use Rattle.std.specs.Prelude.{◌≡◌, ◌≤◌, ◌%◌, [], ◌∷◌, ◌++◌, IfOk, IsTrue};
 ghost use Rattle.sch_asm.specs.declared.item.Item.TheVariants as item;
 ghost use Rattle.sch_asm.specs.Items.{AreRoutines};
 ghost use Rattle.sch_asm.specs.Routines.{label_of};
 ghost use Rattle.sch_asm.specs.Codes.{text_size};
 ghost use Rattle.sch_asm.specs.Effects.{AreEffective};
+ghost use Rattle.sch_runtime.specs.Form.{keeps_form};
 ghost use Rattle.sch_runtime.specs.Code.{digit_code, digit_label, done_code, done_label, exit_code, fixnum_code, put_code, fill_code, routine_items};
 
 use sch_asm::{Asm, Item, Routine};
@@ -60,6 +61,8 @@ pub fn routines(alloc: Global, limits: Limits) -> Result<Asm, Mem>
     ensures joined { IfOk result (λ r. AreRoutines r.items r.words r.zeros) }
     ensures effective { IfOk result (λ r. AreEffective r.items) }
     ensures short { IfOk result (λ r. text_size r.items ≤ 1024) }
+    // Their text alone shows where each of them returns.
+    ensures form { IfOk result (λ r. IsTrue (keeps_form r.items)) }
 {
     let items = items_of(alloc)?;
     Ok(Asm {

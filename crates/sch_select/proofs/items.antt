@@ -16,3 +16,4 @@ pub mod ProgramStores
 pub mod StoreExamples
 pub mod InstructionCounts
 pub mod JumpsAhead
+pub mod ReachedCodes

@@ -6,3 +6,4 @@ pub mod Jumps
 pub mod Marks
 pub mod Ends
 pub mod Follows
+pub mod Reach

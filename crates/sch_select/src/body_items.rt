@@ -1,6 +1,8 @@
 //! The items of bodies.
 
-ghost use Rattle.std.specs.Prelude.{◌≡◌, ◌+◌, ◌^◌, ◌<◌, ◌≤◌, ◌++◌, ◌∷◌, IfOk, OnOk, List};
+ghost use Rattle.std.specs.Prelude.{◌≡◌, ◌+◌, ◌^◌, ◌<◌, ◌≤◌, ◌++◌, ◌∷◌, IfOk, IsTrue, OnOk, List};
+ghost use Rattle.std.specs.List.{list_all};
+ghost use Rattle.sch_word.specs.trees.Shape.{max_operands};
 ghost use Rattle.sch_frames.specs.Valid.{max_words};
 ghost use Rattle.sch_asm.specs.declared.item.Item.{Item};
 ghost use Rattle.sch_asm.specs.declared.item.Item.TheVariants.{Plain};
@@ -9,6 +11,8 @@ ghost use Rattle.sch_frames.specs.SourceView.{codes_of, code_of};
 ghost use Rattle.sch_select.specs.Select.{all_labels_needed, labels_needed, operand_needs, operation_needs};
 ghost use Rattle.sch_select.specs.Select.{body_code, copy_insn, instruction_code};
 ghost use Rattle.sch_select_memory.specs.Addresses.{place_operand};
+ghost use Rattle.sch_select_memory.specs.Reach.{is_reached_place};
+ghost use Rattle.sch_select.specs.Reach.{is_reached_code, is_reached_entry, is_reached_instruction};
 ghost use Rattle.sch_select.specs.Program.{count_code, entry_code, form_code, forms_code, labels_end, passed_code};
 
 use sch_asm::Item;
@@ -35,36 +39,39 @@ struct Labels {
 }
 
 /// What a place has into another one: one `mov`, since one of the two is a register. No body copies from slot to slot.
-fn copy(to: Place, from: Place) -> Result<Insn, Mem>
-    ensures { IfOk result (λ i. i ≡ copy_insn to from) }
+fn copy(to: Place, from: Place) -> Insn
+    requires to { IsTrue (is_reached_place to) }
+    requires from { IsTrue (is_reached_place from) }
+    ensures { result ≡ copy_insn to from }
 {
     match (to, from) {
-        (to, Place::Reg(r)) => Ok(Insn::MovTo(place_operand(to)?, r)),
-        (Place::Reg(r), from) => Ok(Insn::MovFrom(r, place_operand(from)?)),
-        (Place::Slot(_), from) => Ok(Insn::MovFrom(RAX, place_operand(from)?)),
+        (to, Place::Reg(r)) => Insn::MovTo(place_operand(to), r),
+        (Place::Reg(r), from) => Insn::MovFrom(r, place_operand(from)),
+        (Place::Slot(_), from) => Insn::MovFrom(RAX, place_operand(from)),
     }
 }
 
 /// What RAX has into a place.
 fn store(out: &mut List<Item>, p: Place) -> Result<(), Mem>
+    requires { IsTrue (is_reached_place p) }
     ensures { OnOk result ((rest : List Item) → out.new ++ rest ≡ out.old ++ Plain (MovTo (place_operand p) RAX) ∷ rest) }
 {
-    let place = place_operand(p)?;
-    out.push(Item::Plain(Insn::MovTo(place, RAX)))
+    out.push(Item::Plain(Insn::MovTo(place_operand(p), RAX)))
 }
 
 /// One instruction, whose own labels are from n on.
 fn instruction(out: &mut List<Item>, labels: Labels, n: u32, i: &Instruction) -> Result<(), Mem>
     requires words { labels.words ≤ max_words }
     requires low { labels.heap_end < 2 ^ 31 }
+    requires reached { IsTrue (is_reached_instruction i.now) }
     ensures { OnOk result ((rest : List Item) → out.new ++ rest
         ≡ out.old ++ instruction_code labels.base labels.end labels.words labels.heap_end labels.literals n i.now rest) }
 {
     match i {
         Instruction::Do(o) => operation(out, labels.heap_end, labels.literals, n, o),
         Instruction::Store(p) => store(out, *p),
-        Instruction::Copy(to, from) => out.push(Item::Plain(copy(*to, *from)?)),
-        Instruction::Pass(k) => store(out, Place::Slot(add_numbers(labels.words, *k)?)),
+        Instruction::Copy(to, from) => out.push(Item::Plain(copy(*to, *from))),
+        Instruction::Pass(k) => store(out, Place::Slot(labels.words + *k)),
         Instruction::Fix(members, spills) => {
             group(out, labels.heap_end, members.as_slice(), spills.as_slice())
         }
@@ -131,6 +138,7 @@ fn body(
 ) -> Result<u32, Mem>
     requires words { labels.words ≤ max_words }
     requires low { labels.heap_end < 2 ^ 31 }
+    requires reached { IsTrue (list_all is_reached_instruction instructions.now) }
     ensures items { OnOk result ((rest : List Item) → out.new ++ rest
         ≡ out.old ++ body_code labels.base labels.end labels.words labels.heap_end labels.literals n instructions.now rest) }
     ensures next { IfOk result (λ m. m ≡ n + all_labels_needed instructions.now) }
@@ -163,6 +171,7 @@ pub(crate) struct Frames {
 
 /// The operands are as many as the formals; or those that are left over become a list, for which the label is.
 fn check_operands(out: &mut List<Item>, rest: bool, formals: u32, n: u32) -> Result<(), Mem>
+    requires { formals ≤ max_operands }
     ensures { OnOk result ((behind : List Item) → out.new ++ behind ≡ out.old ++ count_code rest formals n behind) }
 {
     if rest {
@@ -174,6 +183,7 @@ fn check_operands(out: &mut List<Item>, rest: bool, formals: u32, n: u32) -> Res
 
 /// A procedure's body begins with a check of its operands' count.
 fn check_entry(out: &mut List<Item>, entry: &Option<Entry>, n: u32) -> Result<(), Mem>
+    requires { IsTrue (is_reached_entry entry.now) }
     ensures { OnOk result ((rest : List Item) → out.new ++ rest ≡ out.old ++ entry_code entry.now n rest) }
 {
     match entry {
@@ -186,6 +196,7 @@ fn check_entry(out: &mut List<Item>, entry: &Option<Entry>, n: u32) -> Result<()
 fn form(out: &mut List<Item>, frames: Frames, label: u32, n: u32, b: &FrameBody) -> Result<u32, Mem>
     requires words { frames.words ≤ max_words }
     requires low { frames.heap_end < 2 ^ 31 }
+    requires reached { IsTrue (is_reached_code (code_of b.now)) }
     ensures items { OnOk result ((rest : List Item) → out.new ++ rest
         ≡ out.old ++ form_code frames.words frames.heap_end frames.literals label n (code_of b.now) rest) }
     ensures next { IfOk result (λ m. m ≡ labels_end n (code_of b.now)) }
@@ -219,6 +230,7 @@ pub(crate) fn forms(
 ) -> Result<(), Mem>
     requires words { frames.words ≤ max_words }
     requires low { frames.heap_end < 2 ^ 31 }
+    requires reached { IsTrue (list_all is_reached_code (codes_of bodies.now)) }
     ensures { OnOk result ((rest : List Item) → out.new ++ rest
         ≡ out.old ++ forms_code frames.words frames.heap_end frames.literals 0 n (codes_of bodies.now) rest) }
 {

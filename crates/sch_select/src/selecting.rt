@@ -1,7 +1,9 @@
 //! A frame program's items and data: `select`.
 
 ghost use Rattle.std.specs.Prelude.{◌≡◌, ◌+◌, ◌*◌, ◌^◌, ◌<◌, ◌≤◌, ◌++◌, [], ◌∷◌, IfOk, IsTrue, OnOk, length, pos, replicate};
+ghost use Rattle.std.specs.List.{list_all};
 ghost use Rattle.sch_word.specs.declared.limits.TheConstants.{MAX_DEPTH};
+ghost use Rattle.sch_word.specs.runs.Runs.{max_statics};
 ghost use Rattle.sch_asm.specs.Codes.{text_size};
 ghost use Rattle.sch_asm.specs.Items.{AreOwn};
 ghost use Rattle.sch_asm.specs.Routines.{label_of};
@@ -15,6 +17,7 @@ ghost use Rattle.sch_frames.specs.Standing.{all_marks_stand};
 ghost use Rattle.sch_frames.specs.Valid.{max_words};
 ghost use Rattle.sch_select.specs.Follows.{EndsFrames, EntersFrames, FollowsFrames, PassesFrames, TakesFrames};
 ghost use Rattle.sch_select.specs.Jumps.{jumps_ahead};
+ghost use Rattle.sch_select.specs.Reach.{is_reached_code};
 ghost use Rattle.sch_select_data.specs.Data.{heap_of, max_heap_address};
 ghost use Rattle.sch_select.specs.Program.{frames_bytes, laid_code, max_data, max_stack, own_label, program_code, program_zeros, forms_code};
 ghost use Rattle.sch_select.specs.Program.{stack_bytes};
@@ -80,6 +83,7 @@ fn put_bodies(
 ) -> Result<(), Mem>
     requires words { frames.words ≤ max_words }
     requires low { frames.heap_end < 2 ^ 31 }
+    requires reached { IsTrue (list_all is_reached_code (codes_of bodies.now)) }
     ensures { OnOk result (items.new ≡ items.old ++ forms_code frames.words frames.heap_end frames.literals 0 n
         (codes_of bodies.now) (item.Jump (label_of routine.End) ∷ own_code frames.heap_end)) }
 {
@@ -93,16 +97,15 @@ fn items_of(alloc: Global, p: &FrameProgram, ends: Ends) -> Result<List<Item>, M
     requires heap { ends.heap < 2 ^ 31 }
     requires stack { ends.stack < 2 ^ 31 }
     requires depth { ends.depth ≤ MAX_DEPTH }
+    requires reached { IsTrue (list_all is_reached_code (codes_of p.now.bodies)) }
+    requires few { length p.now.statics.literals ≤ max_statics }
     ensures { IfOk result (λ items. items ≡ laid_code p.now.words ends.stack (length p.now.statics.literals) ends.heap
         ends.depth (length p.now.bodies) (codes_of p.now.bodies)) }
 {
     let bodies = p.bodies.as_slice();
-    let (own, literals) = match (
-        u32::try_from(bodies.len()),
-        u32::try_from(p.statics.literals.len()),
-    ) {
-        (Ok(count), Ok(literals)) => (body_label(count)?, literals),
-        _ => return Err(Mem),
+    let own = match u32::try_from(bodies.len()) {
+        Ok(count) => body_label(count)?,
+        Err(_) => return Err(Mem),
     };
     let mut items = List::new(alloc);
     items.extend_from_slice(&[
@@ -113,7 +116,7 @@ fn items_of(alloc: Global, p: &FrameProgram, ends: Ends) -> Result<List<Item>, M
     let frames = Frames {
         words: p.words,
         heap_end: ends.stack,
-        literals,
+        literals: p.statics.literals.len() as u32,
     };
     put_bodies(&mut items, frames, own, bodies)?;
     Ok(items)

@@ -2,6 +2,7 @@ pub mod Parts
 pub mod Encoded
 pub mod Heap
 pub mod Addresses
+pub mod Reach
 pub mod StaticBytes
 pub mod Names
 pub mod Checks

@@ -4,7 +4,7 @@ ghost use Rattle.std.specs.Prelude.{◌≡◌, ◌^◌, ◌<◌, ◌++◌, OnOk,
 ghost use Rattle.sch_asm.specs.declared.item.Item.{Item};
 ghost use Rattle.sch_select_memory.specs.MakeCode.{make_vector_code};
 
-use crate::addresses::{low_immediate, stop};
+use crate::addresses::{immediate, stop};
 use crate::value_words::word::{FIXNUM_SHIFT, TAG_MASK};
 use sch_asm::{Item, Routine};
 use sch_insn::condition::{A, L, NE};
@@ -17,7 +17,7 @@ pub(crate) fn vector_routine(out: &mut List<Item>, heap_end: u32) -> Result<(), 
     requires { heap_end < 2 ^ 31 }
     ensures { OnOk result ((rest : List Item) → out.new ++ rest ≡ out.old ++ make_vector_code heap_end rest) }
 {
-    let end = low_immediate(heap_end);
+    let end = immediate(heap_end);
     out.extend_from_slice(&[
         Item::Plain(Insn::MovTo(Arg::Reg(RDX), RAX)),
         Item::Plain(Insn::AndNumber(Arg::Reg(RDX), TAG_MASK)),

@@ -1,13 +1,14 @@
 //! The items of procedures with a rest variable, and the routine that makes the list of the operands left over.
 
 ghost use Rattle.std.specs.Prelude.{◌≡◌, ◌^◌, ◌<◌, ◌≤◌, ◌++◌, ◌∷◌, OnOk, List, nat_lt};
+ghost use Rattle.sch_word.specs.trees.Shape.{max_operands};
 ghost use Rattle.sch_word.specs.values.Registers.{argument_registers};
 ghost use Rattle.sch_asm.specs.declared.item.Item.{Item};
 ghost use Rattle.sch_asm.specs.declared.item.Item.TheVariants as item;
 ghost use Rattle.sch_select_memory.specs.RestCode.{check_enough, check_pairs, first_code, first_slot_code, firsts_code, later_registers};
 ghost use Rattle.sch_select_memory.specs.RestCode.{list_code, list_label, more_code, registers_code, rest_entry, rest_routine, slots_code};
 
-use crate::addresses::{bytes_of_words, immediate, low_immediate, stop};
+use crate::addresses::{immediate, slot_bytes, stop};
 use crate::value_words::word::{NIL, PAIR};
 use sch_asm::Item;
 use sch_insn::condition::{A, B, E, NE};
@@ -35,7 +36,7 @@ fn check_list(out: &mut List<Item>, m: u32, heap_end: u32) -> Result<(), Mem>
     ensures { OnOk result ((rest : List Item) → out.new ++ rest
         ≡ out.old ++ item.Label (list_label m) ∷ check_pairs heap_end rest) }
 {
-    let end = low_immediate(heap_end);
+    let end = immediate(heap_end);
     out.extend_from_slice(&[
         Item::Label(LIST_LABEL + m),
         Item::Plain(Insn::MovTo(Arg::Reg(RDX), RAX)),
@@ -177,9 +178,10 @@ pub(crate) fn rest_routine(out: &mut List<Item>, heap_end: u32) -> Result<(), Me
 
 /// Enough operands, or stop 68; then RAX has the number of those that are left over.
 fn check_enough(out: &mut List<Item>, required: u32) -> Result<(), Mem>
+    requires { required ≤ max_operands }
     ensures { OnOk result ((rest : List Item) → out.new ++ rest ≡ out.old ++ check_enough required rest) }
 {
-    let required = immediate(required)?;
+    let required = immediate(required);
     out.extend_from_slice(&[
         Item::Plain(Insn::CmpNumber(Arg::Reg(RAX), required)),
         Item::JumpIf(B, stop(Stop::WrongCount)),
@@ -189,6 +191,7 @@ fn check_enough(out: &mut List<Item>, required: u32) -> Result<(), Mem>
 
 /// The list is made by the routine, which comes back to the label n.
 fn make_list(out: &mut List<Item>, required: u32, n: u32) -> Result<(), Mem>
+    requires { required ≤ max_operands }
     ensures { OnOk result ((rest : List Item) → out.new ++ rest ≡ out.old ++ list_code (nat_lt required 6) required n rest) }
 {
     if required < 6 {
@@ -198,7 +201,7 @@ fn make_list(out: &mut List<Item>, required: u32, n: u32) -> Result<(), Mem>
             Item::Label(n),
         ])
     } else {
-        let slot = bytes_of_words(required - 6)?;
+        let slot = slot_bytes(required - 6);
         out.extend_from_slice(&[
             Item::Plain(Insn::MovTo(Arg::Reg(RCX), RBP)),
             Item::Plain(Insn::AddNumber(Arg::Reg(RCX), slot)),
@@ -211,6 +214,7 @@ fn make_list(out: &mut List<Item>, required: u32, n: u32) -> Result<(), Mem>
 
 /// The operands that are left over become a list, which is the last argument.
 pub fn enter_rest(out: &mut List<Item>, required: u32, n: u32) -> Result<(), Mem>
+    requires { required ≤ max_operands }
     ensures { OnOk result ((rest : List Item) → out.new ++ rest ≡ out.old ++ rest_entry required n rest) }
 {
     check_enough(out, required)?;

@@ -1,3 +1,4 @@
+pub mod Reach
 pub mod ArithmeticCode
 pub mod ObjectCode
 pub mod OperandCode

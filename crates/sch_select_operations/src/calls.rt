@@ -5,12 +5,13 @@ ghost use Rattle.sch_asm.specs.declared.item.Item.{Item};
 ghost use Rattle.sch_select_operations.specs.CallCode.{call_code, check_count, check_depth, check_operator, close_code, enter_code, open_code};
 ghost use Rattle.sch_select_operations.specs.CallCode.{tail_code};
 ghost use Rattle.sch_frames.specs.Valid.{max_words};
+ghost use Rattle.sch_word.specs.trees.Shape.{max_operands};
 
 use sch_asm::Item;
 use sch_insn::condition::{E, NE};
 use sch_insn::register::{R13, R14, R15, RAX, RBP, RCX, RDX};
 use sch_insn::{Arg, Insn};
-use sch_select_memory::addresses::{frame_bytes, immediate, stop};
+use sch_select_memory::addresses::{immediate, slot_bytes, stop};
 use sch_select_memory::word::{PROCEDURE, TAG_MASK};
 use sch_word::{List, Mem, Stop};
 
@@ -38,9 +39,10 @@ fn depth_check() -> [Item; 2]
 
 /// The procedure in R14 is entered with a number of operands.
 fn enter(out: &mut List<Item>, count: u32) -> Result<(), Mem>
+    requires { count ≤ max_operands }
     ensures { OnOk result ((rest : List Item) → out.new ++ rest ≡ out.old ++ enter_code count rest) }
 {
-    let count = immediate(count)?;
+    let count = immediate(count);
     out.extend_from_slice(&[
         Item::Plain(Insn::MovNumber(Arg::Reg(RAX), count)),
         Item::Plain(Insn::MovFrom(RCX, Arg::Base32(R14, -4))),
@@ -53,7 +55,7 @@ fn open(out: &mut List<Item>, words: u32, n: u32) -> Result<(), Mem>
     requires { words ≤ max_words }
     ensures { OnOk result ((rest : List Item) → out.new ++ rest ≡ out.old ++ open_code words n rest) }
 {
-    let bytes = frame_bytes(words);
+    let bytes = slot_bytes(words);
     out.extend_from_slice(&[
         Item::Plain(Insn::SubNumber(Arg::Reg(R13), 1)),
         Item::Plain(Insn::AddNumber(Arg::Reg(RBP), bytes)),
@@ -66,7 +68,7 @@ fn close(out: &mut List<Item>, words: u32, n: u32) -> Result<(), Mem>
     requires { words ≤ max_words }
     ensures { OnOk result ((rest : List Item) → out.new ++ rest ≡ out.old ++ close_code words n rest) }
 {
-    let bytes = frame_bytes(words);
+    let bytes = slot_bytes(words);
     out.extend_from_slice(&[
         Item::Label(n),
         Item::Plain(Insn::SubNumber(Arg::Reg(RBP), bytes)),
@@ -76,7 +78,8 @@ fn close(out: &mut List<Item>, words: u32, n: u32) -> Result<(), Mem>
 
 /// The procedure in R14 is entered in a frame of its own.
 fn enter_frame(out: &mut List<Item>, words: u32, n: u32, count: u32) -> Result<(), Mem>
-    requires { words ≤ max_words }
+    requires words { words ≤ max_words }
+    requires few { count ≤ max_operands }
     ensures { OnOk result ((rest : List Item) → out.new ++ rest ≡ out.old ++ open_code words n (enter_code count rest)) }
 {
     open(out, words, n)?;
@@ -93,7 +96,8 @@ fn check_call(out: &mut List<Item>) -> Result<(), Mem>
 
 /// A call that is no tail call, with a frame of its own. The procedure returns to the label n.
 pub fn call(out: &mut List<Item>, words: u32, n: u32, count: u32) -> Result<(), Mem>
-    requires { words ≤ max_words }
+    requires words { words ≤ max_words }
+    requires few { count ≤ max_operands }
     ensures { OnOk result ((rest : List Item) → out.new ++ rest ≡ out.old ++ call_code words n count rest) }
 {
     check_call(out)?;
@@ -103,6 +107,7 @@ pub fn call(out: &mut List<Item>, words: u32, n: u32, count: u32) -> Result<(), 
 
 /// A tail call.
 pub fn tail_call(out: &mut List<Item>, count: u32) -> Result<(), Mem>
+    requires { count ≤ max_operands }
     ensures { OnOk result ((rest : List Item) → out.new ++ rest ≡ out.old ++ tail_code count rest) }
 {
     out.extend_from_slice(&operator_check())?;
@@ -111,9 +116,10 @@ pub fn tail_call(out: &mut List<Item>, count: u32) -> Result<(), Mem>
 
 /// The operands are as many as the formals, or stop 68.
 pub fn check_count(out: &mut List<Item>, formals: u32) -> Result<(), Mem>
+    requires { formals ≤ max_operands }
     ensures { OnOk result ((rest : List Item) → out.new ++ rest ≡ out.old ++ check_count formals rest) }
 {
-    let formals = immediate(formals)?;
+    let formals = immediate(formals);
     out.extend_from_slice(&[
         Item::Plain(Insn::CmpNumber(Arg::Reg(RAX), formals)),
         Item::JumpIf(NE, stop(Stop::WrongCount)),

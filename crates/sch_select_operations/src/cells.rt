@@ -1,10 +1,12 @@
 //! The items of what closures capture, and of cells.
 
-ghost use Rattle.std.specs.Prelude.{◌≡◌, ◌^◌, ◌<◌, ◌+◌, ◌*◌, ◌++◌, IfOk, OnOk, List, pos};
+ghost use Rattle.std.specs.Prelude.{◌≡◌, ◌^◌, ◌<◌, ◌+◌, ◌*◌, ◌++◌, IsTrue, OnOk, List, pos};
+ghost use Rattle.sch_word.specs.trees.Shape.{max_free_variables};
 ghost use Rattle.sch_asm.specs.declared.item.Item.{Item};
 ghost use Rattle.sch_insn.specs.declared.insn.Arg.TheVariants.{Base32};
 ghost use Rattle.sch_select_operations.specs.CellCode.{cell_operand, check_cell, new_cell_code, read_cell_code, source_code, unset_cell_code};
 ghost use Rattle.sch_select_operations.specs.CellCode.{write_cell_code};
+ghost use Rattle.sch_select_operations.specs.Reach.{is_reached_source};
 
 use crate::operands::atom;
 use crate::pairs::{check_heap, part};
@@ -13,7 +15,7 @@ use sch_control::Source;
 use sch_insn::condition::{E, NE};
 use sch_insn::register::{R12, RAX, RCX, RDX};
 use sch_insn::{Arg, Insn};
-use sch_select_memory::addresses::{MAX_WORDS, place_operand, stop};
+use sch_select_memory::addresses::{place_operand, stop};
 use sch_select_memory::word::{CELL, TAG_MASK, UNSET, UNSPECIFIED};
 use sch_word::{List, Mem, Place, Stop};
 
@@ -24,25 +26,23 @@ const CELL_TAG: u32 = CELL as u32;
 const CELL_BYTES: u32 = 16;
 
 /// The operand of a field, by the word of its closure in a register.
-fn field_operand(register: u8, k: u32) -> Result<Arg, Mem>
-    ensures { IfOk result (λ m. m ≡ Base32 register (pos (4 + 8 * k))) }
+fn field_operand(register: u8, k: u32) -> Arg
+    requires { k < max_free_variables }
+    ensures { result ≡ Base32 register (pos (4 + 8 * k)) }
 {
-    if k <= MAX_WORDS {
-        Ok(Arg::Base32(register, 4 + 8 * k as i32))
-    } else {
-        Err(Mem)
-    }
+    Arg::Base32(register, 4 + 8 * k as i32)
 }
 
 /// What a closure captures, or a cell that is read or set, into a register.
 pub(crate) fn source(out: &mut List<Item>, register: u8, x: &Source<Place>) -> Result<(), Mem>
+    requires { IsTrue (is_reached_source x.now) }
     ensures { OnOk result ((rest : List Item) → out.new ++ rest ≡ out.old ++ source_code register x.now rest) }
 {
     match x {
         Source::Atom(a) => atom(out, register, a),
         Source::Field(p, k) => {
-            let place = place_operand(*p)?;
-            let field = field_operand(register, *k)?;
+            let place = place_operand(*p);
+            let field = field_operand(register, *k);
             out.extend_from_slice(&[
                 Item::Plain(Insn::MovFrom(register, place)),
                 Item::Plain(Insn::MovFrom(register, field)),

@@ -1,9 +1,11 @@
 //! The items of atoms, of primitives over registers, and of operands.
 
-ghost use Rattle.std.specs.Prelude.{◌≡◌, ◌+◌, ◌++◌, OnOk, List};
+ghost use Rattle.std.specs.Prelude.{◌≡◌, ◌+◌, ◌++◌, IsTrue, OnOk, List};
+ghost use Rattle.std.specs.List.{list_all};
 ghost use Rattle.sch_word.specs.declared.primitive.Primitive.TheVariants.{CharToInteger, IntegerToChar, Multiply, Quotient};
 ghost use Rattle.sch_word.specs.declared.primitive.Primitive.TheVariants.{Remainder};
 ghost use Rattle.sch_asm.specs.declared.item.Item.{Item};
+ghost use Rattle.sch_select_operations.specs.Reach.{is_reached_atom, is_reached_operand};
 ghost use Rattle.sch_select_operations.specs.OperandCode.{atom_code, binary_code, operand_code, put_code, read_code, second_code, unary_code};
 
 use crate::arithmetic::{
@@ -28,12 +30,13 @@ use sch_word::{List, Mem, Place, Primitive};
 
 /// An atom into a register.
 pub(crate) fn atom(out: &mut List<Item>, register: u8, a: &Atom<Place>) -> Result<(), Mem>
+    requires { IsTrue (is_reached_atom a.now) }
     ensures { OnOk result ((rest : List Item) → out.new ++ rest ≡ out.old ++ atom_code register a.now rest) }
 {
     match a {
         Atom::Constant(c) => out.push(Item::Plain(Insn::MovWord(register, constant_number(*c)))),
         Atom::Variable(p) => {
-            let place = place_operand(*p)?;
+            let place = place_operand(*p);
             out.push(Item::Plain(Insn::MovFrom(register, place)))
         }
         Atom::Literal(n) => out.push(Item::LoadWord(register, literal_address(*n))),
@@ -111,6 +114,7 @@ pub(crate) fn binary(out: &mut List<Item>, n: u32, which: Primitive) -> Result<(
 
 /// A primitive that reads, over atoms.
 fn read(out: &mut List<Item>, n: u32, which: Primitive, atoms: &[Atom<Place>]) -> Result<(), Mem>
+    requires { IsTrue (list_all is_reached_atom atoms.now) }
     ensures { OnOk result ((rest : List Item) → out.new ++ rest ≡ out.old ++ read_code n which atoms.now rest) }
 {
     match atoms {
@@ -129,6 +133,7 @@ fn read(out: &mut List<Item>, n: u32, which: Primitive, atoms: &[Atom<Place>]) -
 
 /// An operand into RAX.
 pub(crate) fn operand(out: &mut List<Item>, n: u32, o: &Operand<Place>) -> Result<(), Mem>
+    requires { IsTrue (is_reached_operand o.now) }
     ensures { OnOk result ((rest : List Item) → out.new ++ rest ≡ out.old ++ operand_code n o.now rest) }
 {
     match o {
@@ -139,6 +144,7 @@ pub(crate) fn operand(out: &mut List<Item>, n: u32, o: &Operand<Place>) -> Resul
 
 /// A second operand into RCX, while RAX keeps the first.
 pub(crate) fn second(out: &mut List<Item>, n: u32, o: &Operand<Place>) -> Result<(), Mem>
+    requires { IsTrue (is_reached_operand o.now) }
     ensures { OnOk result ((rest : List Item) → out.new ++ rest ≡ out.old ++ second_code n o.now rest) }
 {
     match o {

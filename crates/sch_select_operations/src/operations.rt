@@ -1,8 +1,9 @@
 //! The items of operations.
 
-ghost use Rattle.std.specs.Prelude.{◌≡◌, ◌^◌, ◌<◌, ◌++◌, OnOk, List};
+ghost use Rattle.std.specs.Prelude.{◌≡◌, ◌^◌, ◌<◌, ◌++◌, IsTrue, OnOk, List};
 ghost use Rattle.sch_asm.specs.declared.item.Item.{Item};
 ghost use Rattle.sch_select_operations.specs.OperationCode.{operation_code};
+ghost use Rattle.sch_select_operations.specs.Reach.{is_reached_operation};
 
 use crate::cells::{new_cell, read_cell, source, unset_cell, write_cell};
 use crate::closures::closure;
@@ -22,7 +23,8 @@ pub fn operation(
     n: u32,
     o: &Operation<Place>,
 ) -> Result<(), Mem>
-    requires { heap_end < 2 ^ 31 }
+    requires low { heap_end < 2 ^ 31 }
+    requires reached { IsTrue (is_reached_operation o.now) }
     ensures { OnOk result ((rest : List Item) → out.new ++ rest ≡ out.old ++ operation_code heap_end literals n o.now rest) }
 {
     match o {

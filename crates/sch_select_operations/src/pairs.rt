@@ -8,7 +8,7 @@ use sch_asm::Item;
 use sch_insn::condition::{A, NE};
 use sch_insn::register::{R12, RAX, RCX, RDX};
 use sch_insn::{Arg, Insn};
-use sch_select_memory::addresses::{immediate, low_immediate, stop};
+use sch_select_memory::addresses::{immediate, stop};
 use sch_select_memory::word::{PAIR, TAG_MASK, UNSPECIFIED};
 use sch_word::{List, Mem, Stop};
 
@@ -20,11 +20,12 @@ pub(crate) const CDR: Arg = Arg::Base32(RAX, 7);
 
 /// The heap has this number of bytes left, or stop 71.
 pub fn check_heap(out: &mut List<Item>, heap_end: u32, bytes: u32) -> Result<(), Mem>
-    requires { heap_end < 2 ^ 31 }
+    requires low { heap_end < 2 ^ 31 }
+    requires few { bytes < 2 ^ 31 }
     ensures { OnOk result ((rest : List Item) → out.new ++ rest ≡ out.old ++ check_heap heap_end bytes rest) }
 {
-    let bytes = immediate(bytes)?;
-    let end = low_immediate(heap_end);
+    let bytes = immediate(bytes);
+    let end = immediate(heap_end);
     out.extend_from_slice(&[
         Item::Plain(Insn::MovTo(Arg::Reg(RDX), R12)),
         Item::Plain(Insn::AddNumber(Arg::Reg(RDX), bytes)),
@@ -35,10 +36,12 @@ pub fn check_heap(out: &mut List<Item>, heap_end: u32, bytes: u32) -> Result<(),
 
 /// The word of a part with a tag into RAX, and the address of the next part into R12.
 pub fn part(out: &mut List<Item>, tag: u32, bytes: u32) -> Result<(), Mem>
+    requires tag { tag < 8 }
+    requires few { bytes < 2 ^ 31 }
     ensures { OnOk result ((rest : List Item) → out.new ++ rest ≡ out.old ++ part_code tag bytes rest) }
 {
-    let tag = immediate(tag)?;
-    let bytes = immediate(bytes)?;
+    let tag = immediate(tag);
+    let bytes = immediate(bytes);
     out.extend_from_slice(&[
         Item::Plain(Insn::MovTo(Arg::Reg(RAX), R12)),
         Item::Plain(Insn::AddNumber(Arg::Reg(RAX), tag)),

@@ -1,7 +1,9 @@
 //! The items of primitives over operands.
 
-ghost use Rattle.std.specs.Prelude.{◌≡◌, ◌^◌, ◌<◌, ◌+◌, ◌++◌, OnOk, List};
+ghost use Rattle.std.specs.Prelude.{◌≡◌, ◌^◌, ◌<◌, ◌+◌, ◌++◌, IsTrue, OnOk, List};
+ghost use Rattle.std.specs.List.{list_all};
 ghost use Rattle.sch_asm.specs.declared.item.Item.{Item};
+ghost use Rattle.sch_select_operations.specs.Reach.{is_reached_operand};
 ghost use Rattle.sch_select_operations.specs.PrimitiveCode.{index_operand, pair_or_binary, primitive_code, ternary_code, three_code};
 
 use crate::operands::{atom, binary, operand, second, unary};
@@ -17,6 +19,7 @@ use sch_word::{List, Mem, Place, Primitive, Stop, add_numbers};
 
 /// An index into RCX. What a primitive reads is no number: stop 65.
 fn index(out: &mut List<Item>, o: &Operand<Place>) -> Result<(), Mem>
+    requires { IsTrue (is_reached_operand o.now) }
     ensures { OnOk result ((rest : List Item) → out.new ++ rest ≡ out.old ++ index_operand o.now rest) }
 {
     match o {
@@ -33,6 +36,9 @@ fn three(
     b: &Operand<Place>,
     c: &Operand<Place>,
 ) -> Result<(), Mem>
+    requires first { IsTrue (is_reached_operand a.now) }
+    requires second { IsTrue (is_reached_operand b.now) }
+    requires third { IsTrue (is_reached_operand c.now) }
     ensures { OnOk result ((rest : List Item) → out.new ++ rest ≡ out.old ++ three_code n a.now b.now c.now rest) }
 {
     operand(out, n, c)?;
@@ -71,7 +77,8 @@ pub fn primitive(
     which: Primitive,
     operands: &[Operand<Place>],
 ) -> Result<(), Mem>
-    requires { heap_end < 2 ^ 31 }
+    requires low { heap_end < 2 ^ 31 }
+    requires reached { IsTrue (list_all is_reached_operand operands.now) }
     ensures { OnOk result ((rest : List Item) → out.new ++ rest
         ≡ out.old ++ primitive_code heap_end n which operands.now rest) }
 {

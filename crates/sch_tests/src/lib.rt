@@ -6,6 +6,10 @@ mod calls;
 #[cfg(test)]
 mod cells;
 #[cfg(test)]
+mod generated;
+#[cfg(test)]
+mod listings;
+#[cfg(test)]
 mod program;
 #[cfg(test)]
 mod straight;

@@ -2,9 +2,13 @@
 #![tactic(auto)]
 
 #[cfg(test)]
+mod counts;
+#[cfg(test)]
 mod executables;
 #[cfg(test)]
 mod fills;
+#[cfg(test)]
+mod jumps;
 #[cfg(test)]
 mod lists;
 #[cfg(test)]

@@ -9,6 +9,8 @@ ghost use Rattle.sch_lang.specs.Valid.{is_valid};
 ghost use Rattle.sch_lang.specs.View.{expression, expressions_of, lambdas_of};
 ghost use Rattle.sch_cells.specs.Bodies as bodies;
 ghost use Rattle.sch_cells.specs.ProgramView as view;
+ghost use Rattle.sch_flat.specs.ProgramView as flat;
+ghost use Rattle.sch_flat.specs.Tree.{count};
 
 use sch_anf::normalize;
 use sch_assign::convert_assign;
@@ -125,6 +127,8 @@ fn closed_form(alloc: Global, form: Exp, sites: &[u32]) -> Result<FlatProgram, M
     requires valid { IsTrue (is_valid (program 0 sites.now (expression form ∷ []))) }
     requires few { variables_bound (program 0 sites.now (expression form ∷ [])) < 2 ^ 30 }
     requires bodies { length (bodies_of (program 0 sites.now (expression form ∷ []))) < 2 ^ 32 - 2 ^ 10 }
+    ensures { IfOk result (λ q. length (flat.source q).bodies + count (flat.source q).forms
+        ≡ length (bodies_of (program 0 sites.now (expression form ∷ [])))) }
 {
     let p = converted_form(alloc, form, sites)?;
     close(alloc, &p)

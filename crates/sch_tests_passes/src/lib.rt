@@ -11,9 +11,13 @@ mod frames;
 #[cfg(test)]
 mod library;
 #[cfg(test)]
+mod live_sets;
+#[cfg(test)]
 mod moves;
 #[cfg(test)]
 mod operand_order;
+#[cfg(test)]
+mod places;
 #[cfg(test)]
 mod reader;
 #[cfg(test)]

@@ -1,13 +1,12 @@
 -- Marks of variables that are assigned.
-use Rattle.std.proofs.Common.{◌≡◌, ℕ, zero, suc, ◌+◌, ◌<◌, ◌≤◌, Bool, true, false, List, [], ◌∷◌, length, refl, sym, ap, ◌∙◌, arith, ◌++◌, map, replicate, slice_set, nat_eq, drop, reverse, ◌-◌, take, length-drop}
+use Rattle.std.proofs.Common.{◌≡◌, ℕ, zero, suc, ◌+◌, ◌<◌, ◌≤◌, Bool, true, false, List, [], ◌∷◌, length, refl, sym, ap, ◌∙◌, arith, ◌++◌, map, slice_set, nat_eq, drop, reverse, ◌-◌, take, length-drop}
 use Rattle.std.specs.Prelude.{◌||◌, nat_le}
 use Rattle.std.proofs.lemmas.Bool.{eqb-true, eq-eqb, leb-true, leb-false}
 use Rattle.std.proofs.lemmas.List.{reverse-append, set-append_left, length-reverse, take-append-drop, drop_all}
 use Rattle.std.proofs.Math.Seq.{set-append_seam, drop-append_seam}
 use Rattle.sch_word.specs.trees.Bindings.{numbers}
-use Rattle.sch_word.proofs.facts.Booleans.{or_false, or_or, or_swap, false_true}
+use Rattle.sch_word.proofs.facts.Booleans.{false_true}
 use Rattle.sch_word.proofs.facts.Lists.{reverse_cons}
-use Rattle.sch_word.proofs.facts.NumberTests.{differ}
 use Rattle.sch_lang.specs.Measures.{onto_all}
 use Rattle.sch_word.specs.trees.Assigned.{marked}
 use Rattle.sch_word.proofs.facts.AssignedMarks.{marked_shift, before_marked, marked_far, marked_at, both}

@@ -1,3 +1,4 @@
+pub mod Kinds
 pub mod Within
 pub mod Walked
 pub mod Counts

@@ -1,5 +1,5 @@
 -- What walks over a tree add to what they have found and marked before.
-use Rattle.std.specs.Prelude.{ℕ, zero, suc, ◌≡◌, min, reverse, Bool, ◌||◌, List, [], ◌∷◌}
+use Rattle.std.specs.Prelude.{ℕ, zero, suc, ◌≡◌, min, reverse, Bool, List, [], ◌∷◌}
 use Rattle.sch_word.specs.trees.NumberSets.{insert, union}
 use Rattle.sch_word.specs.trees.Shape.{max_variables}
 use Rattle.sch_lang.specs.Tree.{Expression, Expressions, Lambdas, constant, literal, local, global, set_local, set_global, define, branch, sequence, bind, fix, letrec, lambda, call, operation, no_expressions, and_expression, no_lambdas, and_lambda, count, count_lambdas}

@@ -8,13 +8,14 @@ ghost use Rattle.std.specs.Prelude.{◌++◌};
 ghost use Rattle.sch_word.specs.trees.Bindings.{numbers};
 ghost use Rattle.sch_lang.specs.Variables.{assigns, assigns_each, assigns_lambdas};
 ghost use Rattle.sch_lang.specs.View.{expression, expressions_of, lambdas_of};
+ghost use Rattle.sch_variable_counts.specs.Kinds.{IsFix, IsLetrec};
 ghost use Rattle.sch_variable_counts.specs.Walked.{marks_of, marks_in, marks_in_each, marks_in_lambdas};
 ghost use Rattle.sch_word.specs.trees.Assigned.{marked};
 
 use crate::lengths::{count, count_lambdas};
 use crate::scopes::{bind_all, leave, mark_variable};
 use sch_lang::{Exp, Lambda};
-use sch_word::{List, Mem, add_counts};
+use sch_word::{List, Mem};
 use std::alloc::Global;
 
 /// Takes the nearest variables out of the scope and puts their marks on the stack, the nearest first.
@@ -75,14 +76,15 @@ fn mark(e: &Exp, scope: &mut Vec<bool>, stack: &mut Vec<bool>) -> Result<(), Mem
     }
 }
 
-/// The same for a group of procedures, and for nothing else.
+/// The same for a group of procedures.
 #[cycle(marking)]
 fn mark_fix(e: &Exp, scope: &mut Vec<bool>, stack: &mut Vec<bool>) -> Result<(), Mem>
+    requires kind { IsFix (expression e.now) }
     ensures scope { OnOk result (reverse scope.new.items ≡ marked (assigns (expression e.now)) 0 (reverse scope.old.items)) }
     ensures stack { OnOk result (reverse stack.new.items ≡ marks_in (expression e.now) (reverse stack.old.items)) }
 {
     let Exp::Fix(lambdas, body) = e else {
-        return Err(Mem);
+        unreachable!();
     };
     let bound = count_lambdas(lambdas);
     bind_all(bound, false, scope)?;
@@ -92,14 +94,15 @@ fn mark_fix(e: &Exp, scope: &mut Vec<bool>, stack: &mut Vec<bool>) -> Result<(),
     Ok(())
 }
 
-/// The same for a `letrec`, and for nothing else.
+/// The same for a `letrec`.
 #[cycle(marking)]
 fn mark_rec(e: &Exp, scope: &mut Vec<bool>, stack: &mut Vec<bool>) -> Result<(), Mem>
+    requires kind { IsLetrec (expression e.now) }
     ensures scope { OnOk result (reverse scope.new.items ≡ marked (assigns (expression e.now)) 0 (reverse scope.old.items)) }
     ensures stack { OnOk result (reverse stack.new.items ≡ marks_in (expression e.now) (reverse stack.old.items)) }
 {
     let Exp::Rec(_, inits, body) = e else {
-        return Err(Mem);
+        unreachable!();
     };
     let bound = count(inits);
     bind_all(bound, false, scope)?;

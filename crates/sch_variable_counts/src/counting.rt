@@ -10,6 +10,7 @@ ghost use Rattle.sch_lang.specs.Variables.{assigns};
 ghost use Rattle.sch_lang.specs.Measures.{body_variables, counts_nothing, once_or_not, one_unless, twice_if, three_each, bound_count, onto_assigned, onto_all, variables, variables_each, variables_operands, variables_parts};
 ghost use Rattle.sch_lang.specs.View.{expression, expressions_of, lambdas_of};
 ghost use Rattle.sch_variable_counts.specs.Counts.{Counts};
+ghost use Rattle.sch_variable_counts.specs.Kinds.{IsBind, IsFix, IsLetrec};
 ghost use Rattle.sch_variable_counts.specs.Walked.{capped, marks_of, marks_in, marks_in_each, marks_in_lambdas, Takes};
 ghost use Rattle.sch_variable_counts.specs.Within.{has_few_variables, each_procedure_in, each_lambda, few_variables};
 
@@ -170,7 +171,7 @@ fn count_in(
     }
 }
 
-/// What a `let` counts, and nothing else.
+/// What a `let` counts.
 #[cycle(counting)]
 fn count_let(
     alloc: Global,
@@ -178,12 +179,13 @@ fn count_let(
     once: &mut Vec<bool>,
     marks: &mut Vec<bool>,
 ) -> Result<Counted, Mem>
+    requires kind { IsBind (expression e.now) }
     ensures count { IfOk result (λ n. Takes (marks_in (expression e.now)) marks.old.items marks.new.items
         (Counts n (variables (expression e.now) (reverse once.old.items)) (few_variables (expression e.now)))) }
     ensures once { OnOk result (once.new.items ≡ once.old.items) }
 {
     let Exp::Let(_, inits, body) = e else {
-        return Err(Mem);
+        unreachable!();
     };
     let first = count_each(alloc, inits, once, marks)?;
     let depth = once.len();
@@ -193,7 +195,7 @@ fn count_let(
     Ok(sum(first, with(bound, inside)))
 }
 
-/// What a group of procedures and its body count, and nothing else.
+/// What a group of procedures and its body count.
 #[cycle(counting)]
 fn count_fix(
     alloc: Global,
@@ -201,12 +203,13 @@ fn count_fix(
     once: &mut Vec<bool>,
     marks: &mut Vec<bool>,
 ) -> Result<Counted, Mem>
+    requires kind { IsFix (expression e.now) }
     ensures count { IfOk result (λ n. Takes (marks_in (expression e.now)) marks.old.items marks.new.items
         (Counts n (variables (expression e.now) (reverse once.old.items)) (few_variables (expression e.now)))) }
     ensures once { OnOk result (once.new.items ≡ once.old.items) }
 {
     let Exp::Fix(lambdas, body) = e else {
-        return Err(Mem);
+        unreachable!();
     };
     let few = count_each_lambda(alloc, lambdas, marks)?;
     let bound = count_lambdas(lambdas);
@@ -217,7 +220,7 @@ fn count_fix(
     Ok(sum(Counted { variables: 0, few }, with(bound, inside)))
 }
 
-/// What a `letrec` counts, and nothing else.
+/// What a `letrec` counts.
 #[cycle(counting)]
 fn count_rec(
     alloc: Global,
@@ -225,12 +228,13 @@ fn count_rec(
     once: &mut Vec<bool>,
     marks: &mut Vec<bool>,
 ) -> Result<Counted, Mem>
+    requires kind { IsLetrec (expression e.now) }
     ensures count { IfOk result (λ n. Takes (marks_in (expression e.now)) marks.old.items marks.new.items
         (Counts n (variables (expression e.now) (reverse once.old.items)) (few_variables (expression e.now)))) }
     ensures once { OnOk result (once.new.items ≡ once.old.items) }
 {
     let Exp::Rec(_, inits, body) = e else {
-        return Err(Mem);
+        unreachable!();
     };
     let bound = count(inits);
     let depth = once.len();

@@ -2,25 +2,34 @@ use Rattle.std.proofs.Common.{◌<◌, ◌+◌, ◌^◌, ◌∙◌, ℕ, IsTrue,
 use Rattle.std.specs.List.Sorted.{IsNonDecreasing}
 use Rattle.sch_flat.specs.ProgramView.{source}
 use Rattle.sch_flat.specs.View.{body, trees_of}
+use Rattle.sch_control.specs.BoundParts.{parts_bound}
 use Rattle.sch_control.specs.Valid.{all_known, bound_known, library_known, sites_once, statics_known}
 use Rattle.sch_anf_laws.specs.Normal.{new_label, normal_bodies}
-use Rattle.sch_anf.proofs.ProgramMade.{Given, few_bodies, given, library_fits, made_program}
+use Rattle.sch_anf.proofs.ProgramMade.{Given, few_bodies, few_labels, given, library_fits, made_program}
 use Rattle.sch_anf_laws.proofs.valid.ValidProgram as valid
 use Rattle.sch_anf.proofs.normal_program.Goals as goal
 
 pub normalize_bodies-requires : goal.normalize_bodies-requires
 normalize_bodies-requires c =
     let p = c.args.p.now in
-    let few = few_bodies p.starts c.as_slice-starts.result.now p.bodies c.as_slice-flat_bodies.result.now c.as_slice-starts.ensures c.as_slice-flat_bodies.ensures c.in_ok-check_labels.ensures in
+    let few = few_labels (source p) p.ordered c.requires.few in
     let g : Given c.as_slice-starts.result.now c.as_slice-flat_bodies.result.now p.forms =
     given c.as_slice-starts.result.now c.as_slice-flat_bodies.result.now p.forms (source p) (sym c.as_slice-starts.ensures)
     (ap (map body) (sym c.as_slice-flat_bodies.ensures)) refl few p.closed p.formed p.ordered p.sited p.ready p.words in
-    record { few = c.in_ok-check_labels.ensures; sorted = g.sorted; starts = g.starts_match; ascends = g.ascends; bodies = g.bodies_fit; forms = g.forms_fit; valid = g.valid }
+    record {
+      few = few_bodies p.starts c.as_slice-starts.result.now p.bodies c.as_slice-flat_bodies.result.now c.as_slice-starts.ensures c.as_slice-flat_bodies.ensures few;
+      sorted = g.sorted;
+      starts = g.starts_match;
+      ascends = g.ascends;
+      bodies = g.bodies_fit;
+      forms = g.forms_fit;
+      valid = g.valid;
+    }
 
 pub new_labels-requires : goal.new_labels-requires
 new_labels-requires c =
     let p = c.args.p.now in
-    let few = few_bodies p.starts c.as_slice-starts.result.now p.bodies c.as_slice-flat_bodies.result.now c.as_slice-starts.ensures c.as_slice-flat_bodies.ensures c.in_ok-check_labels.ensures in
+    let few = few_labels (source p) p.ordered c.requires.few in
     let g = given p.starts p.bodies p.forms (source p) refl refl refl few p.closed p.formed p.ordered p.sited p.ready p.words in
     record {
       sorted = subst IsNonDecreasing (sym c.as_slice-starts.ensures) g.sorted;
@@ -54,6 +63,7 @@ invariant_of-result c =
       known = subst (λ q. IsTrue (all_known q)) (sym whole) (valid.all_known (source p) p.closed p.formed p.ordered p.sited p.ready p.words);
       sited = subst (λ q. IsTrue (sites_once q)) (sym whole) (valid.sites_once (source p) p.closed p.formed p.ordered p.sited p.ready p.words);
       ordered = subst (λ q. IsTrue (bound_known q)) (sym whole) (valid.bound_known (source p) p.closed p.formed p.ordered p.sited p.ready p.words);
+      turns = subst (λ q. IsTrue (parts_bound q)) (sym whole) (valid.parts_bound (source p) p.closed p.formed p.ordered p.sited p.ready p.words);
       free = subst (λ q. IsTrue (library_known q)) (sym whole) (valid.library_known (source p) p.closed p.formed p.ordered p.sited p.ready p.words);
       ready = subst (λ q. IsTrue (statics_known q)) (sym whole) (valid.statics_good (source p) p.closed p.formed p.ordered p.sited p.ready p.words);
     }

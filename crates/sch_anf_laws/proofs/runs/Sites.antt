@@ -164,3 +164,25 @@ ordered_at p table h site width parts w f =
     fits_at p.sites (bound_parts p) table site width parts h found.0
     (slice_get-map (λ site. order_or_none (bound_to site (bound_rows_source p))) (numbers 0 (length p.sites)) site
     ∙ (rw (number_at 0 (length p.sites) site found.1) (ap Some (ap order_or_none (ap (λ k. bound_to k (bound_rows_source p)) (omega arith) ∙ f)))))
+
+-- ## What is listed
+
+within : (listed : List ℕ) (xs : List (ℕ × ℕ)) → Every (λ at. is_width (slice_get listed at.0) at.1 ≡ true) xs → Every (λ k. k < length listed) (keys xs)
+within listed [] h = tt
+within listed (x ∷ xs) h = ((width_within listed x.0 x.1 h.0).1, within listed xs h.1)
+
+-- each site is listed with what is bound there
+pub rows_listed : (p : Source) → sited p ≡ true → Every (λ r. order_at (bound_parts p) r.0 ≡ r.1) (bound_rows_source p)
+rows_listed p h =
+    go (bound_rows_source p) (rows_found p h)
+    (subst (λ ks. Every (λ k. k < length p.sites) ks) (sym (rows_keys_source p)) (within p.sites (sites_of p) (widths p.sites (sites_of p) h)))
+  where
+    listed : (site : ℕ) (parts : List ℕ) → site < length p.sites → bound_to site (bound_rows_source p) ≡ Some parts → slice_get (bound_parts p) site ≡ Some parts
+    listed site parts l f =
+        slice_get-map (λ site. order_or_none (bound_to site (bound_rows_source p))) (numbers 0 (length p.sites)) site
+        ∙ (rw (number_at 0 (length p.sites) site l) (ap Some (ap order_or_none (ap (λ k. bound_to k (bound_rows_source p)) (omega arith) ∙ f))))
+
+    go : (rows : Bindings (List ℕ)) → Every (λ r. bound_to r.0 (bound_rows_source p) ≡ Some r.1) rows → Every (λ k. k < length p.sites) (keys rows)
+        → Every (λ r. order_at (bound_parts p) r.0 ≡ r.1) rows
+    go [] f w = tt
+    go (r ∷ rows) f w = (ap order_or_none (listed r.0 r.1 w.0 f.0), go rows f.1 w.1)

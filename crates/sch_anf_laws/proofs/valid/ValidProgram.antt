@@ -17,15 +17,19 @@ use Rattle.sch_flat.specs.Measures.{over, over_each, over_bodies, over_source, s
 use Rattle.sch_flat.specs.Valid.{has_fields, body_scoped, scoped, scoped_each, is_closed, is_formed, in_order, sited, ascending, body_fits, forms_fit, statics_known, constants_in_range}
 use Rattle.sch_control.specs.declared.body.Entry.{Entry}
 use Rattle.sch_control.specs.Tree.{Code}
+use Rattle.sch_control.specs.BoundParts as control_parts
+use Rattle.sch_control.specs.BoundParts.{parts_in_turn}
 use Rattle.sch_control.specs.Valid as to
 use Rattle.sch_control.specs.Valid.{Names, entries_of, names_of, sites_of_each, enters, without_fields, without_repeats, code_known}
+use Rattle.sch_anf_laws.specs.Normal as normal
 use Rattle.sch_anf_laws.specs.Normal.{is_simple, new_label, procedure_code, form_code, normal_bodies, normal_source, bound_places, operator_place, bound_rows, bound_rows_each, bound_rows_bodies, bound_rows_source}
 use Rattle.sch_anf_laws.proofs.runs.Fine.{bound_below}
 use Rattle.sch_anf_laws.proofs.runs.Bodies.{stands_at}
 use Rattle.sch_anf_laws.proofs.runs.Ready as ready
 use Rattle.sch_anf_laws.proofs.runs.Ready.{Every, every_of, every_left, every_right}
-use Rattle.sch_anf_laws.proofs.runs.Sites.{keyed_times, width_within, counted, widths}
+use Rattle.sch_anf_laws.proofs.runs.Sites.{keyed_times, rows_listed, width_within, counted, widths}
 use Rattle.sch_anf_laws.proofs.valid.Parts.{node_good, joint_source, entry_for}
+use Rattle.sch_anf_laws.proofs.valid.PartsInTurn.{Listed, normal_turns, procedures_turn}
 use Rattle.sch_anf_laws.proofs.valid.SitesKept.{sites_in, sites_in_each, kept, fewer, fewer_each}
 use Rattle.sch_anf_laws.proofs.valid.Numbered.{numbers_once}
 use Rattle.sch_anf_laws.proofs.valid.ValidBodies.{Sound, procedure_sound, form_sound}
@@ -427,6 +431,22 @@ module _ (p : Source) (closed : is_closed p ≡ true) (formed : is_formed p ≡ 
           (rows_good_bodies p.sites p.bodies (every_left (Width p.sites) (over_bodies [] (λ x y. x ++ y) shapes.site_of p.bodies) (ready.sites_in_each p.forms) all))
           (rows_good_each p.sites p.forms (every_right (Width p.sites) (over_bodies [] (λ x y. x ++ y) shapes.site_of p.bodies) (ready.sites_in_each p.forms) all))
 
+  abbrev bound : List (List ℕ)
+  bound = normal.bound_parts p
+
+  pub parts_bound : control_parts.parts_bound (normal_source p) ≡ true
+  parts_bound = all_of (λ c. parts_in_turn bound c.expression []) codes (every_code p.starts (λ c. parts_in_turn bound c.expression [] ≡ true) p.forms p.starts p.bodies 0
+      (procedures_turn bound p.starts p.bodies (every_left (Listed bound) (bound_rows_bodies p.bodies) (bound_rows_each p.forms) rows))
+      (forms p.forms (every_right (Listed bound) (bound_rows_bodies p.bodies) (bound_rows_each p.forms) rows)))
+    where
+      rows : Every (Listed bound) (bound_rows_source p)
+      rows = rows_listed p once
+
+      forms : (es : Trees) → Every (Listed bound) (bound_rows_each es) → EveryTree (λ e. parts_in_turn bound (form_code p.starts e).expression [] ≡ true) es
+      forms no_trees h = tt
+      forms (and_tree e es) h =
+          (normal_turns bound p.starts false e [] 2 [] (every_left (Listed bound) (bound_rows e) (bound_rows_each es) h), forms es (every_right (Listed bound) (bound_rows e) (bound_rows_each es) h))
+
   pub library_known : to.library_known (normal_source p) ≡ true
   library_known = go p.library (and_right forms_scoped library_scoped (and_right (list_all (body_scoped p.bodies) p.bodies) (forms_scoped && library_scoped) closed))
     where
@@ -448,7 +468,7 @@ module _ (p : Source) (closed : is_closed p ≡ true) (formed : is_formed p ≡ 
       (and_right (over_source true (λ x y. x && y) constant_in_range p) (statics_in_range p.statics) words)
 
   pub valid : to.is_valid (normal_source p) ≡ true
-  valid = rw (all_known, sites_once, bound_known, library_known, statics_good) refl
+  valid = rw (all_known, sites_once, bound_known, parts_bound, library_known, statics_good) refl
 
   pub bodies_valid : list_all to.code_valid codes ≡ true
   bodies_valid = all_of to.code_valid codes (go codes all_sound)

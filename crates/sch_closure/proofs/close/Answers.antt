@@ -9,6 +9,7 @@ use Rattle.sch_flat.specs.Covered.{is_covered_program}
 use Rattle.sch_flat.specs.Measures.{sites_of, call_sites_of, tests_of, dropped_of, program_size, weight}
 use Rattle.sch_flat.specs.Run as meaning
 use Rattle.sch_closure.specs.Kept.{SameItems, flat_forms, procedure_of}
+use Rattle.sch_closure.proofs.kept.BodyCount.{bodies_counted}
 use Rattle.sch_closure.proofs.kept.CoveredKept.{covered_kept, labels_length}
 use Rattle.sch_closure.proofs.kept.ValidKept.{Given, same_runs, clears, fresh_library, fresh_forms}
 use Rattle.sch_closure.proofs.kept.ProgramKept.{weight_kept, sites_kept, calls_kept, tests_kept, dropped_kept, bodies_kept, forms_kept, size_kept}
@@ -87,3 +88,12 @@ returns-clause-covered c =
     let v = c.args.p.now in
     let g : Given p = record { scoped = v.scoped; formed = v.formed; limited = v.limited } in
     if_ok c.close_program.result _ _ c.close_program.ensures (λ q made s. subst (λ t. IsTrue (is_covered_program t)) (sym made) (covered_kept p (fresh_library p g) (fresh_forms p g) s))
+
+pub returns-clause-count : goal.returns-clause-count
+returns-clause-count c =
+    let p = source c.args.p.now in
+    let v = c.args.p.now in
+    let g : Given p = record { scoped = v.scoped; formed = v.formed; limited = v.limited } in
+    if_ok c.close_program.result _ _ c.close_program.ensures
+    (λ q made. bodies_counted p _ _ (ap (λ s. map procedure_of s.bodies) made ∙ bodies_kept p (fresh_library p g) (fresh_forms p g))
+    (ap (λ s. flat_forms s.forms) made ∙ forms_kept p (fresh_library p g) (fresh_forms p g) (clears p g).1))

@@ -8,7 +8,9 @@ use Rattle.sch_prelude.specs.LibraryText.{library_text}
 use Rattle.sch_driver.specs.Causes.{IsErrorOf, Means, max_source_size}
 use Rattle.sch_driver.specs.FitsProgram.{FitsProgram}
 use Rattle.sch_driver.proofs.ProgramFits.{program_fits}
+use Rattle.sch_driver.proofs.LibraryCount.{library_within}
 use Rattle.sch_driver.proofs.Images.{bound_chain, frame_chain, kept_error, names_of_codes, too_large}
+use Rattle.sch_driver.proofs.PrintableListing.{printable}
 use Rattle.sch_driver.proofs.compile.Goals as goal
 
 pub read_program-requires : goal.read_program-requires
@@ -18,7 +20,13 @@ read_program-requires c = record {
 }
 
 pub control_program-requires : goal.control_program-requires
-control_program-requires c = record { small = omega (arith, c.in_ok-program.ensures.size) }
+control_program-requires c =
+    let p = source c.in_ok-program.program in
+    let bytes = ap length c.library_text.ensures.is in
+    record {
+      small = omega (arith, c.in_ok-program.ensures.size);
+      library = omega (arith, library_within _ c.args.text.now p c.in_ok-program.ensures.means, bytes, c.library_text.ensures.short);
+    }
 
 pub assemble-requires : goal.assemble-requires
 assemble-requires c = record { covered = c.in_ok-control.ensures.covered }
@@ -85,3 +93,6 @@ returns-clause-compiled c =
       ends = does.ends (run p orders limits.heap limits.depth) same;
       marked = does.marked (run p orders limits.heap limits.depth) same;
     }
+
+pub returns-clause-printable : goal.returns-clause-printable
+returns-clause-printable c = printable library_text c.args.text.now c.args.limits.heap c.args.limits.depth c.in_ok-file.file _ (returns-clause-compiled c)

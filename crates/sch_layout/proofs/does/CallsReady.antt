@@ -162,7 +162,7 @@ module _ (plan : Plan) where
   own_operand (operand.Atom a) h = own_atoms (a ∷ []) h
   own_operand (operand.Read site which atoms) h = own_atoms atoms h
 
-  module _ (live : ℕ → Type 0) (environment saved : Environment) (f : Frame) (agrees : Agrees plan live environment saved f.places) (t : Store) where
+  module _ (live : ℕ → Type 0) {kept : ℕ → Type 0} (environment saved : Environment) (f : Frame) (agrees : Agrees plan live kept environment saved f.places) (t : Store) where
     -- what is seen before the moves
     abbrev start : Contents
     start p = value_in (seen plan.limit f p)
@@ -199,7 +199,7 @@ module _ (plan : Plan) where
 
   -- the moves of a call bring its parts where it takes them
   pub brings_do : (callee : Callee) (depth : ℕ) (s : State Procedure) (tail : Bool) (Free : Place → Type 0) (a : Application ℕ) → Brings plan tail Free a
-      → (live : ℕ → Type 0) (environment saved : Environment) (f : Frame) → Agrees plan live environment saved f.places → AtomsHave Behind (application_atoms a)
+      → (live : ℕ → Type 0) {kept : ℕ → Type 0} (environment saved : Environment) (f : Frame) → Agrees plan live kept environment saved f.places → AtomsHave Behind (application_atoms a)
       → ((x : ℕ) → Mentions x (application_atoms a) → live x) → (vs : List Value) → Values environment s.store (a.operator ∷ a.operands) vs → (rest : List Instruction) (r : Result)
       → ((g : Frame) (marks : List MarkKind) → ((k : ℕ) (v : Value) → slice_get vs k ≡ Some v → value_in (seen plan.limit g (target tail plan.limit k)) ≡ Some v)
       → ((p : Place) → EachMove (λ m. same_place p m.to ≡ false) (plan.moves tail a) → g.places p ≡ f.places p) → EndsAs r (run plan.limit callee depth s rest g marks))

@@ -92,8 +92,8 @@ module _ (plan : Plan) (live : ℕ → Type 0) (count : ℕ) (come : Arrives pla
               (λ marks. more (with_place f (plan.place from) (f.places (arrived from))) (comes from f.places (omega (arith, e)) i a) marks) marks
 
   agrees : (e : Entry) → count ≡ 2 + e.formals → length arguments ≡ e.formals → (places : Place → Cell) → Standing count places
-      → Agrees plan live (control_run.beginning (Some e) self arguments) nothing places
-  agrees e c l places a = record { here = λ x v lx h. here x v lx h (few x v h); home = λ x v s h. none_some v h } where
+      → {kept : ℕ → Type 0} → Agrees plan live kept (control_run.beginning (Some e) self arguments) nothing places
+  agrees e c l places a {kept} = record { here = λ x v lx h. here x v lx h (few x v h); home = λ x v s k h. none_some v h } where
     few : (x : ℕ) (v : Value) → entry_environment self arguments x ≡ Some v → x < count
     few zero v h = omega (arith, c)
     few (suc zero) v h = omega (arith, c)
@@ -103,12 +103,12 @@ module _ (plan : Plan) (live : ℕ → Type 0) (count : ℕ) (come : Arrives pla
     here x v lx h lt = ap places (sym (stands_placed plan count x lt)) ∙ a x v lx lt h
 
 -- What is done behind the entering code is done from the values of the live variables in their places.
-pub enters : (plan : Plan) (live : ℕ → Type 0) → plan.place 0 ≡ link_register → (entry : Option Entry) → Arrives plan live (entered_with entry)
+pub enters : (plan : Plan) (live kept : ℕ → Type 0) → plan.place 0 ≡ link_register → (entry : Option Entry) → Arrives plan live (entered_with entry)
     → (self : Value) (arguments : List Value) → length arguments ≡ formals_of entry → (callee : Callee) (depth : ℕ) (rest : List Instruction) (s : State Procedure) (r : Result)
-    → ((f : Frame) (marks : List MarkKind) → Agrees plan live (control_run.beginning entry self arguments) nothing f.places → EndsAs r (execute_each callee depth rest None f (world s marks)))
+    → ((f : Frame) (marks : List MarkKind) → Agrees plan live kept (control_run.beginning entry self arguments) nothing f.places → EndsAs r (execute_each callee depth rest None f (world s marks)))
     → (marks : List MarkKind) → EndsAs r (execute_each callee depth (entering plan entry rest) None (beginning entry self arguments) (world s marks))
-enters plan live link None come self arguments l callee depth rest s r go marks =
-    go (beginning None self arguments) marks (record { here = λ x v lx h. none_some v h; home = λ x v s h. none_some v h })
-enters plan live link (Some e) come self arguments l callee depth rest s r go marks =
+enters plan live kept link None come self arguments l callee depth rest s r go marks =
+    go (beginning None self arguments) marks (record { here = λ x v lx h. none_some v h; home = λ x v s k h. none_some v h })
+enters plan live kept link (Some e) come self arguments l callee depth rest s r go marks =
     arrive plan live (2 + e.formals) come self arguments callee depth (suc e.formals) 1 rest _ s r (omega arith) (first plan live (2 + e.formals) come self arguments link)
     (λ f marks a. go f marks (agrees plan live (2 + e.formals) come self arguments e refl l f.places a)) marks

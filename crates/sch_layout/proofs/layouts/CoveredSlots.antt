@@ -35,7 +35,7 @@ use Rattle.sch_layout.proofs.layouts.OperandsKept.{atom_kept, operand_kept, oper
 pub covered_steers : Steers is_covered_instruction
 covered_steers = record { if_false = λ l. refl; jump = λ l. refl; label = λ l. refl; return = refl; marks = λ m e. refl }
 
-covered_unplaced : Unplaced is_covered_instruction
+pub covered_unplaced : Unplaced is_covered_instruction
 covered_unplaced = record { copies = λ to from. refl; stores = λ to. refl; passes = λ k. refl; variables = λ p. refl }
 
 module _ (place : ℕ → Place) where
@@ -99,7 +99,7 @@ module _ (plan : Plan) where
     copied p to None is = refl
     copied p to (Some m) is = refl
 
-  lay_begins : (e : Expression) (inside : ℕ → Bool) (n : ℕ) (test : Option ℕ) (rest : List Instruction) → begins (lay plan e inside n test rest) ≡ true
+  pub lay_begins : (e : Expression) (inside : ℕ → Bool) (n : ℕ) (test : Option ℕ) (rest : List Instruction) → begins (lay plan e inside n test rest) ≡ true
   lay_begins (perform o) inside n test rest = refl
   lay_begins (bind x a b) inside n test rest = lay_begins a inside n None _
   lay_begins (sequence a b) inside n test rest = lay_begins a inside n None _

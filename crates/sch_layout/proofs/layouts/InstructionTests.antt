@@ -82,15 +82,15 @@ module _ (plan : Plan) (test : Instruction → Bool) (steers : Steers test) wher
   Passes (tail_call a) = Leads (move_all plan.limit (plan.moves true a)) × (test (Tail a.spread (length a.operands)) ≡ true)
   Passes (save saves e) = Passes e
 
-  leave_pass : (to : Option ℕ) (rest : List Instruction) → list_all test rest ≡ true → list_all test (leave to rest) ≡ true
+  pub leave_pass : (to : Option ℕ) (rest : List Instruction) → list_all test rest ≡ true → list_all test (leave to rest) ≡ true
   leave_pass None rest h = h
   leave_pass (Some l) rest h = and_from _ _ (steers.if_false l) h
 
-  under_passes : (m : Option MarkKind) → is_entry m ≡ false → (i : Instruction) → test i ≡ true → (rest : List Instruction) → list_all test rest ≡ true → list_all test (under m i rest) ≡ true
+  pub under_passes : (m : Option MarkKind) → is_entry m ≡ false → (i : Instruction) → test i ≡ true → (rest : List Instruction) → list_all test rest ≡ true → list_all test (under m i rest) ≡ true
   under_passes None e i p rest h = and_from _ _ p h
   under_passes (Some m) e i p rest h = and_from _ _ (steers.marks m e) (and_from _ _ p h)
 
-  spill_passes : (x : ℕ) (i : Instruction) → test i ≡ true → (rest : List Instruction) → list_all test rest ≡ true → list_all test (under (spill plan x) i rest) ≡ true
+  pub spill_passes : (x : ℕ) (i : Instruction) → test i ≡ true → (rest : List Instruction) → list_all test rest ≡ true → list_all test (under (spill plan x) i rest) ≡ true
   spill_passes x = under_passes (spill plan x) (spill_has (λ m. is_entry m ≡ false) plan x refl refl)
 
   -- what is saved and restored passes it
@@ -214,11 +214,11 @@ module _ (place : ℕ → Place) (words : ℕ) (P : ℕ → Type 0) (there : (x 
   atoms_placed (Literal n ∷ atoms) h = atoms_placed atoms h.1
   atoms_placed (Variable x ∷ atoms) h = and_from _ _ (there x h.0) (atoms_placed atoms h.1)
 
-  operand_placed : (o : Operand ℕ) → AtomsHave P (operand_atoms o) → list_all (is_atom words) (operand_atoms (operand_at place o)) ≡ true
+  pub operand_placed : (o : Operand ℕ) → AtomsHave P (operand_atoms o) → list_all (is_atom words) (operand_atoms (operand_at place o)) ≡ true
   operand_placed (operand.Atom a) h = atoms_placed (a ∷ []) h
   operand_placed (operand.Read site which atoms) h = atoms_placed atoms h
 
-  operands_placed : (operands : List (Operand ℕ)) → AtomsHave P (operands_atoms operands) → list_all (is_atom words) (operands_atoms (operands_at place operands)) ≡ true
+  pub operands_placed : (operands : List (Operand ℕ)) → AtomsHave P (operands_atoms operands) → list_all (is_atom words) (operands_atoms (operands_at place operands)) ≡ true
   operands_placed [] h = refl
   operands_placed (o ∷ operands) h =
       list_all-append (is_atom words) (operand_atoms (operand_at place o)) _
@@ -310,15 +310,15 @@ module _ (plan : Plan) (words most : ℕ) (P : ℕ → Type 0) (there : (x : ℕ
 -- ### Arguments that are set aside
 
 -- a slot of the frame, whose size is no more than the limit
-slot_target : (limit words j : ℕ) → words ≤ limit → j < words → is_target limit words (Slot j) ≡ true
+pub slot_target : (limit words j : ℕ) → words ≤ limit → j < words → is_target limit words (Slot j) ≡ true
 slot_target limit words j le lt = ap (λ t. cond t (nat_lt j words) (nat_lt (j - limit) words)) (lt-ltb j limit (omega (arith, lt, le))) ∙ lt-ltb j words lt
 
 -- a slot of the next frame
-next_target : (limit words j : ℕ) → j < words → is_target limit words (Slot (limit + j)) ≡ true
+pub next_target : (limit words j : ℕ) → j < words → is_target limit words (Slot (limit + j)) ≡ true
 next_target limit words j lt =
     ap (λ t. cond t (nat_lt (limit + j) words) (nat_lt (limit + j - limit) words)) (le-ltb (limit + j) limit (omega arith)) ∙ lt-ltb (limit + j - limit) words (omega (arith, lt))
 
-target_fits : (limit words : ℕ) → words ≤ limit → (tail : Bool) (k : ℕ) → k < 7 + words → is_target limit words (target tail limit k) ≡ true
+pub target_fits : (limit words : ℕ) → words ≤ limit → (tail : Bool) (k : ℕ) → k < 7 + words → is_target limit words (target tail limit k) ≡ true
 target_fits limit words le tail zero lt = refl
 target_fits limit words le true (suc zero) lt = refl
 target_fits limit words le true (suc (suc zero)) lt = refl

@@ -108,7 +108,7 @@ module _ (formals base number limit : ℕ) (entered : Bool) where
   leave_copies None rest = refl
   leave_copies (Some l) rest = omega arith
 
-  moves_done : (tail : Bool) (a : Application ℕ) (rest : List Instruction)
+  pub moves_done : (tail : Bool) (a : Application ℕ) (rest : List Instruction)
       → done (move_all limit (plan.moves tail a) rest) ≤ suc (operand_size a.operator + operands_work a.operands + done rest)
   moves_done tail a rest =
       let h = asides_less limit (λ is. done is) 0 given (done_copied limit) (done_written limit) (base + number) 2 (λ j. omega arith) plan.place tail a rest in
@@ -116,7 +116,7 @@ module _ (formals base number limit : ℕ) (entered : Bool) where
       let o = operand_kept plan.place a.operator in
       omega (arith, h, c, o)
 
-  moves_copies : (tail : Bool) (a : Application ℕ) (rest : List Instruction) → copies_of (move_all limit (plan.moves tail a) rest) ≤ 2 + 2 * length a.operands + copies_of rest
+  pub moves_copies : (tail : Bool) (a : Application ℕ) (rest : List Instruction) → copies_of (move_all limit (plan.moves tail a) rest) ≤ 2 + 2 * length a.operands + copies_of rest
   moves_copies tail a rest =
       let h = asides_less limit (λ is. copies_of is) 1 (λ o. 0) (copies_copied limit) (copies_written limit) (base + number) 0 (λ j. omega arith) plan.place tail a rest in
       let c = costs_copies limit plan.place (a.operator ∷ a.operands) in

@@ -38,16 +38,16 @@ module _ (plan : Plan) (takes : Takes plan) (test : Instruction → Bool) (steer
   all_given [] = tt
   all_given (o ∷ operands) = (given (operand_at plan.place o), all_given operands)
 
-low_steers : Steers instruction_low
+pub low_steers : Steers instruction_low
 low_steers = record { if_false = λ l. refl; jump = λ l. refl; label = λ l. refl; return = refl; marks = λ m e. refl }
 
-low_unplaced : Unplaced instruction_low
+pub low_unplaced : Unplaced instruction_low
 low_unplaced = record { copies = λ to from. refl; stores = λ to. refl; passes = λ k. refl; variables = λ p. refl }
 
-stand_steers : (ends : Bool) → Steers (may_stand ends)
+pub stand_steers : (ends : Bool) → Steers (may_stand ends)
 stand_steers ends = record { if_false = λ l. refl; jump = λ l. refl; label = λ l. refl; return = refl; marks = λ m e. refl }
 
-stand_unplaced : (ends : Bool) → Unplaced (may_stand ends)
+pub stand_unplaced : (ends : Bool) → Unplaced (may_stand ends)
 stand_unplaced ends = record { copies = λ to from. refl; stores = λ to. refl; passes = λ k. refl; variables = λ p. refl }
 
 never : {ends : Bool} → false ≡ true → ends ≡ true
@@ -84,7 +84,7 @@ module _ (place : ℕ → Place) (fields : ℕ) (few : fields ≤ max_free_varia
   operation_is (operation.MakeClosure c) h = sources_are c.fields h
 
 module _ (plan : Plan) (takes : Takes plan) (fields : ℕ) (few : fields ≤ max_free_variables) where
-  parts_low : (e : Expression) → fields_there fields e ≡ true → Passes plan instruction_low low_steers e
+  pub parts_low : (e : Expression) → fields_there fields e ≡ true → Passes plan instruction_low low_steers e
   parts_low (perform o) h = operation_is plan.place fields few o h
   parts_low (bind x a b) h = let p = and_parts _ _ h in (refl, (parts_low a p.0, parts_low b p.1))
   parts_low (sequence a b) h = let p = and_parts _ _ h in (parts_low a p.0, parts_low b p.1)
@@ -98,7 +98,7 @@ module _ (plan : Plan) (takes : Takes plan) (fields : ℕ) (few : fields ≤ max
       (moves_pass plan takes instruction_low low_steers low_unplaced true a (all_given plan takes instruction_low low_steers low_unplaced (λ o. refl) (a.operator ∷ a.operands)), refl)
   parts_low (save saves e) h = parts_low e h
 
-few_fields : (entry : Option Entry) → entry_shaped entry ≡ true → fields_of entry ≤ max_free_variables
+pub few_fields : (entry : Option Entry) → entry_shaped entry ≡ true → fields_of entry ≤ max_free_variables
 few_fields None h = omega arith
 few_fields (Some e) h =
     let p = and_parts (nat_le e.formals max_operands) _ h in
@@ -116,7 +116,7 @@ slots_low c whole there =
 
 module _ (plan : Plan) (takes : Takes plan) (ends : Bool) where
   -- an expression has the end of a form only where it may end one
-  parts_stand : (e : Expression) (at : Position) → (ends_form at ≡ true → ends ≡ true) → positioned e at ≡ true → Passes plan (may_stand ends) (stand_steers ends) e
+  pub parts_stand : (e : Expression) (at : Position) → (ends_form at ≡ true → ends ≡ true) → positioned e at ≡ true → Passes plan (may_stand ends) (stand_steers ends) e
   parts_stand (perform o) at may h = refl
   parts_stand (bind x a b) at may h = let p = and_parts _ _ h in (refl, (parts_stand a value never p.0, parts_stand b at may p.1))
   parts_stand (sequence a b) at may h = let p = and_parts _ _ h in (parts_stand a no_call never p.0, parts_stand b at may p.1)
@@ -139,7 +139,7 @@ module _ (plan : Plan) (takes : Takes plan) (ends : Bool) where
   )
   parts_stand (save saves e) at may h = parts_stand e at may h
 
-last_may : (entry : Option Entry) → ends_form (last_position entry) ≡ true → is_form entry ≡ true
+pub last_may : (entry : Option Entry) → ends_form (last_position entry) ≡ true → is_form entry ≡ true
 last_may None h = refl
 last_may (Some e) h = h
 
@@ -152,14 +152,14 @@ slots_end c h =
 
 -- ## Marks of entries
 
-plain_steers : Steers plain_instruction
+pub plain_steers : Steers plain_instruction
 plain_steers = record { if_false = λ l. refl; jump = λ l. refl; label = λ l. refl; return = refl; marks = λ m e. ap not e }
 
-plain_unplaced : Unplaced plain_instruction
+pub plain_unplaced : Unplaced plain_instruction
 plain_unplaced = record { copies = λ to from. refl; stores = λ to. refl; passes = λ k. refl; variables = λ p. refl }
 
 module _ (plan : Plan) (takes : Takes plan) where
-  parts_plain : (e : Expression) → Passes plan plain_instruction plain_steers e
+  pub parts_plain : (e : Expression) → Passes plan plain_instruction plain_steers e
   parts_plain (perform o) = refl
   parts_plain (bind x a b) = (refl, (parts_plain a, parts_plain b))
   parts_plain (sequence a b) = (parts_plain a, parts_plain b)
@@ -182,7 +182,7 @@ slots_plain c =
 -- ## Marks with an instruction behind
 
 -- no label stands first, so a mark may wait
-may_wait : (is : List Instruction) → begins is ≡ true → marks_settled false is ≡ true → marks_settled true is ≡ true
+pub may_wait : (is : List Instruction) → begins is ≡ true → marks_settled false is ≡ true → marks_settled true is ≡ true
 may_wait [] b h = absurd cc
 may_wait (Label l ∷ is) b h = absurd cc
 may_wait (Mark m ∷ is) b h = h

@@ -5,10 +5,10 @@ use Rattle.std.specs.List.{list_all}
 use Rattle.std.proofs.Math.Nat.{max-le}
 use Rattle.std.proofs.lemmas.Bool.{and_parts, and_from, eqb-true, le-leb, leb-true, lt-ltb, ltb-true, or_cases}
 use Rattle.sch_word.proofs.facts.Booleans.{false_true}
-use Rattle.sch_word.specs.trees.NumberSets.{has, unless}
 use Rattle.sch_word.specs.trees.Shape.{max_operands}
 use Rattle.sch_word.specs.declared.place.Place.TheVariants.{Slot}
 use Rattle.sch_word.specs.values.Values.{Value}
+use Rattle.sch_control.specs.flow.Apart.{EachHas}
 use Rattle.sch_control.specs.declared.body.Entry.{Entry}
 use Rattle.sch_control.specs.Meaning.{binds, falls_off, no_region}
 use Rattle.sch_control.specs.Run as control_run
@@ -21,13 +21,13 @@ use Rattle.sch_frames.specs.Valid.{is_place, placed, forward, shaped, formals_of
 use Rattle.sch_frames.specs.declared.instruction.Instruction.TheVariants.{Copy}
 use Rattle.sch_layout.specs.BodyLayout.{arrived, labels, lay, under}
 use Rattle.sch_layout.specs.Laws.{Behind, Uses}
-use Rattle.sch_layout.specs.OwnSlots.{SavesLow, is_late, own_place, most_operands, restoring, saved_round, saved_tree, slots_base, slots_for, slots_words, slots_layout, slots_code}
+use Rattle.sch_layout.specs.OwnSlots.{SavesUnbound, is_late, own_place, most_operands, restoring, saved_round, saved_tree, slots_base, slots_for, slots_words, slots_layout, slots_code}
 use Rattle.sch_layout.specs.SharedPlaces.{PlacedBody, entered_with}
 use Rattle.sch_layout.proofs.EntryCopies.{entering_has, spill_has}
 use Rattle.sch_layout.proofs.OwnPlaced.{own_in_slot, own_slots_placed}
 use Rattle.sch_layout.proofs.SavedTree.{restoring_labels, restoring_operands, restoring_uses}
 use Rattle.sch_layout.proofs.does.PlacedBodies.{body_does}
-use Rattle.sch_layout.proofs.does.SavedRound.{behind_unbound, does_saved}
+use Rattle.sch_layout.proofs.does.SavedRound.{behind_unbound, binds_restoring, does_saved}
 use Rattle.sch_layout.proofs.layouts.InstructionTests.{Roomy, asides_fit, entering_passes, known_steers, not_both, parts_named, parts_shaped, placed_carries, placed_steers, shaped_steers, tree_passes, unplaced_carries, unplaced_known, unplaced_shaped, uses_placed}
 use Rattle.sch_layout.proofs.layouts.LabelsOnce.{Right, right, lay_below}
 use Rattle.sch_layout.proofs.layouts.OwnTakes.{own_takes}
@@ -89,28 +89,25 @@ first_two c counted = by c.entry (numbered_is c counted).first where
 
 -- ## What is saved
 
-restoring_low : (n : ℕ) (xs : List ℕ) (e : Expression) → SavesLow n (restoring xs e)
-restoring_low n xs (perform o) = tt
-restoring_low n xs (bind x a b) = (restoring_low n xs a, restoring_low n xs b)
-restoring_low n xs (sequence a b) = (restoring_low n xs a, restoring_low n xs b)
-restoring_low n xs (branch a b c) = (restoring_low n xs a, (restoring_low n xs b, restoring_low n xs c))
-restoring_low n xs (fix members e) = restoring_low n xs e
-restoring_low n xs (call a restores) = tt
-restoring_low n xs (tail_call a) = tt
-restoring_low n xs (return e) = restoring_low n xs e
-restoring_low n xs (end e) = restoring_low n xs e
-restoring_low n xs (save saves e) = restoring_low n xs e
+restoring_unbound : (xs : List ℕ) (inside : ℕ → Bool) → EachHas (λ x. inside x ≡ true) xs → (e : Expression) → SavesUnbound (restoring xs e) inside
+restoring_unbound xs inside h (perform o) = tt
+restoring_unbound xs inside h (bind x a b) = (restoring_unbound xs inside h a, restoring_unbound xs inside h b)
+restoring_unbound xs inside h (sequence a b) = (restoring_unbound xs inside h a, restoring_unbound xs inside h b)
+restoring_unbound xs inside h (branch a b c) = (restoring_unbound xs inside h a, (restoring_unbound xs inside h b, restoring_unbound xs inside h c))
+restoring_unbound xs inside h (fix members e) = restoring_unbound xs inside h e
+restoring_unbound xs inside h (call a restores) = h
+restoring_unbound xs inside h (tail_call a) = tt
+restoring_unbound xs inside h (return e) = restoring_unbound xs inside h e
+restoring_unbound xs inside h (end e) = restoring_unbound xs inside h e
+restoring_unbound xs inside h (save saves e) = restoring_unbound xs inside h e
 
--- the return address alone is saved
-tree_low : (n : ℕ) → 0 < n → (entered : Bool) (e : Expression) → SavesLow n (saved_tree entered e)
-tree_low n some false e = (λ x h. absurd (cc), restoring_low n [] e)
-tree_low n some true e = (λ x h. by x (binds 0 (restoring (0 ∷ []) e)) h, restoring_low n (0 ∷ []) e) where
-  by : (x : ℕ) (t : Bool) → has x (unless t 0 []) ≡ true → x < n
-  by x true h = absurd (cc)
-  by x false h = one (or_cases (nat_eq x 0) false h) where
-    one : (nat_eq x 0 ≡ true) ⊎ (false ≡ true) → x < n
-    one (inl e) = let z : x ≡ 0 = eqb-true x 0 e in omega (arith, z, some)
-    one (inr e) = absurd (cc)
+-- the return address alone is saved, which is not bound
+tree_unbound : (entered : Bool) (e : Expression) → binds 0 e ≡ false → SavesUnbound (saved_tree entered e) no_region
+tree_unbound false e n = (λ x h. absurd (cc), restoring_unbound [] _ tt e)
+tree_unbound true e n = (λ x h. one x (or_cases (nat_eq x 0) false h), restoring_unbound (0 ∷ []) _ (refl, tt) e) where
+  one : (x : ℕ) → (nat_eq x 0 ≡ true) ⊎ (false ≡ true) → binds x (restoring (0 ∷ []) e) ≡ false
+  one x (inl i) = ap (λ z. binds z (restoring (0 ∷ []) e)) (eqb-true x 0 i) ∙ (binds_restoring (0 ∷ []) 0 e ∙ n)
+  one x (inr i) = absurd (cc)
 
 -- ## Bodies
 
@@ -195,7 +192,7 @@ module _ (c : control.Code) (scoped : in_scope_whole c ≡ true) (counted : numb
       let fit = words_fit c counted h in
       let few = restoring_operands (saved_round (is_entered c.entry)) c.expression in
       (own_slots_placed c.entry (saved_tree (is_entered c.entry) c.expression) (slots_base c) c.variables max_words
-      (restoring_uses (λ x. x < c.variables) (saved_round (is_entered c.entry)) c.expression uses_low) (tree_low c.variables (omega (arith, two)) (is_entered c.entry) c.expression)
+      (restoring_uses (λ x. x < c.variables) (saved_round (is_entered c.entry)) c.expression uses_low) (tree_unbound (is_entered c.entry) c.expression unbound)
       (omega (arith, two)) (omega arith) (omega (arith, fit, few))).0
 
   pub slots_does : ended c ≡ true → shaped_whole c ≡ true → FrameOf c (slots_code c)

@@ -3,13 +3,13 @@ use Rattle.std.proofs.Common.{◌≡◌, ℕ, zero, suc, ◌+◌, ◌<◌, ◌�
 use Rattle.std.specs.Prelude.{nat_eq}
 use Rattle.std.specs.List.{list_all}
 use Rattle.std.proofs.lemmas.Bool.{and_parts, or_cases, eqb-true, ltb-true, leb-true}
+use Rattle.sch_control.specs.flow.Apart.{EachHas}
 use Rattle.sch_control.specs.declared.body.Entry.{Entry}
 use Rattle.sch_control.specs.declared.operation.Atom.{Atom}
 use Rattle.sch_control.specs.declared.operation.Atom.TheVariants.{Constant, Literal, Variable}
 use Rattle.sch_control.specs.declared.operation.Member.{Member}
 use Rattle.sch_control.specs.Tree.{Expression, perform, bind, sequence, branch, fix, call, tail_call, return, end, save, Code}
 use Rattle.sch_control.specs.Valid.{in_scope_atoms, in_scope, with_variable, with_members, member_variables, bound_in, first_scope, first_bound, numbered, max_body_variables}
-use Rattle.sch_layout.specs.SharedPlaces.{EachHas}
 use Rattle.sch_layout.specs.Laws.{AtomsHave, Behind, MembersUse, Uses}
 
 -- behind the return address, and below a number

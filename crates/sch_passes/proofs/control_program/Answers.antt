@@ -1,11 +1,9 @@
 use Rattle.std.proofs.Common.{ap, ◌∙◌, arith}
 use Rattle.std.specs.List.{count_by}
-use Rattle.std.specs.Prelude.{◌≤◌, length, nat_eq}
-use Rattle.sch_word.specs.trees.Shape.{max_library}
+use Rattle.std.specs.Prelude.{length, nat_eq}
 use Rattle.sch_word.proofs.facts.Lists.{map_length}
 use Rattle.sch_lang.specs.Bodies.{bodies_of}
 use Rattle.sch_lang.specs.ProgramView.{source}
-use Rattle.sch_lang.specs.Tree.{count_lambdas}
 use Rattle.sch_lang.proofs.BodyCounts.{bodies_within_nodes}
 use Rattle.sch_lang.proofs.CoveredPrograms.{program_covered}
 use Rattle.sch_lang.proofs.Measured.{bound_within_nodes}
@@ -17,7 +15,6 @@ use Rattle.sch_control.specs.ProgramView as control
 use Rattle.sch_closure.specs.Closed.{closed_source}
 use Rattle.sch_anf_laws.specs.Normal.{new_label, normal_source}
 use Rattle.sch_passes.specs.Chain.{control_of, with_cells}
-use Rattle.sch_lang.proofs.ListViews.{count_lambdas_is}
 use Rattle.sch_passes.proofs.BodiesKept.{each_within, flat_order, names_kept, variables_kept}
 use Rattle.sch_passes.proofs.Chain.{runs_as}
 use Rattle.sch_passes.proofs.control_program.Goals as goal
@@ -35,6 +32,12 @@ close-requires c =
     let n = ap length c.in_ok-converted.ensures.bodies in
     let m = ap length c.in_ok-renamed.ensures.bodies in
     record { few = omega (arith, n, m, bodies_within_nodes (source c.args.p.now), c.requires.small) }
+
+pub normalize-requires : goal.normalize-requires
+normalize-requires c =
+    let n = ap length c.in_ok-converted.ensures.bodies in
+    let m = ap length c.in_ok-renamed.ensures.bodies in
+    record { few = omega (arith, c.in_ok-flat.ensures.count, n, m, bodies_within_nodes (source c.args.p.now), c.requires.small) }
 
 pub returns-clause-made : goal.returns-clause-made
 unfolding control_of
@@ -59,8 +62,7 @@ returns-clause-runs c =
 pub returns-clause-covered : goal.returns-clause-covered
 returns-clause-covered c =
     let p = source c.args.p.now in
-    let few : count_lambdas p.library ≤ max_library = omega (arith, count_lambdas_is c.args.p.now.library, c.if-len-gt-MAX_LIBRARY.false, c.len.ensures) in
-    c.in_ok-control.ensures.covered (c.in_ok-flat.ensures.covered (c.in_ok-converted.ensures.covered (c.in_ok-renamed.ensures.covered ∙ program_covered p few)))
+    c.in_ok-control.ensures.covered (c.in_ok-flat.ensures.covered (c.in_ok-converted.ensures.covered (c.in_ok-renamed.ensures.covered ∙ program_covered p c.requires.library)))
 
 pub returns-clause-work : goal.returns-clause-work
 returns-clause-work c =

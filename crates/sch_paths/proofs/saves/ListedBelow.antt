@@ -31,16 +31,16 @@ ListsBelow n (save saves e) = ListsBelow n e
 ListsBelow n (perform o) = Unit {0}
 ListsBelow n (tail_call a) = Unit {0}
 
-abbrev Below : ℕ → (ℕ → Bool) → Type 0
+abbrev pub Below : ℕ → (ℕ → Bool) → Type 0
 Below n scope = (x : ℕ) → scope x ≡ true → x < n
 
-one_below : (n y : ℕ) (scope : ℕ → Bool) → y < n → Below n scope → Below n (with_variable y scope)
+pub one_below : (n y : ℕ) (scope : ℕ → Bool) → y < n → Below n scope → Below n (with_variable y scope)
 one_below n y scope l low x h = by (nat_eq x y) refl h where
   by : (t : Bool) → nat_eq x y ≡ t → (t || scope x) ≡ true → x < n
   by true e h = subst (λ z. z < n) (sym (eqb-true x y e)) l
   by false e h = low x h
 
-members_below : (n : ℕ) (members : List (Member ℕ)) (scope : ℕ → Bool) → Below n (λ x. has x (member_variables members)) → Below n scope → Below n (with_members members scope)
+pub members_below : (n : ℕ) (members : List (Member ℕ)) (scope : ℕ → Bool) → Below n (λ x. has x (member_variables members)) → Below n scope → Below n (with_members members scope)
 members_below n [] scope all low = low
 members_below n (m ∷ members) scope all low =
     members_below n members (with_variable m.at scope) (λ x h. all x (or_right (nat_eq x m.at) _ h))
@@ -99,7 +99,7 @@ module _ (n : ℕ) (some : 0 < n) where
   lists_below (end e) scope i low all Met L f sets = lists_below e scope i low all Met _ (λ x t b. absurd b) sets
   lists_below (save saves e) scope i low all Met L f sets = lists_below e scope i low all Met L f sets
 
-each_below : (n : ℕ) (p : ℕ → Bool) (ys : List ℕ) → list_all (λ x. p x && nat_lt x n) ys ≡ true → Below n (λ x. has x ys)
+pub each_below : (n : ℕ) (p : ℕ → Bool) (ys : List ℕ) → list_all (λ x. p x && nat_lt x n) ys ≡ true → Below n (λ x. has x ys)
 each_below n p [] h x m = absurd (cc)
 each_below n p (y ∷ ys) h x m = by (nat_eq x y) refl (each_below n p ys (and_right (p y && nat_lt y n) _ h) x) m where
   by : (t : Bool) → nat_eq x y ≡ t → (has x ys ≡ true → x < n) → (t || has x ys) ≡ true → x < n
@@ -109,13 +109,13 @@ each_below n p (y ∷ ys) h x m = by (nat_eq x y) refl (each_below n p ys (and_r
       grind (arith, nat_tests, lt, is)
   by false e f m = f m
 
-first_below : (n : ℕ) (entry : Option Entry) → nat_le (first_bound entry) n ≡ true → Below n (first_scope entry)
+pub first_below : (n : ℕ) (entry : Option Entry) → nat_le (first_bound entry) n ≡ true → Below n (first_scope entry)
 first_below n None h x s = absurd (cc)
 first_below n (Some e) h x s =
     let lt : nat_lt x (2 + e.formals) ≡ true = and_right (nat_lt 0 x) _ s in
     grind (arith, nat_tests, h, lt)
 
-some_variable : (n : ℕ) (entry : Option Entry) → nat_le (first_bound entry) n ≡ true → 0 < n
+pub some_variable : (n : ℕ) (entry : Option Entry) → nat_le (first_bound entry) n ≡ true → 0 < n
 some_variable n None h = grind (arith, nat_tests, h)
 some_variable n (Some e) h = grind (arith, nat_tests, h)
 

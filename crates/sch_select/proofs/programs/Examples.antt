@@ -29,7 +29,9 @@ use Rattle.sch_insn.specs.Step.{mach}
 use Rattle.sch_asm.specs.declared.item.Item.{Item}
 use Rattle.sch_asm.specs.Codes.{bytes_of}
 use Rattle.sch_asm.specs.Data.{data_at}
-use Rattle.sch_asm.specs.Layout.{emitted_from, placed_from}
+use Rattle.sch_asm.specs.Layout.{emitted_from}
+use Rattle.sch_asm.specs.Pieces.{skeleton}
+use Rattle.sch_jumps.specs.Sizes.{Set, placed_from}
 use Rattle.sch_asm.specs.Views.{text_at}
 use Rattle.sch_runtime.specs.Code.{routine_items}
 use Rattle.sch_select_data.specs.Data.{program_words}
@@ -52,10 +54,14 @@ form_zeros = refl
 abbrev items_of : (heap : ℕ) → Source → List Item
 items_of heap p = program_code p heap 1 ++ routine_items
 
+-- their text, with all jumps long
+abbrev pub all_long : Set
+all_long = λ k. true
+
 abbrev pub text_of : List Item → List ℕ
 text_of items =
-    let places = placed_from 0x400000 items (replicate 1600 0) in
-    flat_map spelling (emitted_from (slice_index places) 0x400000 items)
+    let places = placed_from all_long 0 0x400000 (skeleton items) (replicate 1600 0) in
+    flat_map spelling (emitted_from (slice_index places) all_long 0 0x400000 items)
 
 -- how a program ends within 400 steps, with a limit of the heap
 abbrev ends_in : (heap : ℕ) → Source → List Answer → Option (ℕ × List ℕ)

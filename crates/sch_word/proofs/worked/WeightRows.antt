@@ -12,7 +12,7 @@ abbrev made : Made
 made = record { label = 0; fields = 3 }
 
 plain_weights : map weight_of (constant Nil ∷ literal 0 ∷ variable ∷ field ∷ global 0 ∷ set_variable ∷ set_global 0 ∷ define 0 ∷ branch ∷ cell_get ∷ cell_set ∷ []) ≡ 2 ∷ 2 ∷ 2 ∷ 2 ∷ 1 ∷ 2 ∷ 3
-    ∷ 3 ∷ 4 ∷ 2 ∷ 4 ∷ []
+    ∷ 3 ∷ 6 ∷ 2 ∷ 4 ∷ []
 plain_weights = refl
 
 counted_weights : map weight_of (sequence 0 0 ∷ sequence 1 0 ∷ sequence 3 1 ∷ bind 0 2 ∷ letrec 0 2 ∷ call 0 2 false ∷ operation 0 Add 2 ∷ new_cells 2 ∷ []) ≡ 2 ∷ 0 ∷ 2 ∷ 2 ∷ 2 ∷ 16 ∷ 5 ∷ 6 ∷ []

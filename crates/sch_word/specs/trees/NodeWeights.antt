@@ -28,13 +28,14 @@ procedures_weight ps = all_entered (map (λ p. p.formals) ps)
 
 -- What a node adds to the work, with what becomes of the values of its parts: a value that is set or an operand is
 -- bound and read, one of a call is also put aside and handed over by at most two, and a value of an init or of a part
--- of a sequence before its last is at most bound. A new cell is bound, made and given its value; a record reads each
--- of its fields. A sequence without parts is a constant. In a tree with cells no variable is set.
+-- of a sequence before its last is at most bound. A branch jumps over its third part, has one test more than its test
+-- and two for what its arms save, and may be two returns in place of one. A new cell is bound, made and given its value;
+-- a record reads each of its fields. A sequence without parts is a constant. In a tree with cells no variable is set.
 abbrev pub weight_of : Shape → ℕ
 weight_of (shapes.global g) = 1
 weight_of (shapes.set_global g) = 3
 weight_of (shapes.define g) = 3
-weight_of shapes.branch = 4
+weight_of shapes.branch = 6
 weight_of (shapes.sequence zero dropped) = 2
 weight_of (shapes.sequence (suc parts) dropped) = parts
 weight_of (shapes.bind site inits) = inits

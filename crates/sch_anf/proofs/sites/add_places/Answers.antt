@@ -1,4 +1,4 @@
-use Rattle.std.proofs.Common.{◌++◌, ◌∙◌, ap, sym}
+use Rattle.std.proofs.Common.{◌++◌, ◌∙◌, ap, sym, refl, arith}
 use Rattle.sch_flat.specs.View.{trees_of}
 use Rattle.sch_flat.proofs.Rows.{trees_of_list}
 use Rattle.sch_anf_laws.specs.Normal.{bound_places}
@@ -7,12 +7,14 @@ use Rattle.sch_anf.proofs.sites.add_places.Goals as goal
 
 pub loop-e-init : goal.loop-e-init
 loop-e-init c = record {
+  place = omega arith;
   places = λ last. ap (λ ts. c.args.all.now ++ bound_places c.args.first ts last) (sym (trees_of_list c.as_slice-e-items.result.now));
 }
 
 pub loop-e-preserved : goal.loop-e-preserved
 loop-e-preserved c = record {
-  places = places_turn c.as_slice-e-items.result.now c.loop-e.e-index c.e-item.result c.loop-e-test.true c.e-item.is c.loop-e.place _ c.loop-e.all _ _ c.in_ok-place.ensures
+  place = omega (arith, c.loop-e.invariant.place);
+  places = places_turn c.as_slice-e-items.result.now c.loop-e.e-index c.e-item.result c.loop-e-test.true c.e-item.is c.loop-e.place _ c.loop-e.all _ _ refl
       c.in_ok-add_place.ensures c.loop-e.invariant.places;
 }
 

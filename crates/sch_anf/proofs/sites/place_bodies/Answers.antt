@@ -1,6 +1,7 @@
 use Rattle.std.proofs.Common.{◌<◌, ◌-◌, length, get_or, ap, arith}
 use Rattle.std.proofs.lemmas.List.{get_or_default}
 use Rattle.sch_anf.specs.Placed.{placed_bodies}
+use Rattle.sch_anf.proofs.FewParts.{few_body_at}
 use Rattle.sch_anf.proofs.PlacedLists.{bodies_back, bodies_whole}
 use Rattle.sch_anf.proofs.sites.place_bodies.Goals as goal
 
@@ -21,3 +22,11 @@ loop-left-preserved c =
           (get_or_default c.args.bodies.now k c.index-bodies-left.result b l) c.in_ok-place_expression.ensures i.placed;
       within = omega (arith, i.within);
     }
+
+pub place_expression-requires : goal.place_expression-requires
+place_expression-requires c =
+    let bodies = c.args.bodies.now in
+    let k = c.loop-left.left - 1 in
+    let b = get_or bodies k c.index-bodies-left.result in
+    let l : k < length bodies = omega (arith, c.loop-left.invariant.within, c.loop-left-test.true) in
+    record { few = few_body_at bodies k b l (get_or_default bodies k c.index-bodies-left.result b l) c.requires.few }

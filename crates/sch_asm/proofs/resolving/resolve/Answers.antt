@@ -1,17 +1,26 @@
 -- The instructions, marks and words that are put out by the table are those of the items and words.
-use Rattle.std.proofs.Common.{◌≡◌, ℕ, ◌+◌, ◌<◌, ◌≤◌, ◌++◌, List, [], length, refl, sym, ap, ◌∙◌, subst, arith}
+use Rattle.std.proofs.Common.{◌≡◌, ℕ, ◌+◌, ◌<◌, ◌≤◌, ◌++◌, List, [], length, Bool, refl, sym, ap, ◌∙◌, subst, arith}
 use Rattle.std.specs.List.{flat_map}
 use Rattle.std.specs.Prelude.{slice_index}
 use Rattle.sch_insn.specs.declared.insn.Insn.{Insn}
 use Rattle.sch_insn.specs.Spelling.{AllValid, spelling}
+use Rattle.sch_jumps.specs.Sizes.{end_from, jump_count, size}
+use Rattle.sch_jumps.specs.Least.{IsExact, IsLeast}
+use Rattle.sch_jumps.specs.Spans.{set_of}
+use Rattle.sch_jumps.proofs.Exact.{exact}
+use Rattle.sch_jumps.proofs.Text.{the_size}
 use Rattle.sch_asm.specs.declared.assembly.Word.{Word}
 use Rattle.sch_asm.specs.declared.item.Item.{Item}
 use Rattle.sch_asm.specs.declared.item.Mark as mark
 use Rattle.sch_asm.specs.Items.{AreItems}
-use Rattle.sch_asm.specs.Codes.{AreResolved, Codes, bytes_of, text_size}
-use Rattle.sch_asm.specs.Layout.{IsLaidOut, UseBelow, emitted_from, marked_from}
-use Rattle.sch_asm.proofs.Tables.{Below, below_anywhere, size_append, sound_append, use_back, use_front}
-use Rattle.sch_asm.proofs.Emitted.{codes, emitted_append, emitted_size, emitted_valid, marked_append, own_by}
+use Rattle.sch_asm.specs.Codes.{AreResolved, Codes, bytes_of}
+use Rattle.sch_asm.specs.Forms.{jump_forms}
+use Rattle.sch_asm.specs.Layout.{IsLaidOut, ReachFrom, UseBelow, emitted_from, jumps_in, marked_from, size_from}
+use Rattle.sch_asm.specs.Pieces.{shortest_size, skeleton}
+use Rattle.sch_asm.proofs.Skeleton.{sound_pieces}
+use Rattle.sch_asm.proofs.Tables.{Below, below_anywhere, sound_append, use_back, use_front}
+use Rattle.sch_asm.proofs.Emitted.{codes, emitted_append, emitted_size, emitted_valid, end_items, few_jumps, jumps_items, marked_append, own_items, reach_back, reach_front, reach_items, size_append}
+use Rattle.sch_asm.proofs.FormsOf.{forms_said, said, said_of}
 use Rattle.sch_asm.proofs.resolving.resolve.Goals as goal
 use Rattle.sch_asm.proofs.Words.{data_length}
 
@@ -20,82 +29,163 @@ use Rattle.sch_asm.proofs.Words.{data_length}
 small_place : (places : List ℕ) → Below 1073741824 places → (l : ℕ) → slice_index places l < 2147483648
 small_place places h l = omega (arith, below_anywhere places 1073741824 (omega arith) h l)
 
+-- the size of a text with the least set of long jumps
+whole_size : (is : List Item) (longs : List Bool) → IsLeast (skeleton is) (set_of longs) → size_from (set_of longs) 0 is ≡ shortest_size is
+whole_size is longs h =
+    let s = set_of longs in
+    let e = end_items s is 0 0 in
+    let f = the_size (skeleton is) s (sound_pieces is) h in
+    omega (arith, e, f)
+
+-- the jumps that are put out have the forms that were chosen
+forms_are : (place : ℕ → ℕ) (is : List Item) (longs : List Bool) (code : List Insn) → AreItems is → length longs ≡ jump_count (skeleton is) → code ≡ emitted_from place (set_of longs) 0 0x400000 is → jump_forms code ≡ longs
+forms_are place is longs code v each e =
+    ap jump_forms e ∙ forms_said place (set_of longs) is 0 0x400000 v ∙ ap (said (set_of longs) 0) (sym (each ∙ jumps_items is)) ∙ said_of longs
+
 -- ---- what is put out
 
-record Written (is : List Item) (ws : List Word) (code : List Insn) (marks : List mark.Mark) (words places : List ℕ) : Type 0 where
-  laid : IsLaidOut is ws places
+record Written (is : List Item) (ws : List Word) (code : List Insn) (marks : List mark.Mark) (words places : List ℕ) (longs : List Bool) : Type 0 where
+  laid : IsLaidOut is ws places longs
   small : Below 1073741824 places
   sound : AreItems is
-  fits : text_size is ≤ 16777216
-  code_is : code ≡ emitted_from (slice_index places) 0x400000 is
-  marks_is : marks ≡ marked_from 0x400000 is
+  fits : shortest_size is ≤ 16777216
+  code_is : code ≡ emitted_from (slice_index places) (set_of longs) 0 0x400000 is
+  marks_is : marks ≡ marked_from (set_of longs) 0 0x400000 is
   words_are : words ≡ flat_map (bytes_of (slice_index places)) ws
 
-both_code : (place : ℕ → ℕ) (xs ys first second : List Item) (b : ℕ) (start code code' : List Insn) → start ≡ [] → first ≡ xs → second ≡ ys → b ≡ 0x400000 + text_size first → code ≡ start ++ emitted_from place 0x400000 first → code' ≡ code ++ emitted_from place b second → code' ≡ emitted_from place 0x400000 (xs ++ ys)
-both_code place xs ys first second b start code code' e f g h i j =
-    j ∙ ap (λ l. l ++ emitted_from place b second) (i ∙ ap (λ l. l ++ emitted_from place 0x400000 first) e ∙ ap (emitted_from place 0x400000) f)
-    ∙ ap (λ a. emitted_from place 0x400000 xs ++ emitted_from place a second) (h ∙ ap (λ l. 0x400000 + text_size l) f) ∙ ap (λ l. emitted_from place 0x400000 xs ++ emitted_from place (0x400000 + text_size xs) l) g
-    ∙ sym (emitted_append place xs ys 0x400000)
+module _ (longs : List Bool) where
+  behind_spot : (xs first : List Item) (at jumps : ℕ) → first ≡ xs → at ≡ 0x400000 + size_from (set_of longs) 0 first → jumps ≡ 0 + jumps_in first → (at ≡ 0x400000 + size_from (set_of longs) 0 xs) × (jumps ≡ 0 + jumps_in xs)
+  behind_spot xs first at jumps e f g = (f ∙ ap (λ l. 0x400000 + size_from (set_of longs) 0 l) e, g ∙ ap (λ l. 0 + jumps_in l) e)
 
-both_marks : (xs ys first second : List Item) (b : ℕ) (start marks marks' : List mark.Mark) → start ≡ [] → first ≡ xs → second ≡ ys → b ≡ 0x400000 + text_size first → marks ≡ start ++ marked_from 0x400000 first → marks' ≡ marks ++ marked_from b second → marks' ≡ marked_from 0x400000 (xs ++ ys)
-both_marks xs ys first second b start marks marks' e f g h i j =
-    j ∙ ap (λ l. l ++ marked_from b second) (i ∙ ap (λ l. l ++ marked_from 0x400000 first) e ∙ ap (marked_from 0x400000) f)
-    ∙ ap (λ a. marked_from 0x400000 xs ++ marked_from a second) (h ∙ ap (λ l. 0x400000 + text_size l) f) ∙ ap (λ l. marked_from 0x400000 xs ++ marked_from (0x400000 + text_size xs) l) g
-    ∙ sym (marked_append xs ys 0x400000)
+  both_code : (place : ℕ → ℕ) (xs ys first second : List Item) (at jumps : ℕ) (start code code' : List Insn) → start ≡ [] → first ≡ xs → second ≡ ys → at ≡ 0x400000 + size_from (set_of longs) 0 first → jumps ≡ 0 + jumps_in first → code ≡ start ++ emitted_from place (set_of longs) 0 0x400000 first → code' ≡ code ++ emitted_from place (set_of longs) jumps at second → code' ≡ emitted_from place (set_of longs) 0 0x400000 (xs ++ ys)
+  both_code place xs ys first second at jumps start code code' e f g h n i j =
+      let s = set_of longs in
+      let b = behind_spot xs first at jumps f h n in
+      let front = emitted_from place s 0 0x400000 xs in
+      j ∙ ap (λ l. l ++ emitted_from place s jumps at second) (i ∙ ap (λ l. l ++ emitted_from place s 0 0x400000 first) e ∙ ap (emitted_from place s 0 0x400000) f)
+      ∙ ap (λ a. front ++ emitted_from place s jumps a second) b.0 ∙ ap (λ k. front ++ emitted_from place s k (0x400000 + size_from s 0 xs) second) b.1 ∙ ap (λ l. front ++ emitted_from place s (0 + jumps_in xs) (0x400000 + size_from s 0 xs) l) g
+      ∙ sym (emitted_append place s xs ys 0 0x400000)
 
-resolved : (is : List Item) (ws : List Word) (code : List Insn) (marks : List mark.Mark) (words places : List ℕ) → Written is ws code marks words places → AreResolved is ws code marks words × AllValid code × (length (flat_map spelling code) ≡ text_size is)
-resolved is ws code marks words places w =
+  both_marks : (xs ys first second : List Item) (at jumps : ℕ) (start marks marks' : List mark.Mark) → start ≡ [] → first ≡ xs → second ≡ ys → at ≡ 0x400000 + size_from (set_of longs) 0 first → jumps ≡ 0 + jumps_in first → marks ≡ start ++ marked_from (set_of longs) 0 0x400000 first → marks' ≡ marks ++ marked_from (set_of longs) jumps at second → marks' ≡ marked_from (set_of longs) 0 0x400000 (xs ++ ys)
+  both_marks xs ys first second at jumps start marks marks' e f g h n i j =
+      let s = set_of longs in
+      let b = behind_spot xs first at jumps f h n in
+      let front = marked_from s 0 0x400000 xs in
+      j ∙ ap (λ l. l ++ marked_from s jumps at second) (i ∙ ap (λ l. l ++ marked_from s 0 0x400000 first) e ∙ ap (marked_from s 0 0x400000) f)
+      ∙ ap (λ a. front ++ marked_from s jumps a second) b.0 ∙ ap (λ k. front ++ marked_from s k (0x400000 + size_from s 0 xs) second) b.1 ∙ ap (λ l. front ++ marked_from s (0 + jumps_in xs) (0x400000 + size_from s 0 xs) l) g
+      ∙ sym (marked_append s xs ys 0 0x400000)
+
+record Answer (is : List Item) (ws : List Word) (code : List Insn) (marks : List mark.Mark) (words : List ℕ) : Type 0 where
+  stands : AreResolved is ws code marks words
+  valid : AllValid code
+  shortest : IsLeast (skeleton is) (set_of (jump_forms code))
+  exact : IsExact (skeleton is) (set_of (jump_forms code))
+  size : length (flat_map spelling code) ≡ shortest_size is
+
+resolved : (is : List Item) (ws : List Word) (code : List Insn) (marks : List mark.Mark) (words places : List ℕ) (longs : List Bool) → Written is ws code marks words places longs → Answer is ws code marks words
+resolved is ws code marks words places longs w =
     let place = slice_index places in
+    let s = set_of longs in
     let small = small_place places w.small in
-    let low : 0x400000 + text_size is < 2147483648 = omega (arith, w.fits) in
-    let c = codes place small is 0x400000 low w.sound (own_by places is 0x400000 small w.laid.standing) in (
-      record {
+    let size = whole_size is longs w.laid.least in
+    let low : 0x400000 + size_from s 0 is < 2147483648 = omega (arith, w.fits, size) in
+    let c = codes place small s is 0 0x400000 low w.sound (own_items place s is 0 0x400000 w.laid.standing) in
+    let forms = forms_are place is longs code w.sound w.laid.each w.code_is in
+    let least = subst (λ l. IsLeast (skeleton is) (set_of l)) (sym forms) w.laid.least in
+    record {
+      stands = record {
         place_of = place;
         small = small;
-        codes = subst (λ l. Codes place 0x400000 is l marks) (sym w.code_is) (subst (λ l. Codes place 0x400000 is (emitted_from place 0x400000 is) l) (sym w.marks_is) c);
+        codes = subst (λ l. Codes place 0x400000 is l marks) (sym w.code_is) (subst (λ l. Codes place 0x400000 is (emitted_from place s 0 0x400000 is) l) (sym w.marks_is) c);
         bytes = w.words_are;
-      },
-      subst AllValid (sym w.code_is) (emitted_valid place small is 0x400000 low w.sound),
-      ap (λ l. length (flat_map spelling l)) w.code_is ∙ emitted_size place is 0x400000,
-    )
+      };
+      valid = subst AllValid (sym w.code_is) (emitted_valid place small s is 0 0x400000 low w.sound (reach_items place s is 0 0x400000 w.laid.reach));
+      shortest = least;
+      exact = exact (skeleton is) (set_of (jump_forms code)) (sound_pieces is) least;
+      size = ap (λ l. length (flat_map spelling l)) w.code_is ∙ emitted_size place s is 0 0x400000 ∙ size;
+    }
 
 -- ---- the goals
 
+first_fits : (xs ys first : List Item) (longs : List Bool) (bytes : ℕ) → IsLeast (skeleton (xs ++ ys)) (set_of longs) → bytes ≡ shortest_size (xs ++ ys) → bytes ≤ 16777216 → first ≡ xs → 0x400000 + size_from (set_of longs) 0 first < 1073741824
+first_fits xs ys first longs bytes h e le f =
+    let a = whole_size (xs ++ ys) longs h in
+    let b = size_append (set_of longs) xs ys 0 in
+    let c = ap (size_from (set_of longs) 0) f in
+    omega (arith, a, b, c, e, le)
+
+second_fits : (xs ys first second : List Item) (longs : List Bool) (bytes at jumps : ℕ) → IsLeast (skeleton (xs ++ ys)) (set_of longs) → bytes ≡ shortest_size (xs ++ ys) → bytes ≤ 16777216 → first ≡ xs → second ≡ ys → at ≡ 0x400000 + size_from (set_of longs) 0 first → jumps ≡ 0 + jumps_in first → at + size_from (set_of longs) jumps second < 1073741824
+second_fits xs ys first second longs bytes at jumps h e le f g i j =
+    let a = whole_size (xs ++ ys) longs h in
+    let b = size_append (set_of longs) xs ys 0 in
+    let c = ap (size_from (set_of longs) 0) f in
+    let p = behind_spot longs xs first at jumps f i j in
+    let d = ap (λ l. size_from (set_of longs) jumps l) g ∙ ap (λ k. size_from (set_of longs) k ys) p.1 in
+    omega (arith, a, b, c, d, e, le, p.0)
+
+first_reaches : (xs ys ws first : _) (places : List ℕ) (longs : List Bool) → IsLaidOut (xs ++ ys) ws places longs → first ≡ xs → ReachFrom (slice_index places) (set_of longs) 0 0x400000 first
+first_reaches xs ys ws first places longs h e =
+    let place = slice_index places in
+    let s = set_of longs in
+    subst (ReachFrom place s 0 0x400000) (sym e) (reach_front place s xs ys 0 0x400000 (reach_items place s (xs ++ ys) 0 0x400000 h.reach))
+
+second_reaches : (xs ys ws first second : _) (places : List ℕ) (longs : List Bool) (at jumps : ℕ) → IsLaidOut (xs ++ ys) ws places longs → first ≡ xs → second ≡ ys → at ≡ 0x400000 + size_from (set_of longs) 0 first → jumps ≡ 0 + jumps_in first → ReachFrom (slice_index places) (set_of longs) jumps at second
+second_reaches xs ys ws first second places longs at jumps h e f g i =
+    let place = slice_index places in
+    let s = set_of longs in
+    let p = behind_spot longs xs first at jumps e g i in
+    subst (ReachFrom place s jumps at) (sym f) (subst (λ k. ReachFrom place s k at ys) (sym p.1) (subst (λ a. ReachFrom place s (0 + jumps_in xs) a ys) (sym p.0) (reach_back place s xs ys 0 0x400000 (reach_items place s (xs ++ ys) 0 0x400000 h.reach))))
+
 pub emit-requires-clause-uses : goal.emit-requires-clause-uses
 emit-requires-clause-uses c =
-    subst (UseBelow (length c.in_ok-layout.layout.places.items)) (sym c.as_slice.ensures) (use_front c.args.a.now.items c.args.routines.now.items (length c.in_ok-layout.layout.places.items) c.in_ok-layout.ensures.places.uses)
+    subst (UseBelow (length c.in_ok-layout.layout.places.items)) (sym c.as_slice-3.ensures) (use_front c.args.a.now.items c.args.routines.now.items (length c.in_ok-layout.layout.places.items) c.in_ok-layout.ensures.places.uses)
 
 pub emit-requires-clause-short : goal.emit-requires-clause-short
 emit-requires-clause-short c =
-    let s = size_append c.args.a.now.items c.args.routines.now.items in
-    let l = ap text_size c.as_slice.ensures in
-    omega (arith, c.in_ok-layout.ensures.bytes, c.in_ok-layout.ensures.fits, s, l)
+    first_fits c.args.a.now.items c.args.routines.now.items c.as_slice-3.result.now c.in_ok-layout.layout.longs.items c.in_ok-layout.layout.bytes c.in_ok-layout.ensures.places.least c.in_ok-layout.ensures.bytes c.in_ok-layout.ensures.fits c.as_slice-3.ensures
+
+pub emit-requires-clause-reach : goal.emit-requires-clause-reach
+emit-requires-clause-reach c =
+    first_reaches c.args.a.now.items c.args.routines.now.items c.args.a.now.words c.as_slice-3.result.now c.in_ok-layout.layout.places.items c.in_ok-layout.layout.longs.items c.in_ok-layout.ensures.places c.as_slice-3.ensures
 
 pub emit-requires-2-clause-uses : goal.emit-requires-2-clause-uses
 emit-requires-2-clause-uses c =
-    subst (UseBelow (length c.in_ok-layout.layout.places.items)) (sym c.as_slice-2.ensures) (use_back c.args.a.now.items c.args.routines.now.items (length c.in_ok-layout.layout.places.items) c.in_ok-layout.ensures.places.uses)
+    subst (UseBelow (length c.in_ok-layout.layout.places.items)) (sym c.as_slice-4.ensures) (use_back c.args.a.now.items c.args.routines.now.items (length c.in_ok-layout.layout.places.items) c.in_ok-layout.ensures.places.uses)
+
+pub emit-requires-2-clause-few : goal.emit-requires-2-clause-few
+emit-requires-2-clause-few c =
+    let a = ap length c.as_slice.ensures in
+    let b = ap length c.as_slice-2.ensures in
+    let d = ap length c.as_slice-3.ensures in
+    let e = ap length c.as_slice-4.ensures in
+    let f = few_jumps c.as_slice-3.result.now in
+    omega (arith, a, b, d, e, f, c.item_count.ensures, c.in_ok-behind.ensures.jumps)
 
 pub emit-requires-2-clause-short : goal.emit-requires-2-clause-short
 emit-requires-2-clause-short c =
-    let s = size_append c.args.a.now.items c.args.routines.now.items in
-    let l = ap text_size c.as_slice.ensures in
-    let m = ap text_size c.as_slice-2.ensures in
-    omega (arith, c.in_ok-layout.ensures.bytes, c.in_ok-layout.ensures.fits, s, l, m, c.in_ok-behind.ensures.end)
+    second_fits c.args.a.now.items c.args.routines.now.items c.as_slice-3.result.now c.as_slice-4.result.now c.in_ok-layout.layout.longs.items c.in_ok-layout.layout.bytes c.in_ok-behind.behind.at c.in_ok-behind.behind.jumps
+    c.in_ok-layout.ensures.places.least c.in_ok-layout.ensures.bytes c.in_ok-layout.ensures.fits c.as_slice-3.ensures c.as_slice-4.ensures c.in_ok-behind.ensures.end c.in_ok-behind.ensures.jumps
+
+pub emit-requires-2-clause-reach : goal.emit-requires-2-clause-reach
+emit-requires-2-clause-reach c =
+    second_reaches c.args.a.now.items c.args.routines.now.items c.args.a.now.words c.as_slice-3.result.now c.as_slice-4.result.now c.in_ok-layout.layout.places.items c.in_ok-layout.layout.longs.items c.in_ok-behind.behind.at c.in_ok-behind.behind.jumps
+    c.in_ok-layout.ensures.places c.as_slice-3.ensures c.as_slice-4.ensures c.in_ok-behind.ensures.end c.in_ok-behind.ensures.jumps
 
 pub returns : goal.returns
 returns c =
     let xs = c.args.a.now.items in
     let ys = c.args.routines.now.items in
+    let longs = c.in_ok-layout.layout.longs.items in
     let place = slice_index c.in_ok-layout.layout.places.items in
-    let w : Written (xs ++ ys) c.args.a.now.words c.emit-2.new.code c.emit-2.new.marks c.in_ok-words.words c.in_ok-layout.layout.places.items = record {
+    let w : Written (xs ++ ys) c.args.a.now.words c.emit-2.new.code c.emit-2.new.marks c.in_ok-words.words c.in_ok-layout.layout.places.items longs = record {
       laid = c.in_ok-layout.ensures.places;
       small = c.in_ok-layout.layout.low;
       sound = sound_append xs ys c.args.a.now.sound c.args.routines.now.sound;
       fits = omega (arith, c.in_ok-layout.ensures.bytes, c.in_ok-layout.ensures.fits);
-      code_is = both_code place xs ys c.as_slice.result.now c.as_slice-2.result.now c.in_ok-behind.behind c.in_ok-code.code c.emit.new.code c.emit-2.new.code c.in_ok-code.ensures c.as_slice.ensures c.as_slice-2.ensures c.in_ok-behind.ensures.end c.in_ok-behind.ensures.code c.in_ok-emit.ensures.code;
-      marks_is = both_marks xs ys c.as_slice.result.now c.as_slice-2.result.now c.in_ok-behind.behind c.new-marks.result c.emit.new.marks c.emit-2.new.marks c.new-marks.ensures c.as_slice.ensures c.as_slice-2.ensures c.in_ok-behind.ensures.end c.in_ok-behind.ensures.marks c.in_ok-emit.ensures.marks;
-      words_are = c.in_ok-words.ensures ∙ ap (flat_map (bytes_of place)) c.as_slice-3.ensures;
+      code_is = both_code longs place xs ys c.as_slice-3.result.now c.as_slice-4.result.now c.in_ok-behind.behind.at c.in_ok-behind.behind.jumps c.in_ok-code.code c.emit.new.code c.emit-2.new.code c.in_ok-code.ensures c.as_slice-3.ensures c.as_slice-4.ensures c.in_ok-behind.ensures.end c.in_ok-behind.ensures.jumps c.in_ok-behind.ensures.code c.in_ok-emit.ensures.code;
+      marks_is = both_marks longs xs ys c.as_slice-3.result.now c.as_slice-4.result.now c.in_ok-behind.behind.at c.in_ok-behind.behind.jumps c.new-marks.result c.emit.new.marks c.emit-2.new.marks c.new-marks.ensures c.as_slice-3.ensures c.as_slice-4.ensures c.in_ok-behind.ensures.end c.in_ok-behind.ensures.jumps c.in_ok-behind.ensures.marks c.in_ok-emit.ensures.marks;
+      words_are = c.in_ok-words.ensures ∙ ap (flat_map (bytes_of place)) c.as_slice-5.ensures;
     } in
-    let r = resolved (xs ++ ys) c.args.a.now.words c.emit-2.new.code c.emit-2.new.marks c.in_ok-words.words c.in_ok-layout.layout.places.items w in
-    let e = r.2 in
-    record { stands = r.0; valid = r.1; words = ap length w.words_are ∙ data_length place c.args.a.now.words; zeros = refl; size = r.2; fits = omega (arith, e, w.fits); too_large = tt }
+    let r = resolved (xs ++ ys) c.args.a.now.words c.emit-2.new.code c.emit-2.new.marks c.in_ok-words.words c.in_ok-layout.layout.places.items longs w in
+    let e = r.size in
+    record { stands = r.stands; valid = r.valid; shortest = r.shortest; exact = r.exact; words = ap length w.words_are ∙ data_length place c.args.a.now.words; zeros = refl; size = r.size; fits = omega (arith, e, w.fits); too_large = tt }

@@ -4,7 +4,7 @@ use Rattle.sch_control.specs.Work.{codes_work}
 use Rattle.sch_frames.specs.ProgramView as frames
 use Rattle.sch_select.specs.Sizes.{kinds_of}
 use Rattle.sch_driver.specs.Assembled.{IsFrameSize, IsUnfit, assembled_bound}
-use Rattle.sch_driver.proofs.Images.{assembled, few_words, framed_parts, kept_error, refused_for, size_of_frames, text_within, unfit}
+use Rattle.sch_driver.proofs.Images.{assembled, few_words, framed_parts, kept_error, refused_for, size_of_frames, text_within, unfit, units_within}
 use Rattle.sch_driver.proofs.Resolved.{resolved_kinds}
 use Rattle.sch_driver.proofs.assembly.assemble.Goals as goal
 
@@ -27,7 +27,7 @@ returns-in_err-resolved-clause-refused c =
     let cause = c.in_err-resolved.field-0.0 in
     let items = c.in_ok-code.code.items in
     let routines = c.in_ok-routines.routines.items in
-    let n = text_within f items routines (codes_work p.bodies) c.in_ok-code.ensures.text made.work made.copies c.in_ok-routines.ensures.short in
+    let n = text_within f items routines (codes_work p.bodies) c.in_ok-code.ensures.text (units_within f (codes_work p.bodies) made.work made.copies) c.in_ok-routines.ensures.short in
     let size = size_of_frames p f c.args.limits.heap depth items routines c.in_ok-code.ensures.items c.in_ok-routines.ensures.items
     (framed_parts p f made.statics made.library made.made made.words) in
     refused_for p depth c.from_residual-in_err-resolved.result cause c.from_residual-in_err-resolved.ensures.1
@@ -51,7 +51,7 @@ returns-clause-does c =
     let f = frames.source c.in_ok-frames.frames in
     let made = c.in_ok-frames.ensures in
     let code = c.in_ok-code.ensures in
-    let n = text_within f c.in_ok-code.code.items c.in_ok-routines.routines.items (codes_work p.bodies) code.text made.work made.copies c.in_ok-routines.ensures.short in
+    let n = text_within f c.in_ok-code.code.items c.in_ok-routines.routines.items (codes_work p.bodies) code.text (units_within f (codes_work p.bodies) made.work made.copies) c.in_ok-routines.ensures.short in
     assembled p f c.args.limits.heap c.args.limits.depth c.in_ok-code.code c.in_ok-routines.routines
     r.resolved.code r.resolved.marks r.resolved.words c.into_bytes-text.result r.resolved.zeros c.in_ok-image.image c.len-instructions.result c.len-instructions.ensures
     made.same (framed_parts p f made.statics made.library made.made made.words)

@@ -1,4 +1,4 @@
-use Rattle.std.proofs.Common.{length, map, ap, ◌∙◌, ◌+◌}
+use Rattle.std.proofs.Common.{length, map, ap, ◌+◌}
 use Rattle.sch_word.specs.values.LiteralView.{literal}
 use Rattle.sch_names.specs.NamesView.{names_of}
 use Rattle.sch_names.specs.ScopeView.{given_names, one_name}
@@ -131,7 +131,7 @@ number_each-loop-e-preserved t c =
     let out = c.loop-e.out in
     let made = c.in_ok-made.ensures in
     record {
-      place = c.in_ok-next.ensures ∙ ap (λ n. n + 1) c.loop-e.invariant.place;
+      place = ap (λ n. n + 1) c.loop-e.invariant.place;
       made = rw c.in_ok-push.ensures.ok (next_numbered (names_of c.args.tables.now.own.now) (names_of c.args.tables.now.globals.now) (names_of c.args.tables.now.symbols.now) (given_names c.args.names.now) es i (one_name c.name_at-v.result) e c.loop-e.all c.in_ok-made.made (length out.sites) (length out.literals) _ _ _ c.loop-e-test.true c.e-item.is (name_is c.args.names.now c.name_at-v.ensures c.loop-e.invariant.place) made.made (sites_more out.sites _ made.sites) (literals_more f out.literals _ (quotes_in (draft_of e)) made.literals) c.loop-e.invariant.made);
       sites = next_sites es i e out.sites _ _ c.loop-e-test.true c.e-item.is made.sites c.loop-e.invariant.sites;
       literals = next_literals f es i e (map literal out.literals) _ _ c.loop-e-test.true c.e-item.is made.literals c.loop-e.invariant.literals;

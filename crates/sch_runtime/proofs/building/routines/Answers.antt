@@ -3,6 +3,7 @@ use Rattle.sch_asm.specs.Items.{AreItems, AreKnown, AreRoutines, IsEachOnce, lab
 use Rattle.sch_asm.specs.Effects.{AreEffective}
 use Rattle.std.specs.Prelude.{IsTrue, false}
 use Rattle.sch_runtime.proofs.RoutineItems.{routines_joined, routines_known, routines_once, routines_sound}
+use Rattle.sch_runtime.specs.Form.{keeps_form}
 use Rattle.sch_runtime.proofs.Effective.{routines_are_effective}
 use Rattle.sch_runtime.proofs.building.routines.Goals as goal
 
@@ -21,3 +22,6 @@ returns-clause-joined c = subst (λ ws. AreRoutines c.in_ok-items.items ws 0) (s
 
 pub returns-clause-effective : goal.returns-clause-effective
 returns-clause-effective c = subst AreEffective (sym c.in_ok-items.ensures) routines_are_effective
+
+pub returns-clause-form : goal.returns-clause-form
+returns-clause-form c = subst (λ is. IsTrue (keeps_form is)) (sym c.in_ok-items.ensures) refl

@@ -1,5 +1,8 @@
 use Rattle.std.proofs.Common.{◌≡◌, ◌++◌, ◌+◌, List, drop}
+use Rattle.std.specs.List.{list_all}
+use Rattle.std.specs.Prelude.{IsTrue}
 use Rattle.sch_asm.specs.declared.item.Item.{Item}
+use Rattle.sch_select.specs.Reach.{is_reached_instruction}
 use Rattle.sch_select.specs.Select.{all_labels_needed, body_code}
 use Rattle.sch_select.proofs.body_items.body.Given as goal
 
@@ -9,4 +12,5 @@ invariant-loop-i l = record {
       (drop l.i-index l.instructions) rest ≡ l.initial.out ++ body_code l.labels.base l.labels.end l.labels.words
       l.labels.heap_end l.labels.literals l.n l.instructions rest;
   next : l.next + all_labels_needed (drop l.i-index l.instructions) ≡ l.n + all_labels_needed l.instructions;
+  reached : IsTrue (list_all is_reached_instruction (drop l.i-index l.instructions));
 }

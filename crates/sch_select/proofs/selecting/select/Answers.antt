@@ -36,6 +36,7 @@ use Rattle.sch_select.proofs.items.ProgramStores.{program_stands}
 use Rattle.sch_select.proofs.items.JumpsAhead.{program_ahead}
 use Rattle.sch_select.specs.Jumps.{jumps_ahead}
 use Rattle.sch_select.proofs.items.TextSize.{text_small}
+use Rattle.sch_select.proofs.items.ReachedCodes.{program_reached}
 use Rattle.sch_select.proofs.selecting.select.Goals as goal
 
 pub heap_behind-requires-clause-few : goal.heap_behind-requires-clause-few
@@ -53,6 +54,17 @@ words_of-requires-clause-values c = c.in_ok-literals.ensures.values
 pub words_of-requires-clause-objects : goal.words_of-requires-clause-objects
 words_of-requires-clause-objects c = c.in_ok-literals.ensures.objects
     ∙ ap (map Fixed) (placed_objects c.lay_out-places.result.unit (literals_of c.args.p.now.statics.literals))
+
+pub items_of-requires-clause-reached : goal.items_of-requires-clause-reached
+items_of-requires-clause-reached c =
+    let p = c.args.p.now in program_reached (source p) (words_few p) (covered_selected p c.requires.covered)
+
+pub items_of-requires-clause-few : goal.items_of-requires-clause-few
+items_of-requires-clause-few c =
+    let p = c.args.p.now in
+    let few = statics_few p in
+    let rows = count_rows p.statics.literals in
+    omega (arith, few, rows)
 
 -- ---- what is made
 

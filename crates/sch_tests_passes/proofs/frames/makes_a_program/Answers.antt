@@ -19,6 +19,7 @@ invariant_of-p g c = record {
   known = rw c.new-5.ensures refl;
   sited = rw c.new-5.ensures refl;
   ordered = rw (c.new-6.ensures, c.new-7.ensures) refl;
+  turns = rw c.new-5.ensures refl;
   free = rw c.new-4.ensures refl;
   ready = ready_empty _ _ _ _ c.new.ensures (ap literals_of c.new-2.ensures ∙ literals_of_list []) c.new-3.ensures;
 }

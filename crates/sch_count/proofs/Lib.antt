@@ -1,0 +1,6 @@
+mod WorkedRows
+pub mod RowSums
+pub mod TallySteps
+pub mod RunMarks
+pub mod AddressMarks
+pub mod MachineMarks

@@ -1,0 +1,4 @@
+pub mod ActivationCounts
+pub mod Tallied
+pub mod MarkTables
+pub mod TracedCounts

@@ -1,0 +1,14 @@
+//! A device: the activations of a machine's run, counted for each body with what they save, and its leaves.
+#![tactic(auto)]
+
+mod counting;
+mod counts;
+mod error;
+mod mark_table;
+mod row;
+mod tally;
+
+pub use counting::count;
+pub use counts::Counts;
+pub use error::CountError;
+pub use row::Row;

@@ -1,0 +1,81 @@
+-- Worked rows: what lies where in the frame of a body, and its layout.
+use Rattle.std.proofs.Common.{◌≡◌, ℕ, refl, false, true, List, [], ◌∷◌, Option, Some, ◌-◌}
+use Rattle.sch_word.specs.declared.mark.MarkKind.TheVariants as mark
+use Rattle.sch_word.specs.declared.place.Place.{Place}
+use Rattle.sch_word.specs.declared.place.Place.TheVariants.{Reg, Slot}
+use Rattle.sch_word.specs.declared.primitive.Primitive.TheVariants.{Subtract}
+use Rattle.sch_control.specs.declared.body.Entry.{Entry}
+use Rattle.sch_control.specs.declared.operation.Atom.TheVariants.{Variable}
+use Rattle.sch_control.specs.declared.operation.Operand.TheVariants as operand
+use Rattle.sch_control.specs.declared.operation.Operation.TheVariants as operation
+use Rattle.sch_control.specs.Tree.{Expression, perform, bind, call, return, save}
+use Rattle.sch_control.proofs.Examples.{applied, held_in, number}
+use Rattle.sch_frames.specs.declared.instruction.Instruction.TheVariants.{Do, Store, Copy, Call, Return, Mark}
+use Rattle.sch_layout.specs.Moves.{Move}
+use Rattle.sch_homes.specs.Homes.{home, homes_code, homes_words, moves_aside, place}
+
+-- ## A procedure of eight formals: two arrive in slots, and they stay there
+
+abbrev eight : Option Entry
+eight = Some (record { formals = 8; rest = false; fields = 0 })
+
+-- variable 10 has a slot, and the return address is saved
+abbrev body : Expression
+body =
+    save (0 ∷ []) (bind 10 (perform (operation.Operand (number 5)))
+    (bind 11 (call (applied 0 (held_in 2) (held_in 10 ∷ held_in 8 ∷ [])) (0 ∷ []))
+    (return (perform (operation.Prim 1 Subtract (held_in 11 ∷ held_in 10 ∷ []))))))
+
+abbrev places : List Place
+places = Reg 15 ∷ Reg 14 ∷ Reg 3 ∷ Reg 8 ∷ Reg 9 ∷ Reg 10 ∷ Reg 6 ∷ Reg 7 ∷ Slot 0 ∷ Slot 1 ∷ Slot 2 ∷ Reg 3 ∷ []
+
+-- the slots 0 and 1 of arguments, 2 and 3 for operands that are set aside, 4 for variable 10, and 5 for the return address
+places_rows :
+    (place eight body places 8 ≡ Slot 0) × (place eight body places 9 ≡ Slot 1) × (place eight body places 10 ≡ Slot 4) × (place eight body places 11 ≡ Reg 3)
+    × (home eight body places 0 ≡ Slot 5) × (homes_words eight body places ≡ 6)
+places_rows = (refl, refl, refl, refl, refl, refl)
+
+layout_row : (homes_code eight body places).instructions ≡
+    Mark (mark.Save 0) ∷ Copy (Slot 5) (Reg 15)
+    ∷ Do (operation.Operand (number 5)) ∷ Mark (mark.Spill 10) ∷ Store (Slot 4)
+    ∷ Do (operation.Operand (held_in (Slot 4))) ∷ Mark mark.Temp ∷ Store (Slot 2) ∷ Do (operation.Operand (held_in (Slot 0))) ∷ Mark mark.Temp ∷ Store (Slot 3)
+    ∷ Copy (Reg 14) (Reg 3) ∷ Copy (Reg 3) (Slot 2) ∷ Copy (Reg 8) (Slot 3) ∷ Mark (mark.Call 0) ∷ Call false 2
+    ∷ Mark (mark.Restore 0) ∷ Copy (Reg 15) (Slot 5) ∷ Store (Reg 3)
+    ∷ Do (operation.Prim 1 Subtract (held_in (Reg 3) ∷ held_in (Slot 4) ∷ [])) ∷ Mark mark.Return ∷ Return ∷ []
+layout_row = refl
+
+-- a formal that arrives in R8 and has a slot is stored there under its mark
+spilled_row : (homes_code (Some (record { formals = 2; rest = false; fields = 0 })) (return (perform (operation.Operand (held_in 3)))) (Reg 15 ∷ Reg 14 ∷ Reg 3 ∷ Slot 0 ∷ [])).instructions ≡
+    Mark (mark.Spill 3) ∷ Copy (Slot 0) (Reg 8) ∷ Do (operation.Operand (held_in (Slot 0))) ∷ Mark mark.Return ∷ Return ∷ []
+spilled_row = refl
+
+-- ## Homes are in the order of the variables, and only of those that are saved
+
+abbrev two_saved : Expression
+two_saved = save (3 ∷ 0 ∷ []) (bind 4 (call (applied 0 (held_in 2) (held_in 3 ∷ [])) (0 ∷ 3 ∷ [])) (return (perform (operation.Prim 1 Subtract (held_in 4 ∷ held_in 3 ∷ [])))))
+
+abbrev five_places : List Place
+five_places = Reg 15 ∷ Reg 14 ∷ Reg 3 ∷ Reg 8 ∷ Reg 3 ∷ []
+
+abbrev two : Option Entry
+two = Some (record { formals = 2; rest = false; fields = 0 })
+
+homes_rows : (home two two_saved five_places 0 ≡ Slot 1) × (home two two_saved five_places 3 ≡ Slot 2) × (homes_words two two_saved five_places ≡ 3)
+homes_rows = (refl, refl, refl)
+
+-- a body that saves nothing and calls nothing needs no frame
+leaf_row : homes_words two (return (perform (operation.Operand (held_in 3)))) five_places ≡ 0
+leaf_row = refl
+
+-- ## The last of seven operands of a tail call goes to the first slot of the frame, from which that of the first has gone
+
+abbrev moved : ℕ → Place → Move
+moved k to = record { argument = k; from = operand.Atom (Variable (Slot (k - 1))); to = to; temp = false }
+
+abbrev put : ℕ → Move
+put k = record { argument = k; from = number k; to = Slot (k - 1); temp = true }
+
+moves_row : moves_aside 0 (λ x. Reg 3) true (applied 0 (held_in 2) (number 1 ∷ number 2 ∷ number 3 ∷ number 4 ∷ number 5 ∷ number 6 ∷ number 7 ∷ [])) ≡
+    put 1 ∷ put 2 ∷ put 3 ∷ put 4 ∷ put 5 ∷ put 6 ∷ put 7 ∷ record { argument = 0; from = held_in (Reg 3); to = Reg 14; temp = false }
+    ∷ moved 1 (Reg 3) ∷ moved 2 (Reg 8) ∷ moved 3 (Reg 9) ∷ moved 4 (Reg 10) ∷ moved 5 (Reg 6) ∷ moved 6 (Reg 7) ∷ moved 7 (Slot 0) ∷ []
+moves_row = refl

@@ -1,0 +1,207 @@
+-- Where things lie in the frame: variables' slots, the slots in which operands are set aside, and homes are apart.
+use Rattle.std.proofs.Common.{◌≡◌, ◌≢◌, ℕ, zero, suc, ◌+◌, ◌-◌, ◌<◌, ◌≤◌, List, [], ◌∷◌, length, Option, Some, None, Bool, true, false, cond, refl, sym, ap, ◌∙◌, subst, arith, ◌⊎◌, inl, inr}
+use Rattle.std.specs.Prelude.{nat_lt, slice_get}
+use Rattle.std.proofs.Math.Nat.{le-max_left, le-max_right}
+use Rattle.std.proofs.lemmas.Bool.{ne_eqb, lt-ltb, ltb-true, ltb-false}
+use Rattle.sch_word.proofs.facts.Booleans.{false_true}
+use Rattle.sch_word.specs.declared.place.Place.{Place}
+use Rattle.sch_word.specs.declared.place.Place.TheVariants.{Reg, Slot}
+use Rattle.sch_control.specs.declared.body.Entry.{Entry}
+use Rattle.sch_control.specs.Tree.{Expression}
+use Rattle.sch_frames.specs.Meaning.{is_slot, link_register, same_place}
+use Rattle.sch_layout.specs.OwnSlots.{most_operands}
+use Rattle.sch_layout.specs.SharedPlaces.{HomeApart, Homes}
+use Rattle.sch_homes.specs.Homes.{count_below, first_home, has_home, home, homes_plan, homes_words, late_slots, lives_in, next_frame, place, slots_end}
+
+-- ## Lists of places
+
+pub there : (places : List Place) (x : ℕ) (p : Place) → slice_get places x ≡ Some p → x < length places
+there [] x p h = absurd (cc)
+there (q ∷ places) zero p h = omega arith
+there (q ∷ places) (suc x) p h = let lt = there places x p h in omega (arith, lt)
+
+abbrev number_or : ℕ → Option Place → ℕ
+number_or n (Some (Slot j)) = j
+number_or n _ = n
+
+-- the slot of a variable is before the end of the slots
+pub before_end : (late : ℕ) (places : List Place) (x j : ℕ) → slice_get places x ≡ Some (Slot j) → j < slots_end late places
+before_end late [] x j h = absurd (cc)
+before_end late (Reg r ∷ places) zero j h = absurd (cc)
+before_end late (Slot i ∷ places) zero j h =
+    let e : i ≡ j = ap (number_or 0) h in
+    let le = le-max_left (suc i) (slots_end late places) in
+    omega (arith, e, le)
+before_end late (Reg r ∷ places) (suc x) j h = before_end late places x j h
+before_end late (Slot i ∷ places) (suc x) j h =
+    let lt = before_end late places x j h in
+    let le = le-max_right (suc i) (slots_end late places) in
+    omega (arith, lt, le)
+
+pub late_before_end : (late : ℕ) (places : List Place) → late ≤ slots_end late places
+late_before_end late [] = omega arith
+late_before_end late (Reg r ∷ places) = late_before_end late places
+late_before_end late (Slot j ∷ places) =
+    let le = le-max_right (suc j) (slots_end late places) in
+    let more = late_before_end late places in
+    omega (arith, le, more)
+
+-- a slot in the frame: one of an argument, or behind those that are set aside
+pub in_frame_slot : (late aside j : ℕ) → ((j < late) × (cond (nat_lt j late) j (aside + j) ≡ j)) ⊎ ((late ≤ j) × (cond (nat_lt j late) j (aside + j) ≡ aside + j))
+in_frame_slot late aside j = by (nat_lt j late) refl where
+  by : (t : Bool) → nat_lt j late ≡ t → ((j < late) × (cond t j (aside + j) ≡ j)) ⊎ ((late ≤ j) × (cond t j (aside + j) ≡ aside + j))
+  by true e = inl (ltb-true j late e, refl)
+  by false e = inr (ltb-false j late e, refl)
+
+-- ## Counts
+
+pub count_less : (test : ℕ → Bool) (x more : ℕ) → test x ≡ true → count_below test x < count_below test (suc (x + more))
+count_less test x zero h =
+    let same : x ≡ x + 0 = omega arith in
+    subst (λ n. count_below test x < count_below test (suc n)) same
+    (subst (λ t. count_below test x < cond t (suc (count_below test x)) (count_below test x)) (sym h) (omega arith))
+count_less test x (suc more) h =
+    let same : suc (x + more) ≡ x + suc more = omega arith in
+    subst (λ n. count_below test x < count_below test (suc n)) same (by (test (suc (x + more))) (count_less test x more h)) where
+      by : (t : Bool) → count_below test x < count_below test (suc (x + more)) → count_below test x < cond t (suc (count_below test (suc (x + more)))) (count_below test (suc (x + more)))
+      by true lt = omega (arith, lt)
+      by false lt = lt
+
+pub count_lt : (test : ℕ → Bool) (x y : ℕ) → test x ≡ true → x < y → count_below test x < count_below test y
+count_lt test x y h lt =
+    let same : suc (x + (y - suc x)) ≡ y = omega (arith, lt) in
+    subst (λ n. count_below test x < count_below test n) same (count_less test x (y - suc x) h)
+
+pub counts_apart : (test : ℕ → Bool) (x y : ℕ) → test x ≡ true → test y ≡ true → x ≢ y → count_below test x ≢ count_below test y
+counts_apart test x y hx hy n e = by (nat_lt x y) refl where
+  by : (t : Bool) → nat_lt x y ≡ t → ⊥
+  by true i = let lt = count_lt test x y hx (ltb-true x y i) in omega (arith, lt, e)
+  by false i =
+      let le : y ≤ x = ltb-false x y i in
+      let lt = count_lt test y x hy (omega (arith, le, n)) in
+      omega (arith, lt, e)
+
+-- ## The frame of a body
+
+module _ (entry : Option Entry) (e : Expression) (places : List Place) where
+  abbrev late : ℕ
+  late = late_slots entry
+
+  abbrev aside : ℕ
+  aside = most_operands e
+
+  abbrev words : ℕ
+  words = homes_words entry e places
+
+  abbrev first : ℕ
+  first = first_home entry e places
+
+  abbrev homed : ℕ → Bool
+  homed = has_home entry e places
+
+  -- what a variable's place is
+  pub data Lives (x : ℕ) : Type 0 where
+    nowhere : slice_get places x ≡ None → Lives x
+    register : (r : ℕ) → slice_get places x ≡ Some (Reg r) → Lives x
+    slot : (j : ℕ) → slice_get places x ≡ Some (Slot j) → Lives x
+
+  pub lives : (x : ℕ) → Lives x
+  lives x = by (slice_get places x) refl where
+    by : (o : Option Place) → slice_get places x ≡ o → Lives x
+    by None i = nowhere i
+    by (Some (Reg r)) i = register r i
+    by (Some (Slot j)) i = slot j i
+
+  -- a variable's slot is before the homes, and none in which an operand is set aside
+  pub slot_before : (x j : ℕ) → slice_get places x ≡ Some (Slot j) → cond (nat_lt j late) j (aside + j) < first
+  slot_before x j h = by (in_frame_slot late aside j) where
+    lt : j < slots_end late places
+    lt = before_end late places x j h
+
+    by : ((j < late) × (cond (nat_lt j late) j (aside + j) ≡ j)) ⊎ ((late ≤ j) × (cond (nat_lt j late) j (aside + j) ≡ aside + j)) → cond (nat_lt j late) j (aside + j) < first
+    by (inl s) = let e = s.1 in let l = lt in omega (arith, e, l)
+    by (inr s) = let e = s.1 in let l = lt in omega (arith, e, l)
+
+  -- no variable lives where an operand is set aside
+  pub aside_apart : (x k : ℕ) → k < aside → late + k < next_frame → same_place (place entry e places x) (Slot (late + k)) ≡ false
+  aside_apart x k lt low = by (lives x) where
+    same : (o : Option Place) → slice_get places x ≡ o → same_place (lives_in late aside o) (Slot (late + k)) ≡ false → same_place (place entry e places x) (Slot (late + k)) ≡ false
+    same o i h = ap (λ o. same_place (lives_in late aside o) (Slot (late + k))) i ∙ h
+
+    by : Lives x → same_place (place entry e places x) (Slot (late + k)) ≡ false
+    by (nowhere i) = same None i (ne_eqb next_frame (late + k) (λ e. omega (arith, e, low)))
+    by (register r i) = same (Some (Reg r)) i refl
+    by (slot j i) = same (Some (Slot j)) i (ne_eqb _ _ (one (in_frame_slot late aside j))) where
+      one : ((j < late) × (cond (nat_lt j late) j (aside + j) ≡ j)) ⊎ ((late ≤ j) × (cond (nat_lt j late) j (aside + j) ≡ aside + j)) → cond (nat_lt j late) j (aside + j) ≢ late + k
+      one (inl s) i = let a = s.0 in let b = s.1 in omega (arith, a, b, i, lt)
+      one (inr s) i = let a = s.0 in let b = s.1 in omega (arith, a, b, i, lt)
+
+  -- ## Homes
+
+  abbrev home_number : ℕ → ℕ
+  home_number x = cond (homed x) (first + count_below homed x) (words + x)
+
+  -- one that is saved has its home inside the frame
+  pub home_inside : (x : ℕ) → homed x ≡ true → x < length places → home_number x < words
+  home_inside x h lt =
+      let less = count_lt homed x (length places) h lt in
+      subst (λ t. cond t (first + count_below homed x) (words + x) < words) (sym h) (omega (arith, less))
+
+  home_least : (x : ℕ) → first ≤ home_number x
+  home_least x = by (homed x) where
+    by : (t : Bool) → first ≤ cond t (first + count_below homed x) (words + x)
+    by true = omega arith
+    by false = omega arith
+
+  home_most : (x : ℕ) → x < length places → home_number x < words + length places
+  home_most x lt = by (homed x) refl where
+    by : (t : Bool) → homed x ≡ t → cond t (first + count_below homed x) (words + x) < words + length places
+    by true h = let less = count_lt homed x (length places) h lt in omega (arith, less)
+    by false h = omega (arith, lt)
+
+  homes_differ : (x y : ℕ) → x < length places → y < length places → x ≢ y → home_number x ≢ home_number y
+  homes_differ x y lx ly n i = by (homed x) (homed y) refl refl i where
+    by : (t r : Bool) → homed x ≡ t → homed y ≡ r → cond t (first + count_below homed x) (words + x) ≡ cond r (first + count_below homed y) (words + y) → ⊥
+    by true true hx hy i = counts_apart homed x y hx hy n (omega (arith, i))
+    by true false hx hy i = let less = count_lt homed x (length places) hx lx in omega (arith, i, less)
+    by false true hx hy i = let less = count_lt homed y (length places) hy ly in omega (arith, i, less)
+    by false false hx hy i = n (omega (arith, i))
+
+  -- a register is the place of a variable of the body
+  pub in_table : (x : ℕ) → is_slot (place entry e places x) ≡ false → (r : ℕ) × (slice_get places x ≡ Some (Reg r))
+  in_table x s = by (lives x) where
+    by : Lives x → (r : ℕ) × (slice_get places x ≡ Some (Reg r))
+    by (nowhere i) = absurd (false_true (ap (λ o. is_slot (lives_in late aside o)) i) s)
+    by (register r i) = (r, i)
+    by (slot j i) = absurd (false_true (ap (λ o. is_slot (lives_in late aside o)) i) s)
+
+  module _ (few : words + length places ≤ next_frame) where
+    home_apart : (x : ℕ) → is_slot (place entry e places x) ≡ false → HomeApart (homes_plan entry e places) x
+    home_apart x s = record {
+      in_slot = refl;
+      own = let lt = home_most x (inside x s) in lt-ltb (home_number x) next_frame (omega (arith, lt, few));
+      places = λ y. apart y (lives y);
+      homes = λ y r n. ne_eqb _ _ (homes_differ x y (inside x s) (inside y r) n);
+    } where
+      inside : (x : ℕ) → is_slot (place entry e places x) ≡ false → x < length places
+      inside x s = let t = in_table x s in there places x (Reg t.0) t.1
+
+      apart : (y : ℕ) → Lives y → same_place (home entry e places x) (place entry e places y) ≡ false
+      apart y (nowhere i) =
+          ap (λ o. same_place (home entry e places x) (lives_in late aside o)) i
+          ∙ (let lt = home_most x (inside x s) in ne_eqb (home_number x) next_frame (λ i. omega (arith, lt, few, i)))
+      apart y (register r i) = ap (λ o. same_place (home entry e places x) (lives_in late aside o)) i
+      apart y (slot j i) =
+          ap (λ o. same_place (home entry e places x) (lives_in late aside o)) i
+          ∙ (let lt = slot_before y j i in let least = home_least x in ne_eqb (home_number x) _ (λ i. omega (arith, lt, least, i)))
+
+    -- the return address lives in R15, and what lives in registers has homes
+    pub homes_are : slice_get places 0 ≡ Some link_register → Homes (homes_plan entry e places)
+    homes_are link = record { link = ap (lives_in late aside) link; home = home_apart }
+
+  -- no operand is set aside in a home
+  pub home_aside : (x k : ℕ) → k < aside → same_place (home entry e places x) (Slot (late + k)) ≡ false
+  home_aside x k lt =
+      let least = home_least x in
+      let end = late_before_end late places in
+      ne_eqb (home_number x) (late + k) (λ i. omega (arith, least, end, lt, i))

@@ -1,0 +1,4 @@
+pub mod Sizes
+pub mod Least
+pub mod Spans
+pub mod Places

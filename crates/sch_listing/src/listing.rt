@@ -1,0 +1,35 @@
+//! What is listed of a compiled program.
+
+use sch_asm::Mark;
+use sch_word::{Bytes, List, Place};
+
+/// Places whose values go round as the operands of a call are moved to where they are passed: that of each goes to the
+/// next, and that of the last to the first.
+#[derive(Drop)]
+pub struct Cycle {
+    /// The site of the call.
+    pub site: u32,
+    pub places: List<Place>,
+}
+
+/// What is listed of a program that is compiled.
+#[derive(Drop)]
+pub struct Listing {
+    /// The names of its bodies: those of the library's procedures that are kept, and of the procedures in them; then
+    /// `form` for each top-level form, and behind it the names of its procedures in the order of the text. A
+    /// procedure that is directly the value of a definition, or of a variable of a `let` without a name, a `letrec` or
+    /// a body, has the name of its variable, unless that was added, and any other is a `lambda`.
+    pub bodies: List<Bytes>,
+    /// For each site of its core program the order in which the parts of the site are evaluated (R5RS 4.1.3 leaves
+    /// it open).
+    pub orders: List<List<u32>>,
+    /// The cycles among the moves of its calls. There are none, since each operand is first put into a slot of its own.
+    pub cycles: List<Cycle>,
+    /// How many words of 8 bytes its largest frame has.
+    pub frame_words: u32,
+    /// How many instructions its text has.
+    pub instructions: u64,
+    /// The marks of its text, in their order: at which address the instructions of a body begin, and at which those
+    /// of the call or the tail call of a site, or of a return.
+    pub marks: List<Mark>,
+}

@@ -1,0 +1,3 @@
+pub mod BackwardSets
+pub mod Reached
+pub mod Reads

@@ -1,0 +1,41 @@
+//! What is live after each call of a body.
+
+ghost use Rattle.std.specs.Prelude.{◌≡◌, ◌≤◌, ◌<◌, ◌*◌, ◌^◌, IfOk};
+ghost use Rattle.sch_control.specs.View.{expression};
+ghost use Rattle.sch_control.specs.flow.Bare.{unlisted};
+ghost use Rattle.sch_control.specs.flow.LiveSets.{HasLiveSets};
+ghost use Rattle.sch_control.specs.flow.Middle.{listed};
+ghost use Rattle.sch_paths.specs.PlainlySame.{PlainlySame};
+
+use crate::backward::list_live;
+use crate::behind::Behind;
+use crate::blank::with_no_sets;
+use crate::reached::keep_reached;
+use sch_control::{Body, LiveBody};
+use sch_sets::Set;
+use sch_word::{List, Mem};
+use std::alloc::Global;
+
+/// The body with a set at each call: at one that some path through the body reaches, exactly the variables that are live
+/// after it, and at any other none. That fixes the sets, and all else is the body's. That a set is smaller than memory is asked for.
+pub fn live<const N: usize>(alloc: Global, b: &Body) -> Result<LiveBody<N>, Mem>
+    requires fits { b.now.variables ≤ 64 * N }
+    requires words { N < 2 ^ 32 }
+    ensures name { IfOk result (λ r. r.name ≡ b.now.name) }
+    ensures entry { IfOk result (λ r. r.entry ≡ b.now.entry) }
+    ensures variables { IfOk result (λ r. r.variables ≡ b.now.variables) }
+    ensures same { IfOk result (λ r. unlisted (listed r.exp) ≡ expression b.now.exp) }
+    ensures live { IfOk result (λ r. HasLiveSets (listed r.exp)) }
+    ensures meaning { IfOk result (λ r. PlainlySame (expression b.now.exp) (listed r.exp)) }
+{
+    let name = List::from_slice(alloc, b.name.as_slice())?;
+    let mut exp = with_no_sets(alloc, &b.exp)?;
+    list_live(&mut exp, &Behind::none(), &mut Set::new());
+    keep_reached(&mut exp, true);
+    Ok(LiveBody {
+        name,
+        entry: b.entry,
+        variables: b.variables,
+        exp: Box::into_inner(exp),
+    })
+}

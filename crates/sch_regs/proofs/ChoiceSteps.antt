@@ -1,0 +1,177 @@
+-- What the sets of variables in registers say of a table, and the steps of a choice.
+use Rattle.std.proofs.Common.{◌≡◌, ℕ, zero, suc, ◌+◌, ◌^◌, ◌<◌, ◌≤◌, Option, Some, None, Bool, true, false, List, [], ◌∷◌, ◌++◌, refl, ap, sym, ◌∙◌, arith, subst}
+use Rattle.std.specs.Prelude.{nat_eq, nat_lt, ◌||◌, ◌&&◌, not, cond, map, filter, slice_set, slice_get}
+use Rattle.std.specs.List.{list_all}
+use Rattle.std.proofs.lemmas.Bool.Decides.{nat_tests}
+use Rattle.std.specs.FinSet as set
+use Rattle.std.proofs.lemmas.Bool.{eqb-true, eq-eqb, ne_eqb}
+use Rattle.sch_sets.specs.Members.{NumberSet, HasMember}
+use Rattle.sch_sets.proofs.Membership.{contains-empty, contains-insert, contains-intersection}
+use Rattle.sch_word.specs.trees.Bindings.{numbers}
+use Rattle.sch_word.specs.declared.place.Place.{Place}
+use Rattle.sch_word.specs.declared.place.Place.TheVariants.{Reg, Slot}
+use Rattle.sch_word.specs.values.Registers.{argument_registers}
+use Rattle.sch_word.proofs.facts.Booleans.{and_left, and_right, and_of, or_left, or_right, false_true}
+use Rattle.sch_paths.proofs.saves.LiveInScope.{not_both}
+use Rattle.sch_control.specs.declared.operation.Member.{Member}
+use Rattle.sch_control.specs.Tree.{Expression, bind, sequence, branch, fix}
+use Rattle.sch_control.specs.Valid.{member_variables}
+use Rattle.sch_control.specs.flow.Places.{in_slot}
+use Rattle.sch_regs.specs.NotedSets.{Noted, assign_noted, first_variable}
+use Rattle.sch_regs.specs.PlaceChoice.{Table, in_register, place_in, slots, in_order, held, first_free, choose, choose_each, live_first}
+use Rattle.sch_regs.specs.Shows.{holds, IsHeld, is_wanted}
+
+-- ## What is held
+
+held_by : (live : ℕ → Bool) (t : Table) (r : ℕ) → held live t r ≡ true → (x : ℕ) × ((live x ≡ true) × (holds t r x ≡ true))
+held_by live [] r h = absurd (cc)
+held_by live (w ∷ t) r h = by (live w.0 && in_register r w.1) refl (held_by live t r) h where
+  by : (b : Bool) → (live w.0 && in_register r w.1) ≡ b → (held live t r ≡ true → (x : ℕ) × ((live x ≡ true) × (holds t r x ≡ true)))
+      → (b || held live t r) ≡ true → (x : ℕ) × ((live x ≡ true) × (holds (w ∷ t) r x ≡ true))
+  by true e f h = (
+    w.0,
+    (and_left (live w.0) _ e, or_left (nat_eq w.0 w.0 && in_register r w.1) _ (and_of (nat_eq w.0 w.0) _ (eq-eqb w.0 w.0 refl) (and_right (live w.0) _ e))),
+  )
+  by false e f h = let k = f h in (k.0, (k.1.0, or_right (nat_eq k.0 w.0 && in_register r w.1) _ k.1.1))
+
+holder : (live : ℕ → Bool) (t : Table) (r x : ℕ) → live x ≡ true → holds t r x ≡ true → held live t r ≡ true
+holder live [] r x l h = absurd (cc)
+holder live (w ∷ t) r x l h = by (nat_eq x w.0 && in_register r w.1) refl (holder live t r x l) h where
+  by : (b : Bool) → (nat_eq x w.0 && in_register r w.1) ≡ b → (holds t r x ≡ true → held live t r ≡ true) → (b || holds t r x) ≡ true
+      → ((live w.0 && in_register r w.1) || held live t r) ≡ true
+  by true e f h =
+      or_left (live w.0 && in_register r w.1) _ (and_of (live w.0) _ (sym (ap live (eqb-true x w.0 (and_left (nat_eq x w.0) _ e))) ∙ l) (and_right (nat_eq x w.0) _ e))
+  by false e f h = or_right (live w.0 && in_register r w.1) _ (f h)
+
+pub free_register : (t : Table) (r : ℕ) (s live m : NumberSet) (otherwise : Place) → IsHeld t r s → m ≡ set.intersection s live → m ≡ set.empty
+    → Reg r ≡ cond (held (set.contains live) t r) otherwise (Reg r)
+free_register t r s live m otherwise h meets none =
+    sym (ap (λ b. cond b otherwise (Reg r)) (not_both (held (set.contains live) t r) (λ e.
+    let w = held_by (set.contains live) t r e in
+    false_true (sym (ap (λ q. set.contains q w.0) (sym meets ∙ none)) ∙ (contains-intersection s live w.0 ∙ and_of (set.contains s w.0) _ (h w.0 ∙ w.1.1) w.1.0))
+    (contains-empty w.0))))
+
+pub held_register : (t : Table) (r : ℕ) (s live m : NumberSet) (otherwise : Place) → IsHeld t r s → m ≡ set.intersection s live → HasMember m
+    → otherwise ≡ cond (held (set.contains live) t r) otherwise (Reg r)
+held_register t r s live m otherwise h meets has =
+    let both : (set.contains s has.0 && set.contains live has.0) ≡ true
+    = sym (contains-intersection s live has.0) ∙ (ap (λ q. set.contains q has.0) (sym meets) ∙ has.1) in
+    sym (ap (λ b. cond b otherwise (Reg r))
+    (holder (set.contains live) t r has.0 (and_right (set.contains s has.0) _ both) (sym (h has.0) ∙ and_left (set.contains s has.0) _ both)))
+
+pub chain : (live : ℕ → Bool) (t : Table) (n : ℕ) (p0 p1 p2 p3 p4 p5 p6 : Place) → n ≡ slots t → p0 ≡ Slot n → p1 ≡ cond (held live t 7) p0 (Reg 7)
+    → p2 ≡ cond (held live t 6) p1 (Reg 6) → p3 ≡ cond (held live t 10) p2 (Reg 10) → p4 ≡ cond (held live t 9) p3 (Reg 9) → p5 ≡ cond (held live t 8) p4 (Reg 8)
+    → p6 ≡ cond (held live t 3) p5 (Reg 3) → p6 ≡ first_free live t argument_registers
+chain live t n p0 p1 p2 p3 p4 p5 p6 e e0 e1 e2 e3 e4 e5 e6 =
+    e6 ∙ ap (λ p. cond (held live t 3) p (Reg 3)) (e5 ∙ ap (λ p. cond (held live t 8) p (Reg 8)) (e4 ∙ ap (λ p. cond (held live t 9) p (Reg 9))
+    (e3 ∙ ap (λ p. cond (held live t 10) p (Reg 10)) (e2 ∙ ap (λ p. cond (held live t 6) p (Reg 6)) (e1 ∙ ap (λ p. cond (held live t 7) p (Reg 7)) (e0 ∙ ap Slot e))))))
+
+-- ## A variable is given a place
+
+pub into_register : (t : Table) (r y : ℕ) (p : Place) (s s' : NumberSet) → in_register r p ≡ true → s' ≡ set.insert s y → IsHeld t r s → IsHeld ((y, p) ∷ t) r s'
+into_register t r y p s s' here put h x =
+    ap (λ q. set.contains q x) put ∙ (contains-insert s y x ∙ (ap (λ b. nat_eq x y || b) (h x) ∙ ap (λ b. b || holds t r x) (sym (ap (λ b. nat_eq x y && b) here ∙ and_true (nat_eq x y))))) where
+      and_true : (b : Bool) → (b && true) ≡ b
+      and_true true = refl
+      and_true false = refl
+
+pub elsewhere : (t : Table) (r y : ℕ) (p : Place) (s : NumberSet) → in_register r p ≡ false → IsHeld t r s → IsHeld ((y, p) ∷ t) r s
+elsewhere t r y p s there h x = h x ∙ ap (λ b. b || holds t r x) (sym (ap (λ b. nat_eq x y && b) there ∙ and_false (nat_eq x y))) where
+  and_false : (b : Bool) → (b && false) ≡ false
+  and_false true = refl
+  and_false false = refl
+
+-- the list of places with one more
+set_listed : (f : ℕ → Place) (p : Place) (k n y : ℕ) → slice_set (map f (numbers k n)) y p ≡ map (λ x. cond (nat_eq x (k + y)) p (f x)) (numbers k n)
+set_listed f p k zero y = refl
+set_listed f p k (suc n) zero =
+    rw (eq-eqb k (k + zero) (omega arith)) (ap (λ q. p ∷ q) (rest (suc k) n (omega arith))) where
+      rest : (j n : ℕ) → k < j → map f (numbers j n) ≡ map (λ x. cond (nat_eq x (k + zero)) p (f x)) (numbers j n)
+      rest j zero l = refl
+      rest j (suc n) l = rw (ne_eqb j (k + zero) (λ e. omega (arith, l, e))) (ap (λ q. f j ∷ q) (rest (suc j) n (omega (arith, l))))
+set_listed f p k (suc n) (suc y) =
+    rw (ne_eqb k (k + suc y) (λ e. omega (arith, e)))
+    (ap (λ q. f k ∷ q) (set_listed f p (suc k) n y ∙ ap (λ j. map (λ x. cond (nat_eq x j) p (f x)) (numbers (suc k) n)) (omega arith)))
+
+pub place_listed : (t : Table) (count y : ℕ) (p : Place) → slice_set (in_order count t) y p ≡ in_order count ((y, p) ∷ t)
+place_listed t count y p = set_listed (place_in t) p 0 count y ∙ ap (λ j. map (λ x. cond (nat_eq x j) p (place_in t x)) (numbers 0 count)) (omega arith)
+
+-- ## Groups
+
+pub wanted_one : (live f : ℕ → Bool) (y : ℕ) (ys : List ℕ) (t : Table)
+    → choose_each live (filter f (y ∷ ys)) t ≡ choose_each live (filter f ys) (choose_each live (filter f (y ∷ [])) t)
+wanted_one live f y ys t = by (f y) where
+  by : (b : Bool) → choose_each live (cond b (y ∷ filter f ys) (filter f ys)) t ≡ choose_each live (filter f ys) (choose_each live (cond b (y ∷ []) []) t)
+  by true = refl
+  by false = refl
+
+pub each_append : (live : ℕ → Bool) (xs ys : List ℕ) (t : Table) → choose_each live (xs ++ ys) t ≡ choose_each live ys (choose_each live xs t)
+each_append live [] ys t = refl
+each_append live (x ∷ xs) ys t = each_append live xs ys (choose live x t)
+
+pub both_rounds : (live : ℕ → Bool) (ys : List ℕ) (t : Table)
+    → choose_each live (filter (is_wanted live false) ys) (choose_each live (filter (is_wanted live true) ys) t) ≡ choose_each live (live_first live ys) t
+both_rounds live ys t = sym (each_append live (filter live ys) (filter (λ y. not (live y)) ys) t)
+
+pub first_some : (members : List (Member ℕ)) (m : Member ℕ) → Some m ≡ slice_get members 0 → m.at ≡ first_variable (member_variables members)
+first_some [] m h = absurd (cc)
+first_some (k ∷ members) m h = ap at_of h where
+  at_of : Option (Member ℕ) → ℕ
+  at_of None = m.at
+  at_of (Some k) = k.at
+
+pub first_none : (members : List (Member ℕ)) → None ≡ slice_get members 0 → members ≡ []
+first_none [] h = refl
+first_none (k ∷ members) h = absurd (cc)
+
+pub first_below : (members : List (Member ℕ)) (bound : ℕ) (m : Member ℕ) → Some m ≡ slice_get members 0
+    → list_all (λ x. nat_lt x bound) (member_variables members) ≡ true → m.at < bound
+first_below members bound m is h = subst (λ y. y < bound) (sym (first_some members m is)) (below members is h) where
+  below : (members : List (Member ℕ)) → Some m ≡ slice_get members 0 → list_all (λ x. nat_lt x bound) (member_variables members) ≡ true
+      → first_variable (member_variables members) < bound
+  below [] is h = absurd (cc)
+  below (k ∷ members) is h = let lt : nat_lt k.at bound ≡ true = and_left (nat_lt k.at bound) _ h in grind (arith, nat_tests, lt)
+
+pub all_within : (xs : List ℕ) (low high : ℕ) → low ≤ high → list_all (λ x. nat_lt x low) xs ≡ true → list_all (λ x. nat_lt x high) xs ≡ true
+all_within [] low high l h = refl
+all_within (x ∷ xs) low high l h =
+    let lt : nat_lt x low ≡ true = and_left (nat_lt x low) _ h in
+    let here : nat_lt x high ≡ true = grind (arith, nat_tests, lt, l) in
+    and_of (nat_lt x high) _ here (all_within xs low high l (and_right (nat_lt x low) _ h))
+
+-- one slot more, where a place is one, and as many as 32 bits number
+pub fewer_slots : (p : Place) (n : ℕ) → cond (in_slot p) (suc n) n < 2 ^ 32 → n < 2 ^ 32
+fewer_slots (Reg r) n l = l
+fewer_slots (Slot j) n l = omega (arith, l)
+
+pub slot_counted : (p : Place) (n m k : ℕ) → (cond (in_slot p) (n + 1) n < 2 ^ 32 → k ≡ cond (in_slot p) (n + 1) n) → n ≡ m → cond (in_slot p) (suc m) m < 2 ^ 32
+    → k ≡ cond (in_slot p) (suc m) m
+slot_counted (Reg r) n m k f e l = f (omega (arith, e, l)) ∙ e
+slot_counted (Slot j) n m k f e l = let h = f (omega (arith, e, l)) in omega (arith, h, e)
+
+-- ## Walks
+
+module _ (n : Noted) where
+  pub bind_walk : (y : ℕ) (a b a' b' e : Expression) (t : Table) → e ≡ bind y a b → a' ≡ a → b' ≡ b
+      → assign_noted n b' (choose (n y) y (assign_noted n a' t)) ≡ assign_noted n e t
+  bind_walk y a b a' b' e t is first second =
+      ap (λ z. assign_noted n z (choose (n y) y (assign_noted n a' t))) second
+      ∙ (ap (λ z. assign_noted n b (choose (n y) y (assign_noted n z t))) first ∙ ap (λ z. assign_noted n z t) (sym is))
+
+  pub sequence_walk : (a b a' b' e : Expression) (t : Table) → e ≡ sequence a b → a' ≡ a → b' ≡ b → assign_noted n b' (assign_noted n a' t) ≡ assign_noted n e t
+  sequence_walk a b a' b' e t is first second =
+      ap (λ z. assign_noted n z (assign_noted n a' t)) second ∙ (ap (λ z. assign_noted n b (assign_noted n z t)) first ∙ ap (λ z. assign_noted n z t) (sym is))
+
+  pub branch_walk : (a b c a' b' c' e : Expression) (t : Table) → e ≡ branch a b c → a' ≡ a → b' ≡ b → c' ≡ c
+      → assign_noted n c' (assign_noted n b' (assign_noted n a' t)) ≡ assign_noted n e t
+  branch_walk a b c a' b' c' e t is first second third =
+      ap (λ z. assign_noted n z (assign_noted n b' (assign_noted n a' t))) third
+      ∙ (ap (λ z. assign_noted n c (assign_noted n z (assign_noted n a' t))) second
+      ∙ (ap (λ z. assign_noted n c (assign_noted n b (assign_noted n z t))) first ∙ ap (λ z. assign_noted n z t) (sym is)))
+
+  pub fix_walk : (members : List (Member ℕ)) (a a' e : Expression) (t : Table) → e ≡ fix members a → a' ≡ a
+      → assign_noted n a' (choose_each (n (first_variable (member_variables members))) (live_first (n (first_variable (member_variables members))) (member_variables members)) t)
+      ≡ assign_noted n e t
+  fix_walk members a a' e t is first =
+      ap (λ z. assign_noted n z (choose_each (n (first_variable (member_variables members))) (live_first (n (first_variable (member_variables members))) (member_variables members)) t)) first
+      ∙ ap (λ z. assign_noted n z t) (sym is)

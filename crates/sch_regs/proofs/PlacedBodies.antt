@@ -1,0 +1,75 @@
+-- A body with restores, and its places.
+use Rattle.std.proofs.Common.{◌≡◌, ℕ, ◌+◌, ◌<◌, ◌≤◌, List, Bool, true, ap, sym, ◌∙◌, refl, subst, arith, [], ◌∷◌, ◌^◌, length}
+use Rattle.std.specs.Prelude.{nat_le}
+use Rattle.std.proofs.lemmas.Bool.Decides.{nat_tests}
+use Rattle.sch_word.specs.declared.place.Place.{Place}
+use Rattle.sch_word.specs.declared.place.Place.TheVariants.{Reg, Slot}
+use Rattle.sch_word.proofs.facts.Booleans.{and_left}
+use Rattle.sch_control.specs.Valid.{max_body_variables}
+use Rattle.sch_control.specs.declared.restored_body.RestoredBody.{RestoredBody}
+use Rattle.sch_control.specs.Meaning.{no_region}
+use Rattle.sch_control.specs.Tree.{Expression, Code}
+use Rattle.sch_control.specs.flow.Bare.{erased}
+use Rattle.sch_control.specs.flow.LiveSets.{HasLiveSets}
+use Rattle.sch_control.specs.flow.Middle.{code_with}
+use Rattle.sch_control.specs.flow.Places.{count_slots, formals_of}
+use Rattle.sch_control.specs.flow.Regions.{regions_apart, restores_saved}
+use Rattle.sch_control.specs.flow.RestoredView.{restored, restored_listed}
+use Rattle.sch_regs.specs.PlaceChoice.{places, slots, table_of}
+use Rattle.sch_regs.specs.Reads.{ReadsBelow, BindsBelow}
+use Rattle.sch_regs.proofs.TableMade.{binds, reads, formals_within}
+use Rattle.sch_regs.proofs.WholeBodies.{IsPlaced, is_placed, slots_same}
+
+count_within : (ps : List Place) → count_slots ps ≤ length ps
+count_within [] = omega arith
+count_within (Reg r ∷ ps) = let k = count_within ps in omega (arith, k)
+count_within (Slot j ∷ ps) = let k = count_within ps in omega (arith, k)
+
+module _ {N : ℕ} (b : RestoredBody N) where
+  abbrev pub code_of : Code
+  code_of = code_with b.name b.entry b.variables (erased (restored b.exp))
+
+  pub some_words : 0 < N
+  some_words = let k = formals_within code_of (restored b.exp) refl b.scoped b.numbered b.ended in let l = b.fits in omega (arith, k, l)
+
+  pub binds_within : (bound : ℕ) → b.variables ≤ bound → BindsBelow bound (restored b.exp)
+  binds_within bound l = binds code_of (restored b.exp) refl b.scoped b.numbered b.ended bound l
+
+  pub reads_within : (bound : ℕ) → b.variables ≤ bound → ReadsBelow bound (restored b.exp)
+  reads_within bound l = reads code_of (restored b.exp) refl b.scoped b.numbered b.ended bound l
+
+  pub entered_within : 2 + formals_of b.entry ≤ b.variables
+  entered_within = formals_within code_of (restored b.exp) refl b.scoped b.numbered b.ended
+
+  -- a body has few variables, and no more slots
+  pub few_slots : slots (table_of b.entry (restored b.exp)) < 2 ^ 32
+  few_slots =
+      let same : count_slots (places b.entry b.variables (restored b.exp)) ≡ slots (table_of b.entry (restored b.exp))
+      = slots_same code_of (restored b.exp) refl b.scoped b.numbered b.ended in
+      let k = count_within (places b.entry b.variables (restored b.exp)) in
+      let long = (is_placed code_of (restored b.exp) refl b.scoped b.numbered b.ended).whole in
+      let most : nat_le b.variables max_body_variables ≡ true = and_left (nat_le b.variables max_body_variables) _ b.numbered in
+      let few : b.variables ≤ max_body_variables = grind (arith, nat_tests, most) in
+      omega (arith, same, k, long, few)
+
+  module _ (r : Expression) (tree : r ≡ restored b.exp) where
+    -- what is true of the body's tree without regions and restores is true of its copy
+    pub kept : (name : List ℕ) → name ≡ b.name → (test : Code → Bool) → test code_of ≡ true → test (code_with name b.entry b.variables (erased r)) ≡ true
+    kept name is test h =
+        subst (λ z. test (code_with z b.entry b.variables (erased r)) ≡ true) (sym is)
+        (subst (λ z. test (code_with b.name b.entry b.variables (erased z)) ≡ true) (sym tree) h)
+
+    pub apart : regions_apart b.variables r no_region ≡ true
+    apart = ap (λ z. regions_apart b.variables z no_region) tree ∙ b.apart
+
+    pub all_saved : restores_saved r no_region ≡ true
+    all_saved = ap (λ z. restores_saved z no_region) tree ∙ b.saved
+
+    pub placed : (ps : List Place) → ps ≡ places b.entry b.variables (restored b.exp) → IsPlaced b.entry b.variables r ps
+    placed ps made =
+        subst (λ e. IsPlaced b.entry b.variables e ps) (sym tree)
+        (subst (λ q. IsPlaced b.entry b.variables (restored b.exp) q) (sym made)
+        (is_placed code_of (restored b.exp) refl b.scoped b.numbered b.ended))
+
+  pub live_sets : (l : Expression) → l ≡ restored_listed b.exp → ∥ HasLiveSets l ∥₁
+  live_sets l same = subst (λ z. ∥ HasLiveSets z ∥₁) (sym same) b.live

@@ -1,0 +1,7 @@
+use Rattle.std.proofs.Common.{sym, ◌∙◌}
+use Rattle.sch_regs.proofs.ChoiceSteps.{into_register}
+use Rattle.sch_regs.proofs.choice.hold.Goals as goal
+
+pub returns-then-is_register : goal.returns-then-is_register
+returns-then-is_register g c t h =
+    into_register t c.args.register c.args.y c.args.p c.args.held.now c.insert.new.self (sym c.is_register.ensures ∙ c.if-is_register.true) c.insert.ensures h

@@ -1,0 +1,20 @@
+-- What is asked of a body with restores, and what is promised of its places.
+use Rattle.std.specs.Prelude.{◌≡◌, ℕ, List, false}
+use Rattle.sch_word.specs.declared.place.Place.{Place}
+use Rattle.sch_control.specs.Meaning.{World, Environment, Callee, do_body}
+use Rattle.sch_control.specs.Tree.{Expression}
+use Rattle.sch_control.specs.flow.Live.{nothing_later}
+use Rattle.sch_control.specs.flow.Middle.{restoring, silent}
+use Rattle.sch_control.specs.flow.Places.{in_slot, place_of}
+use Rattle.sch_paths.specs.Conditions.{Restored}
+
+-- at each call to which some path comes, what is live after it and wanted before the next call is restored
+abbrev pub RestoresEnough : Expression → Type 0
+RestoresEnough e = Restored (λ x. false) e (Unit {0}) nothing_later nothing_later
+
+-- Where a call leaves a value in what it restores and in what has a slot, the second body does what the first does where a
+-- call leaves a value in what it restores alone; with any callees.
+abbrev pub KeepsRuns : Expression → Expression → List Place → Type 0
+KeepsRuns e e' places =
+    (callee : Callee) (depth : ℕ) (environment : Environment) (w : World)
+    → do_body restoring callee depth e environment w ≡ do_body (silent (λ x. in_slot (place_of places x))) callee depth e' environment w

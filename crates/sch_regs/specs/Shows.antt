@@ -1,0 +1,46 @@
+-- What the walk over a body keeps, as the table that it stands for.
+use Rattle.std.specs.Prelude.{◌≡◌, ◌<◌, ◌^◌, ℕ, Bool, false, ◌||◌, ◌&&◌, nat_eq, not, cond, filter, List, [], ◌∷◌}
+use Rattle.std.specs.FinSet as set
+use Rattle.sch_sets.specs.Members.{NumberSet}
+use Rattle.sch_regs.specs.PlaceChoice.{Table, in_register, slots, in_order, choose_each, live_first}
+use Rattle.sch_regs.specs.declared.placing.Placing.{Placing}
+
+-- a variable is in that register, by some entry of the table
+abbrev pub holds : Table → (register : ℕ) → ℕ → Bool
+holds [] r x = false
+holds (w ∷ t) r x = (nat_eq x w.0 && in_register r w.1) || holds t r x
+
+-- a set has the variables that are in a register
+abbrev pub IsHeld : Table → (register : ℕ) → NumberSet → Type 0
+IsHeld t r s = (x : ℕ) → set.contains s x ≡ holds t r x
+
+-- all of it
+pub record ShowsAll {N : ℕ} (count : ℕ) (p : Placing N) (t : Table) : Type 0 where
+  pub rbx : IsHeld t 3 p.rbx
+  pub r8 : IsHeld t 8 p.r8
+  pub r9 : IsHeld t 9 p.r9
+  pub r10 : IsHeld t 10 p.r10
+  pub rsi : IsHeld t 6 p.rsi
+  pub rdi : IsHeld t 7 p.rdi
+  pub slots : p.slots ≡ slots t
+  pub places : p.places.items ≡ in_order count t
+
+-- where the table's slots have numbers of 32 bits
+pub record Shows {N : ℕ} (count : ℕ) (p : Placing N) (t : Table) : Type 0 where
+  pub shown : slots t < 2 ^ 32 → ShowsAll count p t
+
+-- whatever table is shown before, what becomes of it is shown after
+abbrev pub Becomes : {N : ℕ} → (before after : Placing N) → (Table → Table) → Type 0
+Becomes before after change = (count : ℕ) (t : Table) → Shows count before t → Shows count after (change t)
+
+-- whether a variable is among those that are wanted: those that are live, or the others
+abbrev pub is_wanted : (live : ℕ → Bool) → (wanted : Bool) → ℕ → Bool
+is_wanted live wanted y = cond wanted (live y) (not (live y))
+
+-- those of some variables that are wanted are placed
+abbrev pub choose_wanted : (live : ℕ → Bool) → (wanted : Bool) → List ℕ → Table → Table
+choose_wanted live wanted ys t = choose_each live (filter (is_wanted live wanted) ys) t
+
+-- all of a group are, the live ones first
+abbrev pub choose_all : (live : ℕ → Bool) → List ℕ → Table → Table
+choose_all live ys t = choose_each live (live_first live ys) t

@@ -1,0 +1,106 @@
+//! The choice of a place: the first register that holds nothing live, or else the next slot.
+
+ghost use Rattle.std.specs.Prelude.{◌≡◌, ◌*◌, ◌+◌, ◌<◌, ◌^◌, ℕ, ◌∷◌, cond, slice_set};
+ghost use Rattle.std.specs.FinSet as set;
+ghost use Rattle.sch_word.specs.declared.place.Place.TheVariants.{Reg};
+ghost use Rattle.sch_word.specs.values.Registers.{argument_registers};
+ghost use Rattle.sch_control.specs.flow.Places.{in_slot};
+ghost use Rattle.sch_regs.specs.PlaceChoice as table;
+ghost use Rattle.sch_regs.specs.Shows.{Becomes, IsHeld, ShowsAll};
+
+use crate::placing::Placing;
+use sch_sets::Set;
+use sch_word::Place;
+
+fn is_register(register: u8, p: Place) -> bool
+    ensures { result ≡ table.in_register register p }
+{
+    match p {
+        Place::Reg(r) => r == register,
+        Place::Slot(_) => false,
+    }
+}
+
+// A register, unless a variable that is live is in it.
+fn unless_held<const N: usize>(
+    held: &Set<N>,
+    live: &Set<N>,
+    register: u8,
+    otherwise: Place,
+) -> Place
+    ensures { (t : table.Table) → IsHeld t register held.now
+        → result ≡ cond (table.held (set.contains live.now) t register) otherwise (Reg register) }
+{
+    if held.meet(live).is_empty() {
+        Place::Reg(register)
+    } else {
+        otherwise
+    }
+}
+
+// The first register that holds nothing live, or else the next slot.
+fn first_free<const N: usize>(placing: &Placing<N>, live: &Set<N>) -> Place
+    ensures { (count : ℕ) (t : table.Table) → ShowsAll count placing.now t
+        → result ≡ table.first_free (set.contains live.now) t argument_registers }
+{
+    let slot = Place::Slot(placing.slots);
+    let rdi = unless_held(&placing.rdi, live, 7, slot);
+    let rsi = unless_held(&placing.rsi, live, 6, rdi);
+    let r10 = unless_held(&placing.r10, live, 10, rsi);
+    let r9 = unless_held(&placing.r9, live, 9, r10);
+    let r8 = unless_held(&placing.r8, live, 8, r9);
+    unless_held(&placing.rbx, live, 3, r8)
+}
+
+// Adds a variable to those in a register, where that is its place.
+fn hold<const N: usize>(held: &mut Set<N>, register: u8, y: u32, p: Place)
+    requires { y < 64 * N }
+    ensures { (t : table.Table) → IsHeld t register held.old → IsHeld ((y, p) ∷ t) register held.new }
+{
+    if is_register(register, p) {
+        held.insert(y);
+    }
+}
+
+/// Gives a variable a place.
+pub(crate) fn give<const N: usize>(placing: &mut Placing<N>, y: u32, p: Place)
+    requires { y < 64 * N }
+    ensures { Becomes placing.old placing.new (λ t. (y, p) ∷ t) }
+{
+    hold(&mut placing.rbx, 3, y, p);
+    hold(&mut placing.r8, 8, y, p);
+    hold(&mut placing.r9, 9, y, p);
+    hold(&mut placing.r10, 10, y, p);
+    hold(&mut placing.rsi, 6, y, p);
+    hold(&mut placing.rdi, 7, y, p);
+    set_place(&mut placing.places, y, p);
+    placing.slots = count_slot(placing.slots, p);
+}
+
+// Lists the place of a variable.
+fn set_place(places: &mut Vec<Place>, y: u32, p: Place)
+    ensures { places.new.items ≡ slice_set places.old.items y p }
+{
+    if (y as usize) < places.len() {
+        places[y as usize] = p;
+    }
+}
+
+// One slot more, where a place is one.
+fn count_slot(slots: u32, p: Place) -> u32
+    ensures { cond (in_slot p) (slots + 1) slots < 2 ^ 32 → result ≡ cond (in_slot p) (slots + 1) slots }
+{
+    match p {
+        Place::Reg(_) => slots,
+        Place::Slot(_) => slots.saturating_add(1),
+    }
+}
+
+/// Gives a variable the first register that holds nothing live, or else the next slot.
+pub(crate) fn choose<const N: usize>(placing: &mut Placing<N>, live: &Set<N>, y: u32)
+    requires { y < 64 * N }
+    ensures { Becomes placing.old placing.new (table.choose (set.contains live.now) y) }
+{
+    let p = first_free(placing, live);
+    give(placing, y, p);
+}

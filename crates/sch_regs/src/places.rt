@@ -1,0 +1,65 @@
+//! The places of the variables of a body.
+
+ghost use Rattle.std.specs.Prelude.{◌≡◌, ◌+◌, ◌<◌, ◌^◌, ℕ, IfOk};
+ghost use Rattle.sch_control.specs.flow.Places.{arrival, formals_of, place_of};
+ghost use Rattle.sch_control.specs.flow.RestoredView.{restored, restored_listed};
+ghost use Rattle.sch_regs.specs.PlaceChoice.{places};
+ghost use Rattle.sch_regs.specs.Promises.{KeepsRuns, RestoresEnough};
+ghost use Rattle.sch_regs.specs.Spills.{SlotsWhenFull};
+
+use crate::assigning::assign;
+use crate::copying::copy;
+use crate::noting::note;
+use crate::placing::Placing;
+use crate::starting::{all_arrived, formals, none_noted};
+use sch_control::{PlacedBody, RestoredBody};
+use sch_sets::Set;
+use sch_word::{List, Mem, Place};
+use std::alloc::Global;
+
+// The places of a body's variables, in the order of their numbers.
+fn places_of<const N: usize>(alloc: Global, b: &RestoredBody<N>) -> Result<List<Place>, Mem>
+    requires { N < 2 ^ 32 }
+    ensures { IfOk result (λ ps. ps ≡ places b.now.entry b.now.variables (restored b.now.exp)) }
+{
+    let mut noted = none_noted(alloc, b.variables)?;
+    let none = Set::new();
+    let mut before = Set::new();
+    note(&b.exp, &none, &none, &mut before, &mut noted);
+    let mut placing = all_arrived(alloc, b.variables, formals(b.entry))?;
+    assign(&mut placing, noted.as_slice(), &b.exp);
+    let Placing { places, .. } = placing;
+    Ok(List::from_vec(places))
+}
+
+/// The body with a place for each of its variables: the return address and the closure stay where they arrive, and so do the
+/// formals; any other variable has the first of six registers that holds nothing that is live directly after it is bound, and
+/// where all of them do, a slot of its own. Each call has to restore what is live after it and wanted before the next one.
+/// That a set is smaller than memory is asked for.
+pub fn assign_places<const N: usize>(
+    alloc: Global,
+    b: &RestoredBody<N>,
+) -> Result<PlacedBody<N>, Mem>
+    requires words { N < 2 ^ 32 }
+    requires enough { RestoresEnough (restored b.now.exp) }
+    ensures name { IfOk result (λ r. r.name ≡ b.now.name) }
+    ensures entry { IfOk result (λ r. r.entry ≡ b.now.entry) }
+    ensures variables { IfOk result (λ r. r.variables ≡ b.now.variables) }
+    ensures same { IfOk result (λ r. restored_listed r.exp ≡ restored_listed b.now.exp) }
+    ensures tree { IfOk result (λ r. restored r.exp ≡ restored b.now.exp) }
+    ensures made { IfOk result (λ r. r.places ≡ places b.now.entry b.now.variables (restored b.now.exp)) }
+    ensures slots { IfOk result (λ r. SlotsWhenFull (place_of r.places) (restored r.exp)) }
+    ensures formals { IfOk result (λ r. (k : ℕ) → k < formals_of r.entry → place_of r.places (2 + k) ≡ arrival k) }
+    ensures meaning { IfOk result (λ r. KeepsRuns (restored b.now.exp) (restored r.exp) r.places) }
+{
+    let name = List::from_slice(alloc, b.name.as_slice())?;
+    let exp = copy(alloc, &b.exp)?;
+    let places = places_of(alloc, b)?;
+    Ok(PlacedBody {
+        name,
+        entry: b.entry,
+        variables: b.variables,
+        exp: Box::into_inner(exp),
+        places,
+    })
+}

@@ -1,0 +1,98 @@
+//! What the walks over a body begin with.
+
+ghost use Rattle.std.specs.Prelude.{◌≡◌, ◌*◌, ◌+◌, ◌≤◌, IfOk, [], replicate};
+ghost use Rattle.std.specs.FinSet as set;
+ghost use Rattle.sch_word.specs.declared.place.Place.TheVariants.{Reg};
+ghost use Rattle.sch_control.specs.flow.Places as entry_places;
+ghost use Rattle.sch_regs.specs.PlaceChoice.{arrived};
+ghost use Rattle.sch_regs.specs.Shows.{Shows};
+
+use crate::choice::give;
+use crate::placing::Placing;
+use sch_control::Entry;
+use sch_sets::Set;
+use sch_word::{Mem, Place};
+use std::alloc::Global;
+
+// A list in which each number counts as being in RBX.
+fn unplaced(alloc: Global, variables: u32) -> Result<Vec<Place>, Mem>
+    ensures { IfOk result (λ ps. ps.items ≡ replicate variables (Reg 3)) }
+{
+    let mut places = Vec::with_capacity(alloc, variables as usize)?;
+    for done in 0..variables {
+        places.push(Place::Reg(3))?;
+    }
+    Ok(places)
+}
+
+/// An empty set for each variable.
+pub(crate) fn none_noted<const N: usize>(alloc: Global, variables: u32) -> Result<Vec<Set<N>>, Mem>
+    ensures { IfOk result (λ sets. sets.items ≡ replicate variables set.empty) }
+{
+    let mut sets = Vec::with_capacity(alloc, variables as usize)?;
+    for done in 0..variables {
+        sets.push(Set::new())?;
+    }
+    Ok(sets)
+}
+
+// No variable has a place.
+fn none_placed<const N: usize>(alloc: Global, variables: u32) -> Result<Placing<N>, Mem>
+    ensures { IfOk result (λ p. Shows variables p []) }
+{
+    let places = unplaced(alloc, variables)?;
+    Ok(Placing {
+        places,
+        slots: 0,
+        rbx: Set::new(),
+        r8: Set::new(),
+        r9: Set::new(),
+        r10: Set::new(),
+        rsi: Set::new(),
+        rdi: Set::new(),
+    })
+}
+
+// Where the operand with `k` before it arrives.
+fn arrival(k: u32) -> Place
+    ensures { result ≡ entry_places.arrival k }
+{
+    match k {
+        0 => Place::Reg(3),
+        1 => Place::Reg(8),
+        2 => Place::Reg(9),
+        3 => Place::Reg(10),
+        4 => Place::Reg(6),
+        5 => Place::Reg(7),
+        _ => Place::Slot(k - 6),
+    }
+}
+
+/// How many operands a body is entered with.
+pub(crate) fn formals(entry: Option<Entry>) -> u32
+    ensures { result ≡ entry_places.formals_of entry }
+{
+    match entry {
+        Some(e) => e.formals,
+        None => 0,
+    }
+}
+
+/// The return address, the closure and the formals where they arrive.
+pub(crate) fn all_arrived<const N: usize>(
+    alloc: Global,
+    variables: u32,
+    formals: u32,
+) -> Result<Placing<N>, Mem>
+    requires within { 2 + formals ≤ variables }
+    requires fits { variables ≤ 64 * N }
+    ensures { IfOk result (λ p. Shows variables p (arrived formals)) }
+{
+    let mut placing = none_placed(alloc, variables)?;
+    give(&mut placing, 0, Place::Reg(15));
+    give(&mut placing, 1, Place::Reg(14));
+    for k in 0..formals {
+        give(&mut placing, 2 + k, arrival(k));
+    }
+    Ok(placing)
+}
