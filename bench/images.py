@@ -68,6 +68,35 @@ def calls(count):
     ]
 
 
+def variables(count):
+    """As many variables that live at once: over calls, a tail call and a rest list, in a loop that hands them round, in a group."""
+    names = [f"v{k}" for k in range(count)]
+    total = count * (count - 1) // 2
+    added = f"(+ {' (+ '.join(names[:-1])} {names[-1]}{')' * (count - 1)}"
+    called = " ".join(f"({name} (same {k}))" for k, name in enumerate(names))
+    define = "(define (same x) x)(define (sum l) (if (null? l) 0 (+ (car l) (sum (cdr l)))))(define (all . l) (sum l))"
+    # A form binds at most 200 variables, so that more take one inside another.
+    calls_of = [f"({name} (same {k}))" for k, name in enumerate(names)]
+    groups = [" ".join(calls_of[k : k + 198]) for k in range(0, count, 198)]
+    bound = f"{''.join(f'(let ({group}) ' for group in groups)}{added}{')' * len(groups)}"
+    texts = [(f"{define}(define (f) {bound})(display (f))", str(total), 0, [])]
+    if count <= 200:
+        handed = " ".join(names)
+        turned = " ".join(names[1:] + names[:1])
+        formals = " ".join(["n", *names[1:]])
+        operands = " ".join(["n", *names[1:][1:], *names[1:][:1]])
+        start = " ".join(["3", *(str(k) for k in range(1, count))])
+        texts += [
+            (f"{define}(define (f) (let ({called}) (all {handed})))(display (f))", str(total), 0, []),
+            (f"{define}(define (f) (let ({called}) (+ (all {handed}) (all {turned}))))(display (f))", str(2 * total), 0, []),
+            (f"(define (f {formals}) (if (= n 0) {names[1]} (f (- n 1) {' '.join(operands.split()[1:])})))(display (f {start}))", str((3 % (count - 1)) + 1), 0, []),
+        ]
+    if count <= 60:
+        members = " ".join(f"({name} (lambda (n) (if (= n 0) {k} ({names[(k + 1) % count]} (- n 1)))))" for k, name in enumerate(names))
+        texts.append((f"(define (f m) (letrec ({members}) (+ m (+ ({names[0]} 3) ({names[-1]} m)))))(display (f {count}))", str(count + 3 % count + count - 1), 0, []))
+    return texts
+
+
 def ends(words, folder):
     done = subprocess.run(words, cwd=folder, stdout=subprocess.PIPE, stderr=subprocess.DEVNULL)
     return done.stdout.decode(), done.returncode
@@ -89,6 +118,7 @@ def agrees(text, printed, status, options, folder):
 
 def main():
     texts = TEXTS + [text for count in (0, 6, 7, 200) for text in calls(count)]
+    texts += [text for count in (2, 5, 6, 7, 8, 60, 199, 300) for text in variables(count)]
     with tempfile.TemporaryDirectory() as folder:
         well = [agrees(*text, folder) for text in texts]
     print(f"{well.count(True)} of {len(well)} texts end as is wanted, by run, by step and on the processor")

@@ -9,14 +9,13 @@ use Rattle.sch_word.specs.values.Literals.{no_literals}
 use Rattle.sch_word.specs.runs.Runs.{ended}
 use Rattle.sch_flat.specs.Covered as from
 use Rattle.sch_flat.specs.Tree as flat
-use Rattle.sch_flat.specs.Tree.{Tree, Trees, constant, global, set_global, branch, sequence, bind, call, operation, make_closure, variable, cell_set, trees}
+use Rattle.sch_flat.specs.Tree.{Tree, constant, global, set_global, sequence, bind, call, operation, make_closure, variable, cell_set, trees}
 use Rattle.sch_control.specs.declared.operation.Atom.TheVariants as atom
 use Rattle.sch_control.specs.declared.operation.Operand.{Operand}
 use Rattle.sch_control.specs.declared.operation.Operand.TheVariants as operand
 use Rattle.sch_control.specs.declared.operation.Operation.TheVariants as does
 use Rattle.sch_control.specs.Covered.{is_covered_program}
 use Rattle.sch_control.specs.Tree as to
-use Rattle.sch_control.specs.Tree.{Expression}
 use Rattle.sch_control.specs.Run as control
 use Rattle.sch_control.specs.Sizes.{expression_size, expressions_size}
 use Rattle.sch_control.specs.Work.{code_work}

@@ -1,7 +1,6 @@
 -- Words of two data that agree before an address or from an address on: what a fill keeps, by words.
 use Rattle.std.proofs.Common.{◌≡◌, ℕ, ◌+◌, ◌-◌, ◌≤◌, List, take, drop, sym, ap, ◌∙◌, arith}
 use Rattle.std.specs.Int.{w64, from_le_bytes}
-use Rattle.std.specs.List.{between}
 use Rattle.std.proofs.lemmas.List.{drop-drop, take-take}
 use Rattle.std.proofs.lemmas.Slice.{between_is}
 use Rattle.sch_asm.specs.Data.{word_in}

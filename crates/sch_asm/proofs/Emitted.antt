@@ -3,7 +3,7 @@ use Rattle.std.proofs.Common.{◌≡◌, ℕ, ◌+◌, ◌<◌, ◌≤◌, List,
 use Rattle.std.proofs.lemmas.Int.{ints}
 use Rattle.std.specs.Int.{w8, w32}
 use Rattle.std.specs.List.{flat_map}
-use Rattle.std.specs.Prelude.{slice_index, ℤ, pos, negsuc, ◌+ℤ◌, ◌-ℤ◌, FitsSigned}
+use Rattle.std.specs.Prelude.{ℤ, pos, negsuc, ◌+ℤ◌, ◌-ℤ◌, FitsSigned}
 use Rattle.sch_insn.specs.declared.insn.Insn.{Insn}
 use Rattle.sch_insn.specs.Spelling.{AllValid, IsCondition, IsValid, spelling}
 use Rattle.sch_insn.specs.Machine.{add64, word}

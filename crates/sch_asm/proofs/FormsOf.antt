@@ -1,6 +1,6 @@
 -- The forms of the jumps of what is put out are those that were chosen.
-use Rattle.std.proofs.Common.{◌≡◌, ℕ, zero, suc, ◌+◌, List, [], ◌∷◌, ◌++◌, length, Bool, true, false, refl, sym, ap, ◌∙◌, arith}
-use Rattle.std.specs.Prelude.{ℤ, slice_index_or}
+use Rattle.std.proofs.Common.{◌≡◌, ℕ, zero, suc, ◌+◌, List, [], ◌∷◌, length, Bool, true, false, refl, ap, ◌∙◌, arith}
+use Rattle.std.specs.Prelude.{ℤ}
 use Rattle.sch_insn.specs.declared.insn.Insn.{Insn}
 use Rattle.sch_insn.specs.declared.insn.Insn.TheVariants as insn
 use Rattle.sch_jumps.specs.Sizes.{Set}
@@ -9,7 +9,7 @@ use Rattle.sch_asm.specs.declared.item.Item.{Item}
 use Rattle.sch_asm.specs.declared.item.Item.TheVariants.{Label, Plain, Jump, JumpIf, LoadLabel, LoadWord, StoreWord, Mark}
 use Rattle.sch_asm.specs.Items.{AreItems, IsPlain}
 use Rattle.sch_asm.specs.Forms.{jump_forms}
-use Rattle.sch_asm.specs.Layout.{branch_of, emitted_from, jump_of, jumps_in, jumps_of, size_of, displacement}
+use Rattle.sch_asm.specs.Layout.{branch_of, emitted_from, jump_of, jumps_in, size_of, displacement}
 use Rattle.sch_insn.specs.Spelling.{spelling}
 
 -- what a set says of the n jumps from number k on

@@ -32,10 +32,10 @@ none (w ∷ waiting) b h = absurd cc
 
 module _ (all : List mark.Mark) where
   -- from an address on, the marks are those that wait there and those that come
-  abbrev Look : List MarkKind → ℕ → List mark.Mark → Type 0
+  abbrev pub Look : List MarkKind → ℕ → List mark.Mark → Type 0
   Look waiting a marks = (b : ℕ) → a ≤ b → marks_at all b ≡ cond (b == a) waiting [] ++ marks_at marks b
 
-  nothing : (t : Bool) (l : List MarkKind) → cond t [] [] ++ l ≡ l
+  pub nothing : (t : Bool) (l : List MarkKind) → cond t [] [] ++ l ≡ l
   nothing true l = refl
   nothing false l = refl
 
@@ -53,15 +53,15 @@ module _ (all : List mark.Mark) where
     none_before (StoreWord l r ∷ is) b c code marks h lt = none_before is (b + 7) c h.1 marks h.4 (omega arith)
 
     -- the marks of an instruction, where those that come stand behind it
-    here : (waiting : List MarkKind) (a n : ℕ) (is : List Item) (code : List Insn) (marks : List mark.Mark) → Look waiting a marks → 0 < n → Codes place_of (a + n) is code marks → marks_at all a ≡ waiting
+    pub here : (waiting : List MarkKind) (a n : ℕ) (is : List Item) (code : List Insn) (marks : List mark.Mark) → Look waiting a marks → 0 < n → Codes place_of (a + n) is code marks → marks_at all a ≡ waiting
     here waiting a n is code marks look long h =
         look a (omega arith) ∙ ap (λ t. cond t waiting [] ++ marks_at marks a) (eq-eqb a a refl) ∙ ap (λ l. waiting ++ l) (none_before is (a + n) a code marks h (omega arith)) ∙ append-nil waiting
 
-  ahead : (waiting : List MarkKind) (a n : ℕ) (marks : List mark.Mark) → Look waiting a marks → 0 < n → Look [] (a + n) marks
+  pub ahead : (waiting : List MarkKind) (a n : ℕ) (marks : List mark.Mark) → Look waiting a marks → 0 < n → Look [] (a + n) marks
   ahead waiting a n marks look long b le =
       look b (omega arith) ∙ ap (λ t. cond t waiting [] ++ marks_at marks b) (ne_eqb b a (λ e. omega arith)) ∙ sym (nothing (b == a + n) (marks_at marks b))
 
-  one_more : (waiting : List MarkKind) (a : ℕ) (m : MarkKind) (marks rest : List mark.Mark) → Look waiting a marks → marks ≡ record { address = a; kind = m } ∷ rest → Look (waiting ++ m ∷ []) a rest
+  pub one_more : (waiting : List MarkKind) (a : ℕ) (m : MarkKind) (marks rest : List mark.Mark) → Look waiting a marks → marks ≡ record { address = a; kind = m } ∷ rest → Look (waiting ++ m ∷ []) a rest
   one_more waiting a m marks rest look e b le = look b le ∙ ap (λ l. cond (b == a) waiting [] ++ marks_at l b) e ∙ by (b == a) refl
     where
       by : (t : Bool) → (b == a) ≡ t → cond t waiting [] ++ cond (a == b) (m ∷ marks_at rest b) (marks_at rest b) ≡ cond t (waiting ++ m ∷ []) [] ++ marks_at rest b

@@ -1,10 +1,9 @@
 -- The tables of a text are those of its items.
-use Rattle.std.proofs.Common.{◌≡◌, ◌≢◌, ℕ, zero, suc, ◌+◌, ◌*◌, ◌<◌, ◌≤◌, List, [], ◌∷◌, ◌++◌, length, Bool, true, false, refl, sym, ap, ◌∙◌, subst, arith, ⊎_elim, ◌==◌, ◌||◌, ◌&&◌}
-use Rattle.std.specs.Prelude.{nat_le, nat_lt, slice_set, slice_index, replicate, IsTrue, All, AllPairs}
+use Rattle.std.proofs.Common.{◌≡◌, ◌≢◌, ℕ, zero, suc, ◌+◌, ◌*◌, ◌<◌, ◌≤◌, List, [], ◌∷◌, ◌++◌, length, Bool, true, false, refl, sym, subst, arith, ⊎_elim, ◌==◌, ◌||◌, ◌&&◌}
+use Rattle.std.specs.Prelude.{nat_le, nat_lt, slice_index, IsTrue, All, AllPairs}
 use Rattle.std.specs.List.{AllByRecursion}
-use Rattle.std.proofs.lemmas.Bool.{eqb-true, eqb-false, cases_Bool, cases_lt, or_parts}
+use Rattle.std.proofs.lemmas.Bool.{eqb-true, eqb-false, cases_lt, or_parts}
 use Rattle.std.proofs.lemmas.Bool.Decides.{nat_tests}
-use Rattle.std.proofs.lemmas.Grind.{common_steps}
 use Rattle.std.proofs.lemmas.List.{map-append}
 use Rattle.std.proofs.lemmas.List.Elements.{recursion_from_All}
 use Rattle.std.proofs.Math.ListN.{get_or-eq_default}
@@ -23,7 +22,7 @@ use Rattle.sch_jumps.specs.declared.piece.Piece.{Piece}
 use Rattle.sch_jumps.specs.declared.piece.Piece.TheVariants as piece
 use Rattle.sch_jumps.specs.Places.{Absent, Once}
 use Rattle.sch_jumps.specs.Spans.{LabelsBelow}
-use Rattle.sch_asm.specs.Layout.{StandsBelow, StandBelow, UseBelow, WordsBelow}
+use Rattle.sch_asm.specs.Layout.{StandBelow, UseBelow, WordsBelow}
 use Rattle.sch_asm.specs.Pieces.{piece_of, skeleton}
 
 -- ---- sizes

@@ -93,6 +93,10 @@ insns_of place long next (LoadWord r a) = insn.MovFrom r (Rip (displacement next
 insns_of place long next (StoreWord a r) = insn.MovTo (Rip (displacement next a)) r ∷ []
 insns_of place long next (Mark m) = []
 
+-- The instruction of an item that stands at an address.
+abbrev pub insns_at : (ℕ → ℕ) → Bool → ℕ → Item → List Insn
+insns_at place long a i = insns_of place long (a + size_of long i) i
+
 abbrev pub marks_of : ℕ → Item → List mark.Mark
 marks_of a (Mark m) = record { address = a; kind = m } ∷ []
 marks_of a _ = []
@@ -108,7 +112,7 @@ Reaches place long a _ = Unit {0}
 module _ (place : ℕ → ℕ) (long : Set) where
   abbrev pub emitted_from : (k a : ℕ) → List Item → List Insn
   emitted_from k a [] = []
-  emitted_from k a (i ∷ is) = insns_of place (long k) (a + size_of (long k) i) i ++ emitted_from (k + jumps_of i) (a + size_of (long k) i) is
+  emitted_from k a (i ∷ is) = insns_at place (long k) a i ++ emitted_from (k + jumps_of i) (a + size_of (long k) i) is
 
   abbrev pub ReachFrom : (k a : ℕ) → List Item → Type 0
   ReachFrom k a [] = Unit {0}

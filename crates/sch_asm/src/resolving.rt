@@ -10,7 +10,7 @@ ghost use Rattle.sch_jumps.specs.Spans.{set_of};
 ghost use Rattle.sch_asm.specs.Items.{AreItems, AreOwn, AreRoutines, IsItem};
 ghost use Rattle.sch_asm.specs.Codes.{AreResolved, IsTooLarge, bytes_of, value_of as word_value};
 ghost use Rattle.sch_asm.specs.Forms.{jump_forms};
-ghost use Rattle.sch_asm.specs.Layout.{IsLaidOut, ReachFrom, Reaches, UseBelow, UsesBelow, WordBelow, WordsBelow, branch_of, displacement, emitted_from, insns_of, jump_of, jumps_in, jumps_of, marked_from, marks_of, option_list, size_from, size_of};
+ghost use Rattle.sch_asm.specs.Layout.{IsLaidOut, ReachFrom, Reaches, UseBelow, UsesBelow, WordBelow, WordsBelow, branch_of, displacement, emitted_from, insns_at, jump_of, jumps_in, jumps_of, marked_from, marks_of, option_list, size_from, size_of};
 ghost use Rattle.sch_asm.specs.Pieces.{shortest_size, skeleton};
 
 use crate::assembly::{Asm, Word};
@@ -147,7 +147,7 @@ fn insn_of(item: &Item, at: u32, long: bool, layout: &Layout) -> Option<Insn>
     requires short { at + size_of long item.now < 2 ^ 30 }
     requires reach { Reaches (slice_index layout.now.places.items) long at item.now }
     requires uses { UsesBelow (length layout.now.places.items) item.now }
-    ensures insns { option_list result ≡ insns_of (slice_index layout.now.places.items) long (at + size_of long item.now) item.now }
+    ensures insns { option_list result ≡ insns_at (slice_index layout.now.places.items) long at item.now }
     ensures valid { IfSome result IsValid }
     ensures size { IfSome result (λ insn. length (spelling insn) ≡ size_of long item.now) }
     ensures none { IfNone result (size_of long item.now ≡ 0) }
@@ -217,7 +217,7 @@ fn emit_one(
     requires few { from.jumps < 2 ^ 63 }
     requires short { from.at + size_of (set_of layout.now.longs.items from.jumps) item.now < 2 ^ 30 }
     requires reach { Reaches (slice_index layout.now.places.items) (set_of layout.now.longs.items from.jumps) from.at item.now }
-    ensures code { OnOk result (code.new ≡ code.old ++ insns_of (slice_index layout.now.places.items) (set_of layout.now.longs.items from.jumps) (from.at + size_of (set_of layout.now.longs.items from.jumps) item.now) item.now) }
+    ensures code { OnOk result (code.new ≡ code.old ++ insns_at (slice_index layout.now.places.items) (set_of layout.now.longs.items from.jumps) from.at item.now) }
     ensures marks { OnOk result (marks.new ≡ marks.old ++ marks_of from.at item.now) }
     ensures end { IfOk result (λ end. end.at ≡ from.at + size_of (set_of layout.now.longs.items from.jumps) item.now) }
     ensures jumps { IfOk result (λ end. end.jumps ≡ from.jumps + jumps_of item.now) }

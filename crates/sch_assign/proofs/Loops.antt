@@ -5,7 +5,7 @@ use Rattle.sch_cells.specs.declared.tree.Exp.{Exp}
 use Rattle.sch_cells.specs.declared.tree.Lambda.{Lambda}
 use Rattle.sch_cells.specs.declared.tree.NewCell.{NewCell}
 use Rattle.sch_cells.specs.Tree as plain
-use Rattle.sch_cells.specs.Tree.{Tree, Trees, Lambdas, cell_set, variable, and_tree, no_trees, and_lambda, no_lambdas, trees, lambdas, count}
+use Rattle.sch_cells.specs.Tree.{Tree, Trees, Lambdas, cell_set, variable, and_tree, no_trees, and_lambda, no_lambdas, trees, lambdas}
 use Rattle.sch_cells.specs.View.{tree, trees_of, lambdas_of, function}
 use Rattle.sch_cells.proofs.Rows.{trees_of_list, lambdas_of_list}
 use Rattle.sch_word.specs.trees.Walk.{onto}

@@ -3,7 +3,7 @@ use Rattle.std.proofs.Common.{◌≡◌, ℕ, zero, suc, ◌+◌, ◌<◌, Bool,
 use Rattle.std.specs.Prelude.{slice_get}
 use Rattle.std.proofs.lemmas.List.{append-nil}
 use Rattle.sch_word.specs.values.Values.{Value, unspecified, is_true, cell}
-use Rattle.sch_word.specs.runs.Computation.{Outcome, gives, stops, spent, State, Computation, on_value, after, in_turn, in_store, read_literal, read_global, write_global, read_cell, write_cell, write_cells, some_each, unset_each, numbers_from, take_entry}
+use Rattle.sch_word.specs.runs.Computation.{Outcome, gives, stops, spent, State, Computation, on_value, after, in_turn, in_store, read_literal, read_global, write_global, read_cell, write_cell, write_cells, some_each, unset_each, take_entry}
 use Rattle.sch_word.specs.runs.Computation as computation
 use Rattle.sch_word.specs.runs.Charges.{charge, charge_each, fit, procedure_bytes}
 use Rattle.sch_word.specs.values.PrimitiveRows.{primitive}
@@ -20,7 +20,7 @@ use Rattle.sch_cells.specs.UnboxedMeaning as from
 use Rattle.sch_cells.specs.UnboxedMeaning.{with_cell}
 use Rattle.sch_cells.specs.Procedures.{Closure, closures, lambda_bytes, lambdas_bytes}
 use Rattle.sch_cells.specs.BoxedMeaning as to
-use Rattle.sch_cells.specs.BoxedMeaning.{with_cells, contents, content}
+use Rattle.sch_cells.specs.BoxedMeaning.{with_cells, contents}
 use Rattle.sch_word.specs.runs.Orders.{Orders, order_at}
 use Rattle.sch_assign.specs.Converted.{cells_for, empty_cells, wrapped, reading, filling, converted, converted_each, converted_lambdas, converted_source, Agree, AllAre, Low, Right, RightEach, RightLambdas}
 use Rattle.sch_assign.proofs.kept.FreeMoved.{AllLow, low_with, count_lambdas_same, lambda_free}

@@ -12,7 +12,7 @@ use Rattle.sch_word.specs.runs.Orders.{Orders, order_at}
 use Rattle.sch_word.specs.values.PrimitiveRows.{primitive}
 use Rattle.sch_word.specs.runs.Runs.{Runs, seen, starting_store, starting_state}
 use Rattle.sch_cells.specs.Tree as tree
-use Rattle.sch_cells.specs.Tree.{Tree, Trees, Lambdas, Source, constant, literal, variable, global, set_variable, set_global, define, branch, sequence, bind, fix, letrec, lambda, call, operation, cell_get, cell_set, no_trees, and_tree, count, count_lambdas}
+use Rattle.sch_cells.specs.Tree.{Tree, Trees, Source, constant, literal, variable, global, set_variable, set_global, define, branch, sequence, bind, fix, letrec, lambda, call, operation, cell_get, cell_set, no_trees, and_tree, count, count_lambdas}
 use Rattle.sch_cells.specs.Variables.{cells_of}
 use Rattle.sch_cells.specs.Procedures.{Closure, closures, lambda_bytes, lambdas_bytes}
 

@@ -1,6 +1,6 @@
 -- A text that is run where no answers of the kernel are held ready: it ends as its program does, or its steps are spent.
-use Rattle.std.proofs.Common.{◌≡◌, ◌≢◌, ◌≤◌, ℕ, List, [], ◌∷◌, ◌++◌, length, Bool, true, false, if◌then◌else◌, drop, Option, Some, None, Result, Ok, Err, refl, sym, ap, ◌∙◌, subst}
-use Rattle.std.specs.Prelude.{⊤, IfErr, IsErrAnd}
+use Rattle.std.proofs.Common.{◌≡◌, ◌≤◌, ℕ, List, [], ◌++◌, length, Bool, true, false, if◌then◌else◌, drop, Option, Some, None, Result, Ok, Err, refl, sym, ap, ◌∙◌, subst}
+use Rattle.std.specs.Prelude.{IfErr, IsErrAnd}
 use Rattle.sch_word.specs.declared.answer.Answer.{Answer}
 use Rattle.sch_word.specs.runs.Runs.{ended}
 use Rattle.sch_io.specs.InMemory.{faults_met, told_bytes, told_left}
@@ -16,12 +16,11 @@ use Rattle.sch_prelude.specs.LibraryText.{library_text}
 use Rattle.sch_driver.specs.Causes.{max_source_size}
 use Rattle.sch_driver.specs.Compiled.{IsCompiled}
 use Rattle.sch_driver.specs.Headline.{IsImageOf}
-use Rattle.sch_driver.specs.declared.error.CompileError.TheVariants as compiling
 use Rattle.sch_listing.specs.declared.listing.Listing.{Listing}
 use Rattle.sch_step.specs.declared.ends.RunEnd.{RunEnd}
 use Rattle.sch_step.specs.declared.ends.RunEnd.TheVariants as run_end
 use Rattle.sch_step.specs.declared.ends.Stuck as stuck_place
-use Rattle.sch_cli.specs.Builds.{HasFile, IsFileOf}
+use Rattle.sch_cli.specs.Builds.{IsFileOf}
 use Rattle.sch_cli.specs.Command.{default_depth, default_heap}
 use Rattle.sch_cli.specs.Executes.{EndsAlone, EndsUnder, Executes, run_end_of, started}
 use Rattle.sch_cli.specs.Figures.{AreFiguresOf, HasNoFigures, RunsAlone, SpendsSteps}

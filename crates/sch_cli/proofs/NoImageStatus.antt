@@ -1,5 +1,5 @@
 -- A text that is compiled and run never has the status of a file that stands for no image, or whose image is stuck.
-use Rattle.std.proofs.Common.{◌≡◌, ◌≢◌, ℕ, List, Result, Ok, Err, refl, sym}
+use Rattle.std.proofs.Common.{◌≢◌, ℕ, List, Result}
 use Rattle.std.specs.Prelude.{⊤}
 use Rattle.sch_read.specs.declared.error.ReadError.{ReadError}
 use Rattle.sch_read.specs.declared.error.ReadError.TheVariants as read

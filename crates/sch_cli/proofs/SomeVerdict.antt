@@ -1,5 +1,5 @@
 -- A text has a verdict.
-use Rattle.std.proofs.Common.{◌≢◌, ◌≤◌, ◌<◌, ◌⊎◌, inl, inr, ℕ, List, [], length, refl, Result, Err}
+use Rattle.std.proofs.Common.{◌≢◌, ◌≤◌, ◌<◌, ◌⊎◌, inl, inr, ℕ, List, length, refl, Result, Err}
 use Rattle.std.specs.Prelude.{⊤}
 use Rattle.std.proofs.lemmas.Bool.{cases_lt}
 use Rattle.sch_lang.specs.Tree.{Source}

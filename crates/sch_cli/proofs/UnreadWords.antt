@@ -1,5 +1,5 @@
 -- A command whose words were not read, for want of memory: nothing was touched, and each verb ends so.
-use Rattle.std.proofs.Common.{◌≡◌, ℕ, ◌+◌, ◌<◌, ◌^◌, ◌≤◌, List, Option, Some, None, Err, refl, arith}
+use Rattle.std.proofs.Common.{◌≡◌, ℕ, Option, Some, None, Err, refl, arith}
 use Rattle.sch_io.specs.Files.{Files}
 use Rattle.sch_io.specs.Told.{Tells}
 use Rattle.sch_cli.specs.Command.{Command, IfCompile, IfGen, IfList, IfRun, IfStep, compile, gen, list, run, step}
@@ -9,7 +9,7 @@ use Rattle.sch_cli.specs.Lists as lists
 use Rattle.sch_cli.specs.Lists.{EndsList}
 use Rattle.sch_cli.specs.Messages.{Says, out_of_memory_line}
 use Rattle.sch_cli.specs.Prints.{EndsGen, not_measured}
-use Rattle.sch_cli.specs.Seen.{DiskChange, DiskState, HadAtMostCalls, SameFiles, StreamChange, TookNothing}
+use Rattle.sch_cli.specs.Seen.{DiskChange, DiskState, HadAtMostCalls, StreamChange, TookNothing}
 use Rattle.sch_cli.specs.Steps as runs
 use Rattle.sch_cli.specs.Steps.{EndsRun, RunsSource, StepsImage}
 use Rattle.sch_cli.specs.declared.failure.Failure.TheVariants.{Memory}

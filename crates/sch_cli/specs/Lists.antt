@@ -1,5 +1,5 @@
 -- How the verb `list` ends, by its cause.
-use Rattle.std.specs.Prelude.{◌≡◌, ◌≢◌, ℕ, List, Result, Ok, Err, ⊤}
+use Rattle.std.specs.Prelude.{◌≡◌, ◌≢◌, ℕ, List, Result, Err, ⊤}
 use Rattle.sch_listing.specs.ListingText.{listing_text}
 use Rattle.sch_cli.specs.Builds.{IsFileOf}
 use Rattle.sch_cli.specs.Failures.{done_line, done_status}

@@ -10,7 +10,7 @@ use Rattle.sch_cells.specs.declared.tree.Lambda.{Lambda}
 use Rattle.sch_cells.specs.Tree.{Tree, Trees, Lambdas}
 use Rattle.sch_cells.specs.Tree as from_tree
 use Rattle.sch_cells.specs.View as from
-use Rattle.sch_cells.specs.View.{tree, function}
+use Rattle.sch_cells.specs.View.{tree}
 use Rattle.sch_cells.proofs.Rows.{trees_of_list, lambdas_of_list}
 use Rattle.sch_flat.specs.declared.tree.Exp as to
 use Rattle.sch_flat.specs.declared.tree.Made as to_made
@@ -20,7 +20,7 @@ use Rattle.sch_flat.specs.Tree.{and_tree, no_trees}
 use Rattle.sch_flat.specs.View as view
 use Rattle.sch_flat.proofs.Rows as rows
 use Rattle.sch_closure.specs.Closed as closing
-use Rattle.sch_closure.specs.Closed.{place_from, place, fields_of, procedures, procedures_each, procedures_lambdas, captured, closed, closed_each, made, made_each, starts}
+use Rattle.sch_closure.specs.Closed.{place_from, fields_of, procedures, procedures_each, procedures_lambdas, captured, closed, closed_each, made, made_each, starts}
 use Rattle.sch_closure.specs.Fresh.{EachStands, LambdasStand}
 use Rattle.sch_closure.specs.Walked.{with_bodies, with_bodies_each, with_bodies_lambdas}
 use Rattle.sch_closure.proofs.Loops.{left, left_lambdas}

@@ -24,7 +24,7 @@ use Rattle.sch_flat.specs.Meaning as to
 use Rattle.sch_flat.specs.Meaning.{Environment, value_in, values_in, and_values}
 use Rattle.sch_flat.specs.Run as runs
 use Rattle.sch_closure.specs.Closed as closing
-use Rattle.sch_closure.specs.Closed.{place_from, place, place_or_none, placed, procedures, procedures_each, procedures_lambdas, fields_of, made, closed, closed_each, made_each, body_of, labels, closed_source}
+use Rattle.sch_closure.specs.Closed.{place_from, place, place_or_none, placed, procedures, procedures_each, procedures_lambdas, fields_of, closed, closed_each, made_each, body_of, labels, closed_source}
 use Rattle.sch_closure.specs.Fresh.{Fresh, FreshEach, FreshLambdas, Stand, StandEach, StandLambdas}
 use Rattle.sch_closure.proofs.Sets.{remove_other, without_scope}
 use Rattle.sch_closure.proofs.Scopes.{Within, free_within, BoxedEach, BoxedLambdas, fresh_each, fresh_lambdas}

@@ -1,16 +1,14 @@
 -- The sets of a body are exact, also where it is said as a fact alone.
-use Rattle.std.proofs.Common.{◌≡◌, ◌≢◌, ℕ, Bool, true, false, Option, Some, None, refl, sym, ◌∙◌, subst, inl, inr, ◌⊎◌}
-use Rattle.std.specs.Prelude.{◌↔◌, nat_eq}
+use Rattle.std.proofs.Common.{◌≡◌, ℕ, Bool, true, false, Option, Some, None, inl, inr, ◌⊎◌}
+use Rattle.std.specs.Prelude.{◌↔◌}
 use Rattle.std.specs.Bool.{MatchBool}
 use Rattle.std.proofs.Math.Logic.{∥∥₁_map, ∥∥₁_elim}
 use Rattle.std.proofs.Math.Bool.{Bool-discrete, Bool-set}
 use Rattle.std.proofs.Math.Decide.{ℕ_discrete}
-use Rattle.std.proofs.lemmas.Bool.{eqb-true}
 use Rattle.sch_word.specs.trees.NumberSets.{has}
-use Rattle.sch_control.specs.AtomsAndSites.{operation_atoms, application_atoms, member_atoms}
 use Rattle.sch_control.specs.Tree.{Expression, perform, bind, sequence, branch, fix, call, tail_call, return, end, save}
 use Rattle.sch_control.specs.Valid.{member_variables}
-use Rattle.sch_control.specs.flow.Live.{Mentions, Perhaps, known, ByResult, Across, MayGive, Live, Later, nothing_later}
+use Rattle.sch_control.specs.flow.Live.{Perhaps, known, ByResult, Across, MayGive, Live, Later, nothing_later}
 use Rattle.sch_control.specs.flow.LiveSets.{LiveSets, HasLiveSets}
 
 -- ## What is decided

@@ -11,7 +11,6 @@ use Rattle.sch_control.specs.declared.operation.Operation.TheVariants as operati
 use Rattle.sch_control.specs.Tree.{Expression, perform, bind, branch, fix, call, tail_call, return, end, save}
 use Rattle.sch_control.specs.Meaning.{no_region}
 use Rattle.sch_control.specs.flow.Live.{known, MayGive, Live, Soon, Perhaps, nothing_later}
-use Rattle.sch_control.specs.flow.LiveOrSaved.{LiveOrSaved, Grouped}
 use Rattle.sch_control.specs.flow.Paths.{Event, Binds, References, Saves, Calls, Tails, Returns, grouping, IsPath, Meets, live, refers, soon, calls, some_call, SavesFollowed, SavesCalled}
 use Rattle.sch_control.proofs.Examples.{truth, held_in, applied}
 
@@ -100,11 +99,7 @@ before_group x = refl
 group_events : grouping (λ x. nat_eq x 5) members ≡ Binds 4 ∷ Binds 5 ∷ References 5 ∷ References 1 ∷ References 3 ∷ Saves 5 ∷ []
 group_events = refl
 
-kept_for_group : (x : ℕ) → Grouped (λ x. nat_eq x 5) members (λ x. x ≡ 0) x
-    ≡ ((has x (5 ∷ []) ≡ true) ⊎ ((has x (5 ∷ 1 ∷ 3 ∷ []) ≡ true) ⊎ (x ≡ 0)))
-kept_for_group x = refl
-
--- ## A region: 3 is saved at its head, 4 as it is bound inside; a layout reads what is saved at the head
+-- ## A region: 3 is saved at its head, 4 as it is bound inside
 
 abbrev region : Expression
 region = save (3 ∷ 4 ∷ []) (bind 4 nothing_done (bind 5 (call (applied 0 (held_in 2) []) (0 ∷ 3 ∷ 4 ∷ [])) (gives 4)))
@@ -112,9 +107,6 @@ region = save (3 ∷ 4 ∷ []) (bind 4 nothing_done (bind 5 (call (applied 0 (he
 before_region : (x : ℕ) → Live x region (nothing_later x)
     ≡ ((false ≡ true) ⊎ Perhaps (λ t. (x ≢ 4) × ((has x (2 ∷ []) ≡ true) ⊎ Perhaps (λ t. (x ≢ 5) × ((has x (4 ∷ []) ≡ true) ⊎ Perhaps (λ t. x ≡ 0))))))
 before_region x = refl
-
-kept_before_region : (x : ℕ) → LiveOrSaved x region (nothing_later x) ≡ ((has x (3 ∷ []) ≡ true) ⊎ Live x region (nothing_later x))
-kept_before_region x = refl
 
 soon_before_region : (x : ℕ) → Soon x region (nothing_later x)
     ≡ ((has x (3 ∷ []) ≡ true) ⊎ ((false ≡ true) ⊎ Perhaps (λ t. (x ≢ 4) × (has x (2 ∷ []) ≡ true))))

@@ -13,3 +13,4 @@ mod PlaceExamples
 pub mod ExactPlaces
 pub mod ExactSets
 pub mod NumberLists
+pub mod ReadSteps

@@ -8,12 +8,12 @@ use Rattle.std.specs.Cmp.{unsigned_tied}
 use Rattle.std.proofs.lemmas.Bool.{eqb-true}
 use Rattle.std.proofs.lemmas.List.{drop_all, get_or_default}
 use Rattle.std.proofs.lemmas.Bool.Decides.{nat_tests}
-use Rattle.sch_sets.specs.Members.{NumberSet}
+use Rattle.sch_sets.specs.Members.{NumberSet, IsMember, HasNone, IsFirst}
 use Rattle.sch_sets.proofs.Membership.{contains-insert}
 use Rattle.sch_word.specs.trees.NumberSets.{has}
 use Rattle.sch_word.specs.trees.Bindings.{numbers}
 use Rattle.sch_word.proofs.Walking.{next_is}
-use Rattle.sch_word.proofs.facts.Booleans.{and_left, and_right, and_of, not_true}
+use Rattle.sch_word.proofs.facts.Booleans.{and_left, and_right, and_of, not_true, never_true}
 use Rattle.sch_word.proofs.facts.NumberSets.{below_numbers}
 use Rattle.sch_control.specs.Valid.{without_repeats}
 
@@ -81,19 +81,59 @@ pub filter_first : (b : Bool) (k : ℕ) (ys : List ℕ) → cond b (k ∷ []) []
 filter_first true k ys = refl
 filter_first false k ys = refl
 
-pub members_turn : (f : ℕ → Bool) (xs xs' whole : List ℕ) (k n : ℕ) → k < n → xs' ≡ xs ++ filter f (k ∷ []) → xs ++ filter f (numbers k (n - k)) ≡ whole
-    → xs' ++ filter f (numbers (k + 1) (n - (k + 1))) ≡ whole
-members_turn f xs xs' whole k n l h e =
-    let m : n - k ≡ suc (n - (k + 1)) = omega (arith, l) in
-    let e' : xs ++ filter f (numbers k (suc (n - (k + 1)))) ≡ whole = subst (λ j. xs ++ filter f (numbers k j) ≡ whole) m e in
-    let rest = filter f (numbers (k + 1) (n - (k + 1))) in
-    rw h (append_assoc xs (filter f (k ∷ [])) rest ∙ ap (λ r. xs ++ r) (filter_first (f k) k rest)
-    ∙ ap (λ j. xs ++ cond (f k) (k ∷ filter f (numbers j (n - (k + 1)))) (filter f (numbers j (n - (k + 1))))) (omega arith) ∙ e')
+one_kept : (f : ℕ → Bool) (k n : ℕ) → f k ≡ true → filter f (numbers k (suc n)) ≡ k ∷ filter f (numbers (suc k) n)
+one_kept f k n on = ap (λ b. cond b (k ∷ filter f (numbers (suc k) n)) (filter f (numbers (suc k) n))) on
 
-pub members_end : (f : ℕ → Bool) (xs whole : List ℕ) (k n : ℕ) → n ≤ k → xs ++ filter f (numbers k (n - k)) ≡ whole → xs ≡ whole
-members_end f xs whole k n l e =
-    let m : n - k ≡ 0 = omega (arith, l) in
-    sym (append-nil xs) ∙ subst (λ j. xs ++ filter f (numbers k j) ≡ whole) m e
+one_left : (f : ℕ → Bool) (k n : ℕ) → f k ≡ false → filter f (numbers k (suc n)) ≡ filter f (numbers (suc k) n)
+one_left f k n off = ap (λ b. cond b (k ∷ filter f (numbers (suc k) n)) (filter f (numbers (suc k) n))) off
+
+-- where none of n numbers passes, none is kept
+none_kept : (f : ℕ → Bool) (k n : ℕ) → ((x : ℕ) → k ≤ x → x < k + n → f x ≡ false) → filter f (numbers k n) ≡ []
+none_kept f k zero none = refl
+none_kept f k (suc n) none =
+    one_left f k n (none k (omega arith) (omega arith)) ∙ none_kept f (suc k) n (λ x l h. none x (omega (arith, l)) (omega (arith, h)))
+
+-- the first one that passes is the first of those that are kept
+first_kept : (f : ℕ → Bool) (k d n : ℕ) → ((x : ℕ) → k ≤ x → x < k + d → f x ≡ false) → f (k + d) ≡ true
+    → filter f (numbers k (d + suc n)) ≡ (k + d) ∷ filter f (numbers (k + d + 1) n)
+first_kept f k zero n none on =
+    let size : 0 + suc n ≡ suc n = omega arith in
+    let at : k ≡ k + 0 = omega arith in
+    let after : suc k ≡ k + 0 + 1 = omega arith in
+    ap (λ j. filter f (numbers k j)) size
+    ∙ (one_kept f k n (ap f at ∙ on) ∙ (ap (λ z. z ∷ filter f (numbers (suc k) n)) at ∙ ap (λ z. (k + 0) ∷ filter f (numbers z n)) after))
+first_kept f k (suc d) n none on =
+    let size : suc d + suc n ≡ suc (d + suc n) = omega arith in
+    let at : suc k + d ≡ k + suc d = omega arith in
+    ap (λ j. filter f (numbers k j)) size
+    ∙ (one_left f k (d + suc n) (none k (omega arith) (omega arith))
+    ∙ (first_kept f (suc k) d n (λ x l h. none x (omega (arith, l)) (omega (arith, h))) (ap f at ∙ on) ∙ ap (λ z. z ∷ filter f (numbers (z + 1) n)) at))
+
+not_member : (s : NumberSet) (x : ℕ) → (IsMember x s → ⊥) → set.contains s x ≡ false
+not_member s x none = never_true (set.contains s x) none
+
+-- a turn: the first member from k on comes to those that are listed
+pub members_turn : (s : NumberSet) (xs xs' whole : List ℕ) (k x n : ℕ) → IsFirst k n s x → xs' ≡ xs ++ (x ∷ [])
+    → xs ++ filter (set.contains s) (numbers k (n - k)) ≡ whole → xs' ++ filter (set.contains s) (numbers (x + 1) (n - (x + 1))) ≡ whole
+members_turn s xs xs' whole k x n first pushed e =
+    let f : ℕ → Bool = set.contains s in
+    let least : k ≤ x = first.0 in
+    let high : x < n = first.1.0 in
+    let at : k + (x - k) ≡ x = omega (arith, least) in
+    let size : n - k ≡ (x - k) + suc (n - (x + 1)) = omega (arith, least, high) in
+    let none : (y : ℕ) → k ≤ y → y < k + (x - k) → f y ≡ false = λ y l h. not_member s y (first.1.1.1 y l (omega (arith, h, at))) in
+    let kept : filter f (numbers k ((x - k) + suc (n - (x + 1)))) ≡ x ∷ filter f (numbers (x + 1) (n - (x + 1)))
+    = subst (λ z. filter f (numbers k ((x - k) + suc (n - (x + 1)))) ≡ z ∷ filter f (numbers (z + 1) (n - (x + 1)))) at
+    (first_kept f k (x - k) (n - (x + 1)) none (subst (λ z. f z ≡ true) (sym at) first.1.1.0)) in
+    ap (λ l. l ++ filter f (numbers (x + 1) (n - (x + 1)))) pushed
+    ∙ (append_assoc xs (x ∷ []) (filter f (numbers (x + 1) (n - (x + 1))))
+    ∙ (ap (λ l. xs ++ l) (sym (ap (λ j. filter f (numbers k j)) size ∙ kept)) ∙ e))
+
+pub members_end : (s : NumberSet) (xs whole : List ℕ) (k n : ℕ) → HasNone k n s → xs ++ filter (set.contains s) (numbers k (n - k)) ≡ whole → xs ≡ whole
+members_end s xs whole k n none e =
+    let f : ℕ → Bool = set.contains s in
+    let gone : filter f (numbers k (n - k)) ≡ [] = none_kept f k (n - k) (λ x l h. not_member s x (none x l (omega (arith, l, h)))) in
+    sym (ap (λ l. xs ++ l) gone ∙ append-nil xs) ∙ e
 
 -- ## Loops over a list
 
@@ -117,7 +157,7 @@ below_turn p xs i l h =
     let h' : (p x && list_all p (drop (suc i) xs)) ≡ true = subst (λ r. list_all p r ≡ true) (next_number xs i l) h in
     (and_left (p x) _ h', rw add-one (and_right (p x) _ h'))
 
-or_swap : (a b c : Bool) → (b || (a || c)) ≡ ((a || b) || c)
+pub or_swap : (a b c : Bool) → (b || (a || c)) ≡ ((a || b) || c)
 or_swap true true c = refl
 or_swap true false c = refl
 or_swap false b c = refl

@@ -1,10 +1,11 @@
 pub mod Apart
 pub mod Bare
 pub mod Live
-pub mod LiveOrSaved
 pub mod LiveSets
+pub mod LiveTests
 pub mod Middle
 pub mod Paths
 pub mod Places
+pub mod Reads
 pub mod Regions
 pub mod RestoredView

@@ -4,12 +4,15 @@
 
 mod body;
 mod copies;
+mod known_values;
 mod live_body;
+mod nodes;
 mod operation;
 mod order_table;
 mod placed_body;
 mod program;
 mod program_orders;
+mod reads;
 mod restored_body;
 mod restoring;
 mod saved_body;
@@ -18,11 +21,17 @@ mod tree;
 
 pub use body::{Body, Entry};
 pub use copies::{copy_application, copy_members, copy_operation};
+pub use known_values::known;
 pub use live_body::LiveBody;
+pub use nodes::{
+    boxed_bind, boxed_call, boxed_do, boxed_end, boxed_fix, boxed_if, boxed_return, boxed_save,
+    boxed_seq, boxed_tail_call,
+};
 pub use operation::{Application, Atom, Closure, Member, Operand, Operation, Source};
 pub use placed_body::PlacedBody;
 pub use program::ControlProgram;
 pub use program_orders::{a_table_that_fits_is_an_order_table, given_orders};
+pub use reads::{read_application, read_members, read_operation, remove_members};
 pub use restored_body::RestoredBody;
 pub use restoring::Restoring;
 pub use saved_body::SavedBody;

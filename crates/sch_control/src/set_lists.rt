@@ -1,6 +1,6 @@
 //! Sets of variables, and lists of them.
 
-ghost use Rattle.std.specs.Prelude.{◌≡◌, ◌≤◌, ◌<◌, ◌*◌, ℕ, true, nat_lt, ◌||◌, [], ◌∷◌, ◌++◌, filter, IfOk, OnOk};
+ghost use Rattle.std.specs.Prelude.{◌≡◌, ◌≤◌, ◌*◌, ℕ, true, nat_lt, ◌||◌, filter, IfOk};
 ghost use Rattle.std.specs.FinSet as set;
 ghost use Rattle.std.specs.List.{list_all};
 ghost use Rattle.sch_word.specs.trees.Bindings.{numbers};
@@ -10,25 +10,16 @@ use sch_sets::Set;
 use sch_word::{List, Mem};
 use std::alloc::Global;
 
-// Adds a variable that is in a set.
-fn push_member<const N: usize>(s: &Set<N>, x: u32, xs: &mut List<u32>) -> Result<(), Mem>
-    requires { x < 64 * N }
-    ensures { OnOk result (xs.new ≡ xs.old ++ filter (set.contains s.now) (x ∷ [])) }
-{
-    if s.contains(x) {
-        xs.push(x)?;
-    }
-    Ok(())
-}
-
 /// Those of the first `count` variables that are in a set, in their order.
 pub fn members_of<const N: usize>(alloc: Global, count: u32, s: &Set<N>) -> Result<List<u32>, Mem>
     requires { count ≤ 64 * N }
     ensures { IfOk result (λ xs. xs ≡ filter (set.contains s.now) (numbers 0 count)) }
 {
     let mut xs = List::new(alloc);
-    for x in 0..count {
-        push_member(s, x, &mut xs)?;
+    let mut from = 0;
+    'members: while let Some(x) = s.next(from, count) {
+        xs.push(x)?;
+        from = x + 1;
     }
     Ok(xs)
 }

@@ -4,3 +4,5 @@ pub mod TallySteps
 pub mod RunMarks
 pub mod AddressMarks
 pub mod MachineMarks
+mod TextRows
+pub mod TextSteps

@@ -7,8 +7,10 @@ mod error;
 mod mark_table;
 mod row;
 mod tally;
+mod text;
 
 pub use counting::count;
 pub use counts::Counts;
 pub use error::CountError;
 pub use row::Row;
+pub use text::print_counts;

@@ -1,5 +1,5 @@
 -- The image of a program whose items follow the runs of its frames.
-use Rattle.std.proofs.Common.{◌≡◌, ◌≤◌, ℕ, suc, ◌+◌, ◌*◌, List, [], ◌∷◌, ◌++◌, length, map, refl, Option, Some, sym, ap, ◌∙◌, subst, arith}
+use Rattle.std.proofs.Common.{◌≡◌, ◌≤◌, ℕ, suc, ◌+◌, ◌*◌, List, [], ◌∷◌, ◌++◌, length, map, refl, Option, Some, None, sym, ap, ◌∙◌, subst, arith}
 use Rattle.std.specs.Prelude.{IfErr, IsErrAnd, IsTrue, Result, Ok, Err, replicate}
 use Rattle.std.specs.List.{flat_map}
 use Rattle.std.proofs.lemmas.Bool.{and_parts, leb-true}
@@ -42,10 +42,9 @@ use Rattle.sch_frames.specs.Tree as frames
 use Rattle.sch_runtime.specs.Code.{routine_items}
 use Rattle.sch_select_data.specs.Data.{heap_of}
 use Rattle.sch_select.specs.Ends.{EndsWithin}
-use Rattle.sch_layout.specs.OwnSlots.{slots_code}
 use Rattle.sch_frames.specs.Run.{entries_of}
 use Rattle.sch_frames.specs.Sizes.{program_copies, program_work}
-use Rattle.sch_layout.specs.LayoutSizes.{most_words}
+use Rattle.sch_registers.specs.Registers.{registers_code, registers_words}
 use Rattle.sch_select.specs.Follows.{AreRuns, EndsFrames, EntersFrames, FollowsFrames, PassesFrames, TakesFrames}
 use Rattle.sch_select.specs.Marks.{CountsEntries, PassesMarks, TakesWays, marks_passed}
 use Rattle.sch_select.specs.Program.{frames_bytes, max_stack, program_code, program_zeros}
@@ -60,8 +59,12 @@ use Rattle.sch_driver.specs.FitsProgram.{FitsProgram}
 use Rattle.sch_driver.specs.Framed.{IsMarked, framed, framed_size}
 use Rattle.sch_driver.specs.Assembled.{IsAssembled, IsFrameSize, IsUnfit, assembled_bound, of_assembly, steps_of}
 use Rattle.sch_select.proofs.items.SameSize.{same_pieces}
+use Rattle.sch_select.specs.MarkedStores.{stores_marked}
+use Rattle.sch_registers.specs.OwnMarks.{EachSaveCalled}
+use Rattle.sch_driver.proofs.LazyWays.{lazy_ways}
 use Rattle.sch_driver.proofs.Resolved.{resolved_many}
 use Rattle.sch_driver.proofs.Steps.{ends_later, steps_fit}
+use Rattle.sch_driver.proofs.StoresMarked.{both_marked, stores_resolved}
 
 -- the memory of an image is its text and its data
 memory_is : (text words : List ℕ) (zeros : ℕ) (image : Image) → IsProgramImage text words zeros image → memory image.segments ≡ text_at text ∷ data_at (words ++ replicate zeros 0) ∷ []
@@ -95,12 +98,12 @@ pub few_words : (q : FrameProgram) → q.words ≤ max_words
 few_words q = leb-true q.words max_words (and_parts _ _ q.within).0
 
 -- the frame program of a program, by its parts
-pub framed_parts : (p : control.Source) (f : frames.Source) → f.statics ≡ p.statics → f.library ≡ p.library → f.bodies ≡ map slots_code p.bodies → f.words ≡ most_words p.bodies → f ≡ framed p
+pub framed_parts : (p : control.Source) (f : frames.Source) → f.statics ≡ p.statics → f.library ≡ p.library → f.bodies ≡ map registers_code p.bodies → f.words ≡ registers_words p.bodies → f ≡ framed p
 framed_parts p f statics library bodies words =
     ap (λ s. framed_of s f.library f.bodies f.words) statics
     ∙ ap (λ l. framed_of p.statics l f.bodies f.words) library
     ∙ ap (λ bs. framed_of p.statics p.library bs f.words) bodies
-    ∙ ap (framed_of p.statics p.library (map slots_code p.bodies)) words
+    ∙ ap (framed_of p.statics p.library (map registers_code p.bodies)) words
   where
     framed_of : Statics → List ℕ → List frames.Code → ℕ → frames.Source
     framed_of s l bs n = record { statics = s; library = l; bodies = bs; words = n }
@@ -123,6 +126,8 @@ pub record AreSelected (f : frames.Source) (heap depth : ℕ) (a : Asm) : Type 0
   pub enters : EntersFrames f heap depth a.items a.words a.zeros
   pub takes : TakesFrames f heap depth a.items a.words a.zeros
   pub stand : IsTrue (all_marks_stand f.bodies)
+  pub stores : IsTrue (stores_marked None a.items)
+  pub followed : EachSaveCalled f.bodies
   pub units : steps_size f ≤ 3 * instructions_in a.items
   pub zeros : a.zeros ≡ program_zeros f heap depth
   pub items : a.items ≡ program_code f heap depth
@@ -159,6 +164,14 @@ assembled p f heap depth a routines code marks words text zeros image instructio
           (ends_later text_address (text_at (flat_map spelling code) ∷ data_at (words ++ replicate a.zeros 0) ∷ []) runs (steps_bound f) (steps_of instructions)
           (λ entries answers charged. steps_fit (steps_size f) (instructions_in a.items) instructions entries answers charged selected.units many)
           (selected.ends.ends routines.items code marks words effective a.marked routines.marked resolved valid short runs (run runs are)));
+      stores = stores_resolved (a.items ++ routines.items) resolved.place_of text_address code marks
+          (both_marked None a.items routines.items selected.stores (subst (λ is. IsTrue (stores_marked None is)) (sym items) refl)) resolved.codes;
+      lazily = λ runs are. record {
+        ended = λ g answers m.
+            lazy_ways f.bodies selected.followed _
+            ((in_image (λ entry segments. TakesWays entry segments (marks_at marks) f.bodies) (flat_map spelling code) words a.zeros image lies'
+            (selected.takes.takes routines.items code marks words effective a.marked routines.marked resolved valid short runs (run runs are) selected.stand)).ways g answers m);
+      };
       marked = λ runs are.
           subst (λ g. IsMarked image code marks g heap depth runs) is_framed
           (record {
@@ -183,10 +196,6 @@ assembled p f heap depth a routines code marks words text zeros image instructio
 pub text_within : (f : frames.Source) (a routines : List Item) (work : ℕ) → text_size a ≤ 2048 + (64 * program_work f + 8 * program_copies f) → 64 * program_work f + 8 * program_copies f ≤ 72 * work
     → text_size routines ≤ 1024 → shortest_size (a ++ routines) ≤ 65536 + 72 * work
 text_within f a routines work text fits short = let e = size_append a routines in let m = at_most_sum (a ++ routines) in omega (arith, e, m, text, fits, short)
-
--- with no more to do than units of work, and no more copies than these
-pub units_within : (f : frames.Source) (work : ℕ) → program_work f ≤ work → program_copies f ≤ work → 64 * program_work f + 8 * program_copies f ≤ 72 * work
-units_within f work done few = omega (arith, done, few)
 
 pub unfit : (p : control.Source) (words depth n : ℕ) (error : AsmError) → IsFrameSize p words → frames_bytes words depth ≤ max_stack → n ≡ framed_size p → n ≤ assembled_bound p → IsTooLarge n error
     → IsUnfit p depth (of_assembly error)

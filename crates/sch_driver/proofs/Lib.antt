@@ -7,3 +7,6 @@ pub mod Meanings
 pub mod Resolved
 pub mod Steps
 pub mod Sizes
+pub mod LazyWays
+pub mod StoresMarked
+mod StoreMarkExamples

@@ -1,12 +1,12 @@
 -- A library has no more procedures than its text has bytes.
-use Rattle.std.proofs.Common.{◌≡◌, ℕ, zero, suc, ◌+◌, ◌≤◌, Bool, true, false, List, [], ◌∷◌, ◌++◌, length, ap, ◌∙◌, arith, length-append}
+use Rattle.std.proofs.Common.{◌≡◌, ℕ, suc, ◌+◌, ◌≤◌, Bool, true, false, List, [], ◌∷◌, ◌++◌, length, ap, ◌∙◌, arith, length-append}
 use Rattle.std.specs.Prelude.{◌==◌, ◌||◌, if◌then◌else◌}
 use Rattle.sch_lang.specs.Tree as lang
 use Rattle.sch_lang.specs.Tree.{count_lambdas}
 use Rattle.sch_names.specs.Scope.{is_among}
 use Rattle.sch_link_tables.specs.Named.{firsts, globals_in_each, library_global, symbols_in_each}
 use Rattle.sch_link_tables.specs.Programs.{Definition, globals_of_each, held, kept, named, procedures, program_with, symbols_of_each, with_definition}
-use Rattle.sch_read.specs.Grammar.{Token, Open, Close, Dot, parenthesis, hash_parenthesis, quote_mark, Datum, Data, none, cons, ReadsOne, ReadsMany, plain, listed, with_dot, elements, quotes, end, more}
+use Rattle.sch_read.specs.Grammar.{Token, Open, Close, Dot, parenthesis, quote_mark, Datum, Data, none, cons, ReadsOne, ReadsMany, plain, listed, with_dot, elements, quotes, end, more}
 use Rattle.sch_read.specs.Lexer.Cut.{Cuts, nothing, lexeme}
 use Rattle.sch_read.specs.Lexer.Letters.{is_white}
 use Rattle.sch_read.specs.Lexer.Token.{string_at, token_at, word_at}
@@ -14,7 +14,6 @@ use Rattle.sch_read.specs.Text.{max_nesting, Spells}
 use Rattle.sch_sketch.specs.Draft.{Drafts}
 use Rattle.sch_toplevel.specs.Forms.{own_names}
 use Rattle.sch_toplevel.specs.Items.{ItemsExpand, item_places, names_by}
-use Rattle.sch_core.specs.Programs.{IsProgramOf}
 use Rattle.sch_driver.specs.Causes.{Means}
 
 -- ## From bytes to data

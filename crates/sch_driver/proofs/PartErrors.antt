@@ -1,5 +1,5 @@
 -- The errors of the parts are errors of the compilation.
-use Rattle.std.proofs.Common.{◌≡◌, ◌≢◌, ℕ, List, sym, subst}
+use Rattle.std.proofs.Common.{◌≢◌, ℕ, List, sym, subst}
 use Rattle.sch_read.specs.Grammar.{Data}
 use Rattle.sch_read.specs.Text.{Spells}
 use Rattle.sch_read.specs.declared.error.ReadError.{ReadError}

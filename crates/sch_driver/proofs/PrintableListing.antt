@@ -1,10 +1,8 @@
 -- What is listed of a compiled text has a text.
-use Rattle.std.proofs.Common.{◌≡◌, ◌+◌, ◌≤◌, ℕ, List, [], length, arith, subst, sym}
+use Rattle.std.proofs.Common.{◌+◌, ℕ, List, arith, subst, sym}
 use Rattle.std.specs.Prelude.{All}
-use Rattle.std.specs.List.{flat_map}
 use Rattle.std.proofs.lemmas.List.Elements.{All-nil}
 use Rattle.sch_word.specs.runs.ProgramLayout.{max_text_size, text_address}
-use Rattle.sch_insn.specs.Spelling.{spelling}
 use Rattle.sch_listing.proofs.MarkAddresses.{marks_listed}
 use Rattle.sch_listing.specs.declared.listing.Listing.{Listing}
 use Rattle.sch_listing.specs.Lines.{IsListedCycle}

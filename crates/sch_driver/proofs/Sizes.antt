@@ -3,7 +3,7 @@ use Rattle.std.proofs.Common.{◌≡◌, ◌≤◌, ℕ, List, ap, ◌∙◌, su
 use Rattle.sch_word.specs.runs.ProgramLayout.{max_text_size}
 use Rattle.sch_lang.specs.Tree as tree
 use Rattle.sch_control.specs.Tree as control
-use Rattle.sch_layout.specs.LayoutSizes.{most_words}
+use Rattle.sch_registers.specs.Registers.{registers_words}
 use Rattle.sch_select.specs.Program.{frames_bytes, max_stack}
 use Rattle.sch_driver.specs.Causes.{HasFrames, frame_words_of, text_bytes_of}
 use Rattle.sch_driver.specs.Compiled.{IsCompiled}
@@ -11,9 +11,9 @@ use Rattle.sch_driver.specs.FitsProgram.{FitsProgram}
 use Rattle.sch_driver.specs.Framed.{framed_size}
 use Rattle.sch_listing.specs.declared.listing.Listing.{Listing}
 
-pub words_of : (p : tree.Source) (q : control.Source) → FitsProgram p q → most_words q.bodies ≡ frame_words_of p
+pub words_of : (p : tree.Source) (q : control.Source) → FitsProgram p q → registers_words q.bodies ≡ frame_words_of p
 unfolding frame_words_of
-words_of p q fits = ap (λ r. most_words r.bodies) fits.made
+words_of p q fits = ap (λ r. registers_words r.bodies) fits.made
 
 pub bytes_of : (p : tree.Source) (q : control.Source) → FitsProgram p q → framed_size q ≡ text_bytes_of p
 unfolding text_bytes_of

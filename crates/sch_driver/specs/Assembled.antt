@@ -4,19 +4,20 @@ use Rattle.std.specs.List.{flat_map}
 use Rattle.sch_word.specs.declared.answer.Answer.{Answer}
 use Rattle.sch_word.specs.runs.Runs.{Run}
 use Rattle.sch_word.specs.trees.Shape.{max_operands}
-use Rattle.sch_word.specs.runs.ProgramLayout.{data_address, max_text_size}
+use Rattle.sch_word.specs.runs.ProgramLayout.{data_address, max_text_size, text_address}
 use Rattle.sch_insn.specs.Behaves.{FollowsRuns}
 use Rattle.sch_insn.specs.Spelling.{spelling}
 use Rattle.sch_asm.specs.declared.error.AsmError.{AsmError}
 use Rattle.sch_asm.specs.declared.error.AsmError.TheVariants as asm
 use Rattle.sch_asm.specs.declared.item.Mark.{Mark}
+use Rattle.sch_asm.specs.Stands.{marks_at}
 use Rattle.sch_elf.specs.declared.image.Image.{Image}
 use Rattle.sch_elf.specs.Layout.{memory}
 use Rattle.sch_control.specs.Sizes.{most_variables}
 use Rattle.sch_control.specs.Work.{codes_work}
 use Rattle.sch_control.specs.Tree.{Source}
 use Rattle.sch_control.specs.Run.{run}
-use Rattle.sch_layout.specs.LayoutSizes.{most_words}
+use Rattle.sch_registers.specs.Registers.{registers_words}
 use Rattle.sch_frames.specs.Valid.{max_words}
 use Rattle.sch_select_data.specs.Data.{heap_of}
 use Rattle.sch_select.specs.Ends.{EndsWithin}
@@ -24,11 +25,13 @@ use Rattle.sch_select.specs.Program.{frames_bytes, max_stack, stack_bytes}
 use Rattle.sch_driver.specs.Causes.{text_base}
 use Rattle.sch_driver.specs.Framed.{IsMarked, framed, framed_size}
 use Rattle.sch_driver.specs.Headline.{HasProgramLayout}
+use Rattle.sch_driver.specs.LazySaves.{SavesLazily}
+use Rattle.sch_driver.specs.StoreMarks.{StoresMarked}
 use Rattle.sch_driver.specs.declared.error.CompileError.{CompileError}
 use Rattle.sch_driver.specs.declared.error.CompileError.TheVariants.{TextTooLarge, StackTooLarge, Memory}
 
--- the most bytes of the text, by the work in the control program: 64 for each unit of it, and 8 for a copy, of which there are no
--- more than units
+-- the most bytes of the text, by the work in the control program: what there is to do, with 64 for a unit of it, and copies, with 8
+-- for each, are within 72 for each unit
 abbrev pub assembled_bound : Source → ℕ
 assembled_bound p = text_base + 72 * codes_work p.bodies
 
@@ -37,15 +40,17 @@ assembled_bound p = text_base + 72 * codes_work p.bodies
 abbrev pub steps_of : (instructions entries answers charged : ℕ) → ℕ
 steps_of instructions entries answers charged = 768 * instructions * suc entries + 10 * answers + 8 * charged
 
--- The words of the largest frame: slots for the variables and for the formals past the sixth, and for the arguments of a call.
+-- The words of the largest frame: slots for operands that are set aside and for formals past the sixth, for variables that find no
+-- register, and for those that are saved.
 pub record IsFrameSize (p : Source) (words : ℕ) : Type 0 where
-  pub largest : words ≡ most_words p.bodies
+  pub largest : words ≡ registers_words p.bodies
   pub few : words ≤ max_words
-  pub bound : words ≤ max_operands + 2 * most_variables p.bodies
+  pub bound : words ≤ max_operands + most_variables p.bodies
 
 -- The image is laid out as a program's, with this number of instructions. Its words end where the heap begins, and behind
 -- them it has room for the heap and for frames of this number of words at this depth. Where the control program is never
--- wrong, it follows its runs, has exited within a bound of steps where one has ended, and its marks are these.
+-- wrong, it follows its runs, has exited within a bound of steps where one has ended, its marks are these, and its activations
+-- save lazily. Each write of memory through RBP has its mark.
 pub record IsAssembled (p : Source) (heap depth frame_words instructions : ℕ) (marks : List Mark) (image : Image) : Type 0 where
   pub laid_out : HasProgramLayout image
   pub counted : instructions ≡ length laid_out.code
@@ -64,6 +69,10 @@ pub record IsAssembled (p : Source) (heap depth frame_words instructions : ℕ) 
   pub marked : (runs : List Answer → ℕ → Run)
       → ((answers : List Answer) (entries : ℕ) → run p heap depth answers entries ≡ Some (runs answers entries))
       → IsMarked image laid_out.code marks (framed p) heap depth runs
+  pub stores : StoresMarked (marks_at marks) text_address laid_out.code
+  pub lazily : (runs : List Answer → ℕ → Run)
+      → ((answers : List Answer) (entries : ℕ) → run p heap depth answers entries ≡ Some (runs answers entries))
+      → SavesLazily image.entry (memory image.segments) (marks_at marks)
 
 -- The text of a control program has this number of bytes, which is more than it may have; its frames fit the stack at
 -- a depth.

@@ -16,7 +16,7 @@ use Rattle.sch_core.specs.Libraries.{IsLibraryOf, IsLibraryError}
 use Rattle.sch_core.specs.Programs.{IsProgramOf}
 use Rattle.sch_link_tables.specs.Programs.{Definition}
 use Rattle.sch_control.specs.Tree as control
-use Rattle.sch_layout.specs.LayoutSizes.{most_words}
+use Rattle.sch_registers.specs.Registers.{registers_words}
 use Rattle.sch_frames.specs.Valid.{max_words}
 use Rattle.sch_select.specs.Program.{frames_bytes, max_stack}
 use Rattle.sch_passes.specs.Chain.{control_of}
@@ -60,17 +60,16 @@ frame_bound p = 2 * most_variables p + 216
 
 -- how many words the largest frame has of what is compiled of a program, and how many bytes the text
 unfoldable pub frame_words_of : tree.Source → ℕ
-frame_words_of p = most_words (control_of p).bodies
+frame_words_of p = registers_words (control_of p).bodies
 
 unfoldable pub text_bytes_of : tree.Source → ℕ
 text_bytes_of p = framed_size (control_of p)
 
--- Laid out with a slot for each variable, a control program that fits the core program has a largest frame of this
--- number of words.
+-- Laid out by registers, a control program that fits the core program has a largest frame of this number of words.
 pub record HasFrames (program : tree.Source) (words : ℕ) : Type 0 where
   pub control : control.Source
   pub fits_program : FitsProgram program control
-  pub largest : words ≡ most_words control.bodies
+  pub largest : words ≡ registers_words control.bodies
   pub few : words ≤ max_words
   pub bound : words ≤ frame_bound program
 

@@ -11,18 +11,17 @@ use Rattle.sch_asm.specs.Stands.{marks_at}
 use Rattle.sch_elf.specs.declared.image.Image.{Image}
 use Rattle.sch_elf.specs.Layout.{memory}
 use Rattle.sch_control.specs.Tree as control
-use Rattle.sch_layout.specs.OwnSlots.{slots_code}
 use Rattle.sch_frames.specs.Run.{entries_of}
-use Rattle.sch_layout.specs.LayoutSizes.{most_words}
+use Rattle.sch_registers.specs.Registers.{registers_code, registers_words}
 use Rattle.sch_frames.specs.Tree as frames
 use Rattle.sch_runtime.specs.Code.{routine_items}
 use Rattle.sch_select.specs.Follows.{AreRuns}
 use Rattle.sch_select.specs.Marks.{CountsEntries, PassesMarks, TakesWays, marks_passed}
 use Rattle.sch_select.specs.Program.{program_code}
 
--- a control program, laid out with a slot for each variable of each body
+-- a control program, laid out with the variables of each body in registers while there are any
 abbrev pub framed : control.Source → frames.Source
-framed q = record { statics = q.statics; library = q.library; bodies = map slots_code q.bodies; words = most_words q.bodies }
+framed q = record { statics = q.statics; library = q.library; bodies = map registers_code q.bodies; words = registers_words q.bodies }
 
 -- The bytes of its text: those of its items and of the run-time routines, with jumps as short as they can be. It is as
 -- long whatever the limits of heap and depth are.

@@ -1,8 +1,10 @@
-pub mod FitsProgram
-pub mod FitsUnder
-pub mod Framed
 pub mod Assembled
 pub mod Causes
 pub mod Compiled
+pub mod FitsProgram
+pub mod FitsUnder
+pub mod Framed
 pub mod Headline
+pub mod LazySaves
 pub mod PartErrors
+pub mod StoreMarks

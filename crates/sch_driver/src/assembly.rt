@@ -4,7 +4,8 @@ ghost use Rattle.std.specs.Prelude.{◌≡◌, ◌<◌, ◌≤◌, map, IfOk, If
 ghost use Rattle.sch_word.specs.declared.limits.TheConstants.{MAX_DEPTH};
 ghost use Rattle.sch_control.specs.Covered.{is_covered_program};
 ghost use Rattle.sch_control.specs.ProgramView.{source};
-ghost use Rattle.sch_layout.specs.OwnSlots.{slots_code};
+ghost use Rattle.sch_registers.specs.Registers.{registers_code};
+ghost use Rattle.sch_frames.specs.Standing.{all_marks_stand};
 ghost use Rattle.sch_frames.specs.Valid.{max_words};
 ghost use Rattle.sch_select.specs.Program.{frames_bytes, max_stack};
 ghost use Rattle.sch_select.specs.Sizes.{kinds_of};
@@ -16,9 +17,9 @@ use crate::listing::{names_of, room_for_names};
 use sch_asm::{Mark, resolve};
 use sch_control::ControlProgram;
 use sch_elf::{Image, program_image};
+use sch_registers::frame_program;
 use sch_runtime::routines;
 use sch_select::select;
-use sch_slots::frame_program;
 use sch_word::{Bytes, Limits, List};
 use std::alloc::Global;
 
@@ -59,7 +60,8 @@ pub(crate) fn assemble(
     requires covered { IsTrue (is_covered_program (source p)) }
     ensures does { IfOk result (λ a. IsAssembled (source p) limits.heap limits.depth a.frame_words a.instructions a.marks a.image) }
     ensures names { IfOk result (λ a. a.bodies ≡ map (λ b. b.name) p.bodies) }
-    ensures marks { IfOk result (λ a. map (λ m. m.kind) a.marks ≡ kinds_of 0 (map slots_code (source p).bodies)) }
+    ensures marks { IfOk result (λ a. map (λ m. m.kind) a.marks ≡ kinds_of 0 (map registers_code (source p).bodies)) }
+    ensures stand { IfOk result (λ _. IsTrue (all_marks_stand (map registers_code (source p).bodies))) }
     ensures refused { IfErr result (IsUnfit (source p) limits.depth) }
 {
     // The names outlive the bodies and the frames. Their room is taken first, so that it lies below these on the heap: what

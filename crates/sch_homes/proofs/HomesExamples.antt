@@ -1,5 +1,6 @@
 -- Worked rows: what lies where in the frame of a body, and its layout.
-use Rattle.std.proofs.Common.{◌≡◌, ℕ, refl, false, true, List, [], ◌∷◌, Option, Some, ◌-◌}
+use Rattle.std.proofs.Common.{◌≡◌, ℕ, refl, false, true, List, [], ◌∷◌, Option, None, Some, ◌-◌, arith}
+use Rattle.std.specs.Prelude.{◌&&◌, slice_get}
 use Rattle.sch_word.specs.declared.mark.MarkKind.TheVariants as mark
 use Rattle.sch_word.specs.declared.place.Place.{Place}
 use Rattle.sch_word.specs.declared.place.Place.TheVariants.{Reg, Slot}
@@ -12,7 +13,9 @@ use Rattle.sch_control.specs.Tree.{Expression, perform, bind, call, return, save
 use Rattle.sch_control.proofs.Examples.{applied, held_in, number}
 use Rattle.sch_frames.specs.declared.instruction.Instruction.TheVariants.{Do, Store, Copy, Call, Return, Mark}
 use Rattle.sch_layout.specs.Moves.{Move}
-use Rattle.sch_homes.specs.Homes.{home, homes_code, homes_words, moves_aside, place}
+use Rattle.sch_homes.specs.FewKept.{BodyKeepsFew}
+use Rattle.sch_homes.specs.Homes.{home, homes_code, homes_words, in_register, is_saved, moves_aside, place}
+use Rattle.sch_homes.specs.HomeTable.{home_of, home_slots, place_in, table_plan}
 
 -- ## A procedure of eight formals: two arrive in slots, and they stay there
 
@@ -79,3 +82,36 @@ moves_row : moves_aside 0 (λ x. Reg 3) true (applied 0 (held_in 2) (number 1 �
     put 1 ∷ put 2 ∷ put 3 ∷ put 4 ∷ put 5 ∷ put 6 ∷ put 7 ∷ record { argument = 0; from = held_in (Reg 3); to = Reg 14; temp = false }
     ∷ moved 1 (Reg 3) ∷ moved 2 (Reg 8) ∷ moved 3 (Reg 9) ∷ moved 4 (Reg 10) ∷ moved 5 (Reg 6) ∷ moved 6 (Reg 7) ∷ moved 7 (Slot 0) ∷ []
 moves_row = refl
+
+-- ## The same places and homes, read in tables
+
+-- variables 0 and 3 of five have homes, in the slots from 1 on
+homes_listed : home_slots 1 (λ x. in_register (slice_get five_places x) && is_saved two_saved x) 5 ≡ Some 1 ∷ None ∷ None ∷ Some 2 ∷ None ∷ []
+homes_listed = refl
+
+-- what has no home would have its own behind the three words of the frame
+homes_read : (home_of 3 3 (Some (Some 2)) ≡ Slot 2) × (home_of 3 4 (Some None) ≡ Slot 7) × (home_of 3 9 None ≡ Slot 12)
+homes_read = (refl, refl, refl)
+
+-- a slot behind the four of arguments lies behind one that is set aside; what is no variable lives in no slot of the frame
+places_read : (place_in 4 1 (Reg 15 ∷ Slot 5 ∷ []) 1 ≡ Slot 6) × (place_in 4 1 (Reg 15 ∷ Slot 5 ∷ []) 2 ≡ Slot 4096)
+places_read = (refl, refl)
+
+tables_row :
+    ((table_plan 0 1 3 five_places (Some 1 ∷ None ∷ None ∷ Some 2 ∷ None ∷ [])).place 3 ≡ Reg 8)
+    × ((table_plan 0 1 3 five_places (Some 1 ∷ None ∷ None ∷ Some 2 ∷ None ∷ [])).home 3 ≡ Slot 2)
+tables_row = (refl, refl)
+
+-- ## A body that keeps few variables
+
+-- two are saved round the body and restored behind its call
+few_row : BodyKeepsFew two two_saved five_places
+few_row = (omega arith, (omega arith, tt))
+
+-- a form has nothing to save at its head
+form_row : BodyKeepsFew None two_saved five_places → ⊥
+form_row k = omega (arith, k.0)
+
+-- no region stands round what is bound
+bound_row : BodyKeepsFew two (bind 4 two_saved (return (perform (operation.Operand (held_in 3))))) five_places → ⊥
+bound_row k = k.0.0

@@ -1,9 +1,13 @@
+pub mod AsideLoops
 pub mod BodyPlaces
 pub mod CallsAside
 pub mod CoveredHomes
+pub mod FewKept
+pub mod FewMoves
 pub mod FrameDoes
 pub mod FrameRoom
 pub mod FrameValid
+pub mod HomeLoops
 pub mod HomesPlaced
 mod HomesExamples
 pub mod KeptCopies
@@ -11,5 +15,8 @@ pub mod KeptByType
 pub mod LiveRestores
 pub mod OperandsAside
 pub mod PlacedTrees
+pub mod SavedInReach
 pub mod SlotsApart
 pub mod SoonSaved
+pub mod TablePlan
+pub mod WholeFrame

@@ -1,8 +1,10 @@
 -- What a placed body gives its layout.
-use Rattle.std.specs.Prelude.{◌≡◌, ℕ, ◌+◌, ◌*◌, ◌<◌, ◌≤◌, List, true, length, slice_get, Some}
+use Rattle.std.specs.Prelude.{◌≡◌, ℕ, ◌+◌, ◌*◌, ◌<◌, ◌≤◌, Bool, List, true, length, slice_get, Option, Some}
 use Rattle.sch_word.specs.trees.Shape.{max_operands}
 use Rattle.sch_word.specs.declared.place.Place.{Place}
 use Rattle.sch_word.specs.declared.place.Place.TheVariants.{Slot}
+use Rattle.sch_control.specs.declared.body.Entry.{Entry}
+use Rattle.sch_control.specs.declared.operation.Application.{Application}
 use Rattle.sch_control.specs.Meaning.{no_region}
 use Rattle.sch_control.specs.Tree.{Code, Expression}
 use Rattle.sch_control.specs.Valid.{ended, fields_known, in_scope_whole, numbered, shaped_whole}
@@ -11,6 +13,7 @@ use Rattle.sch_control.specs.flow.Bare.{erased}
 use Rattle.sch_control.specs.flow.Live.{nothing_later}
 use Rattle.sch_control.specs.flow.Places.{arrival, closure_place, count_slots, formals_of, is_usual, link_place, place_of, stays}
 use Rattle.sch_control.specs.flow.Regions.{restores_saved}
+use Rattle.sch_layout.specs.FewCopies.{MovesFew}
 use Rattle.sch_layout.specs.Laws.{EntersSlots, Laid}
 use Rattle.sch_layout.specs.SharedPlaces.{PlacedBody, entered_with}
 use Rattle.sch_control.specs.Covered as control_covered
@@ -68,3 +71,8 @@ pub record IsFramed (c : Code) (e : Expression) (places : List Place) : Type 0 w
 
 abbrev pub HomesFramed : Type 0
 HomesFramed = (c : Code) (e : Expression) (places : List Place) → IsPlaced c e places → ended c ≡ true → EachSoonRestored e → IsFramed c e places
+
+-- The moves of any call or tail call do no more than bring each argument into its place, by way of another at most.
+abbrev pub MovesAreFew : Type 0
+MovesAreFew =
+    (entry : Option Entry) (e : Expression) (places : List Place) (tail : Bool) (a : Application ℕ) → MovesFew (homes_plan entry e places) tail a

@@ -1,3 +1,5 @@
+pub mod FewKept
+pub mod HomeTable
 pub mod Homes
 pub mod Laws
 pub mod RestoresLive

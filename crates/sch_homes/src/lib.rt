@@ -2,9 +2,16 @@
 #![tactic(auto)]
 
 ghost use Rattle.sch_control.specs.flow.RestoredView.{restored};
-ghost use Rattle.sch_homes.specs.Laws.{HomesFramed, HomesPlaced, IsPlaced};
+ghost use Rattle.sch_homes.specs.Laws.{HomesFramed, HomesPlaced, IsPlaced, MovesAreFew};
 ghost use Rattle.sch_homes.specs.View.{bare_code};
 
+mod call_moves;
+mod frame_body;
+mod frame_places;
+mod frame_room;
+mod saved_variables;
+
+pub use frame_body::frame;
 use sch_control::PlacedBody;
 
 /// The law that a body with places, laid out in its frame, has what a layout asks of it. It is a call that does nothing, as
@@ -24,3 +31,8 @@ pub fn bodies_are_placed<const N: usize>(b: &PlacedBody<N>)
 {
     let _ = &b.places;
 }
+
+/// The law that the moves of its calls bring each argument into its place by way of another at most.
+pub fn moves_are_few()
+    ensures { MovesAreFew }
+{}

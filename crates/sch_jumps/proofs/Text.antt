@@ -1,13 +1,12 @@
 -- The size of a text.
 use Rattle.std.proofs.Common.{◌≡◌, ℕ, zero, suc, ◌+◌, ◌*◌, ◌<◌, ◌≤◌, List, [], ◌∷◌, ◌++◌, length, Bool, true, false, refl, sym, ap, ◌∙◌, arith, cond}
-use Rattle.std.specs.Prelude.{ℤ, pos}
 use Rattle.std.proofs.lemmas.Bool.{false≢true}
 use Rattle.sch_jumps.specs.declared.piece.Piece.{Piece}
 use Rattle.sch_jumps.specs.declared.piece.Piece.TheVariants.{Bytes, Label, Jump}
-use Rattle.sch_jumps.specs.Sizes.{Set, none, jump_count, end_from, size, IsPiece, ArePieces, grown}
+use Rattle.sch_jumps.specs.Sizes.{Set, none, jump_count, end_from, size, ArePieces, grown}
 use Rattle.sch_jumps.specs.Least.{Suffices, IsLeast, least, text_size, long_size}
 use Rattle.sch_jumps.proofs.Searching.{grown_same}
-use Rattle.sch_jumps.proofs.Least.{growth, more, size_is, has_least, only_one}
+use Rattle.sch_jumps.proofs.Least.{growth, size_is, has_least, only_one}
 
 -- ---- each least set gives the size
 

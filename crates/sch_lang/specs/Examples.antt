@@ -3,7 +3,7 @@ use Rattle.std.specs.Prelude.{ℕ, zero, suc, Bool, true, false, ℤ, pos, negsu
 use Rattle.sch_word.specs.declared.constant.Const.TheVariants.{Fixnum, Character, Boolean, Nil, Symbol}
 use Rattle.sch_word.specs.declared.primitive.Primitive.{Primitive}
 use Rattle.sch_word.specs.declared.primitive.Primitive.TheVariants.{Eq, Cons, Car, Cdr, SetCar, Add, Subtract, Quotient, Modulo, Equal, StringSet, MakeVector, VectorRef, Put, SymbolLength}
-use Rattle.sch_word.specs.values.Literals.{Literals, text, list, elements, no_literals, and_literal}
+use Rattle.sch_word.specs.values.Literals.{text, list, elements, no_literals, and_literal}
 use Rattle.sch_word.specs.values.Literals as literals
 use Rattle.sch_word.specs.runs.Runs.{Run, ended, going}
 use Rattle.sch_word.specs.runs.Orders.{in_text_order}

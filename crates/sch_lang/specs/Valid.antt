@@ -1,10 +1,10 @@
 -- Which programs are valid.
-use Rattle.std.specs.Prelude.{ℕ, zero, suc, ◌+◌, Bool, true, ◌&&◌, ◌||◌, not, nat_lt, nat_le, [], length}
+use Rattle.std.specs.Prelude.{ℕ, zero, suc, Bool, true, ◌&&◌, ◌||◌, not, nat_le, [], length}
 use Rattle.sch_word.specs.values.Literals.{count_literals}
 use Rattle.sch_word.specs.runs.Runs.{statics_valid, statics_in_range}
 use Rattle.sch_word.specs.trees.Shape as shapes
 use Rattle.sch_word.specs.trees.Shape.{max_levels, max_variables, names_known, constant_in_range, well_formed, fits, procedures_fit}
-use Rattle.sch_lang.specs.Tree.{Expression, Expressions, Lambdas, constant, literal, local, global, set_local, set_global, define, branch, sequence, bind, fix, letrec, lambda, call, operation, no_expressions, and_expression, no_lambdas, and_lambda, count, count_lambdas, Source}
+use Rattle.sch_lang.specs.Tree.{Expression, Expressions, Lambdas, fix, no_expressions, and_expression, count_lambdas, Source}
 use Rattle.sch_lang.specs.Variables.{assigns, assigns_lambdas}
 use Rattle.sch_lang.specs.InScope.{each_in_scope, lambdas_in_scope}
 use Rattle.sch_lang.specs.Measures.{over_source, levels_each, levels_lambdas, variables, procedures, shape, sites_of}

@@ -7,8 +7,9 @@ use Rattle.sch_control.specs.Tree.{Expression, perform, bind, branch, call, retu
 use Rattle.sch_control.specs.flow.Live.{Perhaps, nothing_later}
 use Rattle.sch_control.proofs.Examples.{truth, held_in, applied}
 use Rattle.sch_live.specs.BackwardSets.{ListsAllLive}
+use Rattle.sch_live.specs.LiveListed.{lists_in_order, live_listed}
 use Rattle.sch_live.specs.Reached.{gives, where_reached}
-use Rattle.sch_live.specs.Reads.{VariablesBelow}
+use Rattle.sch_control.specs.flow.Reads.{VariablesBelow}
 
 abbrev value_of : ℕ → Expression
 value_of x = perform (operation.Operand (held_in x))
@@ -46,6 +47,22 @@ inside_never = refl
 lists : ListsAllLive (called 0 (0 ∷ 3 ∷ [])) nothing_later
     ≡ (((x : ℕ) → (has x (0 ∷ 3 ∷ []) ≡ true) ↔ Perhaps (λ t. (x ≢ 5) × ((has x (3 ∷ []) ≡ true) ⊎ Perhaps (λ t. x ≡ 0)))) × Unit {0})
 lists = refl
+
+-- ## The sets as lists: (if (begin (x2) x3) (begin (x2) x3) x4), in a body with six variables
+
+abbrev tested : (listed later : List ℕ) → Expression
+tested listed later = branch (bind 5 (call (applied 0 (held_in 2) []) listed) (value_of 3)) (called 1 later) (return (value_of 4))
+
+-- the first call is followed by the test and by one of the arms, and what it gives is bound behind it
+both_live : live_listed 6 (tested [] []) ≡ tested (0 ∷ 2 ∷ 3 ∷ 4 ∷ []) (0 ∷ 3 ∷ [])
+both_live = refl
+
+-- the arm that is never taken has nothing, and its variables are live nowhere
+one_live : live_listed 6 (branch (constant false) (called 0 []) (called 1 [])) ≡ branch (constant false) (called 0 []) (called 1 (0 ∷ 3 ∷ []))
+one_live = refl
+
+in_numbers : lists_in_order 6 (called 1 (3 ∷ 7 ∷ 0 ∷ [])) ≡ called 1 (0 ∷ 3 ∷ [])
+in_numbers = refl
 
 -- ## The variables that are read or bound
 

@@ -2,5 +2,5 @@ mod Examples
 pub mod EmptySets
 pub mod LiveBodies
 pub mod LiveSteps
+pub mod MadeLists
 pub mod ReachedSets
-pub mod ReadSteps

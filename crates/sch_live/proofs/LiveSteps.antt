@@ -20,7 +20,7 @@ use Rattle.sch_control.proofs.NumberLists.{has_items}
 use Rattle.sch_paths.proofs.paths.LiveByPaths.{itself, then_is, either_same, both_same, flip, swapped, match_same, live_before}
 use Rattle.sch_paths.proofs.paths.MeetsByCases.{before_same}
 use Rattle.sch_live.specs.BackwardSets.{later_of, IsLiveBefore, ListsAllLive}
-use Rattle.sch_live.specs.Reads.{IsWith}
+use Rattle.sch_control.specs.flow.Reads.{IsWith}
 
 -- ## What is live behind may be said in another way
 
@@ -48,7 +48,7 @@ lists_same (save saves e) L M f h = lists_same e L M f h
 same_test : (b c : Bool) → b ≡ c → (b ≡ true) ↔ (c ≡ true)
 same_test b c e = (λ h. sym e ∙ h, λ h. e ∙ h)
 
-either_test : (p q : Bool) → ((p || q) ≡ true) ↔ ((p ≡ true) ⊎ (q ≡ true))
+pub either_test : (p q : Bool) → ((p || q) ≡ true) ↔ ((p ≡ true) ⊎ (q ≡ true))
 either_test true q = (λ h. inl refl, λ w. refl)
 either_test false q = (λ h. inr h, λ w. elim w [ inl e ↦ absurd (cc) | inr h ↦ h ])
 

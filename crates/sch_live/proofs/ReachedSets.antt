@@ -15,7 +15,7 @@ use Rattle.sch_live.specs.Reached.{may_be, gives, where_reached}
 
 -- ## What an expression gives
 
-both_test : (p q : Bool) → ((p && q) ≡ true) ↔ ((p ≡ true) × (q ≡ true))
+pub both_test : (p q : Bool) → ((p && q) ≡ true) ↔ ((p ≡ true) × (q ≡ true))
 both_test true q = (λ h. (refl, h), λ w. w.1)
 both_test false q = (λ h. absurd (cc), λ w. absurd (let e = w.0 in cc))
 

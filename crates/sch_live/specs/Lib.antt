@@ -1,3 +1,3 @@
 pub mod BackwardSets
+pub mod LiveListed
 pub mod Reached
-pub mod Reads

@@ -3,12 +3,11 @@
 ghost use Rattle.std.specs.Prelude.{◌≡◌, ◌*◌, ◌<◌};
 ghost use Rattle.sch_control.specs.flow.Bare.{unlisted};
 ghost use Rattle.sch_control.specs.flow.Middle.{listed};
+ghost use Rattle.sch_control.specs.flow.Reads.{VariablesBelow};
 ghost use Rattle.sch_live.specs.BackwardSets.{IsLiveBefore, ListsAllLive, later_of};
-ghost use Rattle.sch_live.specs.Reads.{VariablesBelow};
 
 use crate::behind::Behind;
-use crate::reads::{read_application, read_members, read_operation, remove_members};
-use sch_control::Exp;
+use sch_control::{Exp, read_application, read_members, read_operation, remove_members};
 use sch_sets::Set;
 
 /// Puts at each call what is live after it, and into `before` what is live before the expression.

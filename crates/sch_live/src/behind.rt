@@ -5,8 +5,7 @@ ghost use Rattle.std.specs.FinSet as set;
 ghost use Rattle.sch_control.specs.flow.Live as flow;
 ghost use Rattle.sch_live.specs.BackwardSets.{later_of};
 
-use crate::results::known;
-use sch_control::Operation;
+use sch_control::{Operation, known};
 use sch_sets::Set;
 
 /// What is live behind an expression where its value counts as true, and where it is `#f`.

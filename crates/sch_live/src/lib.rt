@@ -6,7 +6,6 @@ mod behind;
 mod blank;
 mod live_bodies;
 mod reached;
-mod reads;
 mod results;
 
 pub use live_bodies::live;

@@ -5,6 +5,7 @@ ghost use Rattle.sch_control.specs.View.{expression};
 ghost use Rattle.sch_control.specs.flow.Bare.{unlisted};
 ghost use Rattle.sch_control.specs.flow.LiveSets.{HasLiveSets};
 ghost use Rattle.sch_control.specs.flow.Middle.{listed};
+ghost use Rattle.sch_live.specs.LiveListed.{lists_in_order, live_listed};
 ghost use Rattle.sch_paths.specs.PlainlySame.{PlainlySame};
 
 use crate::backward::list_live;
@@ -25,6 +26,7 @@ pub fn live<const N: usize>(alloc: Global, b: &Body) -> Result<LiveBody<N>, Mem>
     ensures entry { IfOk result (λ r. r.entry ≡ b.now.entry) }
     ensures variables { IfOk result (λ r. r.variables ≡ b.now.variables) }
     ensures same { IfOk result (λ r. unlisted (listed r.exp) ≡ expression b.now.exp) }
+    ensures made { IfOk result (λ r. lists_in_order b.now.variables (listed r.exp) ≡ live_listed b.now.variables (expression b.now.exp)) }
     ensures live { IfOk result (λ r. HasLiveSets (listed r.exp)) }
     ensures meaning { IfOk result (λ r. PlainlySame (expression b.now.exp) (listed r.exp)) }
 {

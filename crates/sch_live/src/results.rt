@@ -4,8 +4,7 @@ ghost use Rattle.std.specs.Prelude.{◌≡◌, true, false};
 ghost use Rattle.sch_control.specs.flow.Live as flow;
 ghost use Rattle.sch_live.specs.Reached.{may_be};
 
-use sch_control::{Atom, Operand, Operation};
-use sch_word::Const;
+use sch_control::{Operation, known};
 
 /// Whether an expression may give a value that counts as true, and whether it may give `#f`.
 #[derive(Clone, Copy)]
@@ -19,17 +18,6 @@ pub(crate) const BOTH: Results = Results {
     on_true: true,
     on_false: true,
 };
-
-/// Whether the value of an operation is known to count as true, or to be `#f`.
-pub(crate) fn known(o: &Operation<u32>) -> Option<bool>
-    ensures { result ≡ flow.known o.now }
-{
-    match o {
-        Operation::Operand(Operand::Atom(Atom::Constant(Const::Boolean(b)))) => Some(*b),
-        Operation::Operand(Operand::Atom(Atom::Constant(_))) => Some(true),
-        _ => None,
-    }
-}
 
 /// What an operation may give.
 pub(crate) fn results_of(o: &Operation<u32>) -> Results

@@ -6,3 +6,4 @@ pub mod SavedAndRestored
 pub mod TwoSets
 pub mod UnsavedSets
 pub mod ValidBodies
+pub mod VariablesBelow

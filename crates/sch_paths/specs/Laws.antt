@@ -1,14 +1,13 @@
 -- The laws of paths: what a public function of this crate promises is one of these.
-use Rattle.std.specs.Prelude.{◌≡◌, ◌↔◌, ℕ, Bool, true, false, List, ◌⊎◌, Some}
+use Rattle.std.specs.Prelude.{◌≡◌, ◌↔◌, ℕ, Bool, true, List, ◌⊎◌, Some}
 use Rattle.sch_word.specs.trees.NumberSets.{has}
 use Rattle.sch_control.specs.declared.body.Entry.{Entry}
 use Rattle.sch_control.specs.Meaning.{World, Environment, Callee, Reading, plain, no_region, do_body}
 use Rattle.sch_control.specs.Tree.{Expression, Code}
-use Rattle.sch_control.specs.Valid.{in_scope, in_scope_whole, numbered, bound_in, ended, positioned, last_position}
+use Rattle.sch_control.specs.Valid.{in_scope, in_scope_whole, numbered, bound_in, ended}
 use Rattle.sch_control.specs.flow.Bare.{erased, unlisted, unsaved}
 use Rattle.sch_control.specs.flow.Live.{MayGive, Live, Soon, nothing_later}
-use Rattle.sch_control.specs.flow.LiveOrSaved.{LiveOrSaved}
-use Rattle.sch_control.specs.flow.LiveSets.{LiveSets, HasLiveSets}
+use Rattle.sch_control.specs.flow.LiveSets.{HasLiveSets}
 use Rattle.sch_control.specs.flow.Middle.{silent}
 use Rattle.sch_control.specs.flow.Paths.{Event, IsPath, MayMeet, live, refers, soon, calls, Needs, SavesFollowed}
 use Rattle.sch_paths.specs.Calls.{ListsLive}
@@ -89,12 +88,6 @@ SavesAreFollowed = (c : Code) (listed : Expression) → IsSaved c listed → (es
 -- what is saved at the head of a region is live there
 abbrev pub HeadsAreLive : Type 0
 HeadsAreLive = (c : Code) (listed : Expression) → IsSaved c listed → HeadsLive listed nothing_later
-
--- where that is so, a layout, which reads what it saves, keeps what is live
-abbrev pub LayoutKeepsLive : Type 0
-LayoutKeepsLive =
-    (e : Expression) (behind : ℕ → Bool → Bool) → HeadsLive e (λ x t. behind x t ≡ true)
-    → (x : ℕ) → LiveOrSaved x e (λ t. behind x t ≡ true) ↔ Live x e (λ t. behind x t ≡ true)
 
 -- what is live after each call is saved there, also where a tree differs in what is listed at calls
 abbrev pub LiveIsSaved : Type 0

@@ -2,7 +2,7 @@
 //! Each is the contract of a function that does nothing.
 #![tactic(auto)]
 
-ghost use Rattle.sch_paths.specs.Laws.{HasPath, GivesByPaths, LiveByPaths, SoonByPaths, LiveWhereReferenced, SetsByPaths, ReturnAddressLive, TableByPaths, NeedsWithoutRegions, SavesAreFollowed, HeadsAreLive, LayoutKeepsLive, LiveIsSaved, RestoresAreEnough, MarksChangeNothing, ListsChangeNothing};
+ghost use Rattle.sch_paths.specs.Laws.{HasPath, GivesByPaths, LiveByPaths, SoonByPaths, LiveWhereReferenced, SetsByPaths, ReturnAddressLive, TableByPaths, NeedsWithoutRegions, SavesAreFollowed, HeadsAreLive, LiveIsSaved, RestoresAreEnough, MarksChangeNothing, ListsChangeNothing};
 
 /// Every expression has a path.
 pub fn every_expression_has_a_path()
@@ -57,11 +57,6 @@ pub fn saves_are_followed_by_calls()
 /// What is saved at the head of a region is live there.
 pub fn heads_of_regions_are_live()
     ensures { HeadsAreLive }
-{}
-
-/// Where heads of regions are live, a layout, which reads what it saves, keeps exactly what is live.
-pub fn a_layout_keeps_what_is_live()
-    ensures { LayoutKeepsLive }
 {}
 
 /// With lazy saves, what is live after each call is saved there.

@@ -6,7 +6,7 @@ use Rattle.sch_control.specs.declared.body.Entry.{Entry}
 use Rattle.sch_control.specs.declared.operation.Operation.TheVariants as operation
 use Rattle.sch_control.specs.Tree.{Expression, perform, bind, sequence, branch, call, tail_call, return, end}
 use Rattle.sch_control.proofs.Examples.{truth, held_in, applied}
-use Rattle.sch_regs.specs.LiveTests.{is_live}
+use Rattle.sch_control.specs.flow.LiveTests.{is_live}
 use Rattle.sch_regs.specs.PlaceChoice.{Table, place_in, held, choose_each, live_first, arrived, places}
 
 -- ## A group

@@ -11,8 +11,6 @@ pub mod UsualPlaces
 pub mod WellBound
 pub mod WholeBodies
 pub mod PlacedBodies
-pub mod ReadSteps
-pub mod ReadsWithin
 pub mod SameRuns
 pub mod SavedWhereRestored
 pub mod StartSteps

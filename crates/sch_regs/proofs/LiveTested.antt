@@ -6,7 +6,7 @@ use Rattle.std.proofs.lemmas.Bool.{eqb-true, eq-eqb, eqb-false, ne_eqb}
 use Rattle.sch_control.specs.Tree.{Expression, perform, bind, sequence, branch, fix, call, tail_call, return, end, save}
 use Rattle.sch_control.specs.flow.Live.{known, ByResult, Perhaps, Live}
 use Rattle.sch_paths.proofs.paths.LiveByPaths.{itself, then_is, either_same, both_same}
-use Rattle.sch_regs.specs.LiveTests.{by_result, is_live}
+use Rattle.sch_control.specs.flow.LiveTests.{by_result, is_live}
 
 pub or_is : (a b : Bool) → ((a || b) ≡ true) ↔ ((a ≡ true) ⊎ (b ≡ true))
 or_is true b = (λ h. inl refl, λ w. refl)

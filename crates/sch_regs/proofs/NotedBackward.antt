@@ -8,7 +8,7 @@ use Rattle.sch_word.proofs.facts.NumberSets.{has_append}
 use Rattle.sch_control.specs.Tree.{Expression, perform, bind, sequence, branch, fix, call, tail_call, return, end, save}
 use Rattle.sch_control.specs.Valid.{member_variables, bound_in, without_repeats}
 use Rattle.sch_paths.proofs.saves.LiveInScope.{not_both, repeats_left, repeats_right, repeats_apart}
-use Rattle.sch_regs.specs.LiveTests.{is_live, Behind}
+use Rattle.sch_control.specs.flow.LiveTests.{is_live, Behind}
 use Rattle.sch_regs.specs.PlaceChoice.{around}
 use Rattle.sch_regs.specs.NotedSets.{Noted, IsNoted, put, put_group, note}
 

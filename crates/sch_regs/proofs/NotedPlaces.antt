@@ -6,7 +6,7 @@ use Rattle.std.proofs.lemmas.Bool.{eq-eqb}
 use Rattle.sch_word.proofs.facts.Booleans.{or_left}
 use Rattle.sch_control.specs.Tree.{Expression, perform, bind, sequence, branch, fix, call, tail_call, return, end, save}
 use Rattle.sch_control.specs.Valid.{member_variables}
-use Rattle.sch_regs.specs.LiveTests.{is_live, Behind}
+use Rattle.sch_control.specs.flow.LiveTests.{is_live, Behind}
 use Rattle.sch_regs.specs.PlaceChoice.{Table, choose, choose_each, live_first, assign}
 use Rattle.sch_regs.specs.NotedSets.{Noted, IsNoted, assign_noted}
 

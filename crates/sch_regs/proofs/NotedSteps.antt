@@ -15,10 +15,10 @@ use Rattle.sch_control.specs.AtomsAndSites.{operation_atoms, application_atoms, 
 use Rattle.sch_control.specs.Tree.{Expression, perform, bind, sequence, branch, fix, call, tail_call, return, end, save}
 use Rattle.sch_control.specs.Valid.{member_variables}
 use Rattle.sch_control.specs.flow.Live.{named, known}
-use Rattle.sch_regs.specs.LiveTests.{by_result, is_live, Behind}
+use Rattle.sch_control.specs.flow.LiveTests.{by_result, is_live, Behind}
 use Rattle.sch_regs.specs.NotedSets.{Noted, put, put_group, note}
 use Rattle.sch_regs.specs.PlaceChoice.{around}
-use Rattle.sch_regs.specs.Reads.{IsWith}
+use Rattle.sch_control.specs.flow.Reads.{IsWith}
 use Rattle.sch_regs.specs.SetsAsTests.{behind, noted_in, with_first, IsNotedBack}
 
 -- ## Sets as tests

@@ -13,11 +13,12 @@ use Rattle.sch_control.specs.flow.Bare.{erased}
 use Rattle.sch_control.specs.flow.LiveSets.{HasLiveSets}
 use Rattle.sch_control.specs.flow.Middle.{code_with}
 use Rattle.sch_control.specs.flow.Places.{count_slots, formals_of}
+use Rattle.sch_control.specs.flow.Reads.{VariablesBelow}
 use Rattle.sch_control.specs.flow.Regions.{regions_apart, restores_saved}
 use Rattle.sch_control.specs.flow.RestoredView.{restored, restored_listed}
+use Rattle.sch_paths.proofs.saves.VariablesBelow.{listed_below}
 use Rattle.sch_regs.specs.PlaceChoice.{places, slots, table_of}
-use Rattle.sch_regs.specs.Reads.{ReadsBelow, BindsBelow}
-use Rattle.sch_regs.proofs.TableMade.{binds, reads, formals_within}
+use Rattle.sch_regs.proofs.TableMade.{formals_within}
 use Rattle.sch_regs.proofs.WholeBodies.{IsPlaced, is_placed, slots_same}
 
 count_within : (ps : List Place) → count_slots ps ≤ length ps
@@ -32,11 +33,8 @@ module _ {N : ℕ} (b : RestoredBody N) where
   pub some_words : 0 < N
   some_words = let k = formals_within code_of (restored b.exp) refl b.scoped b.numbered b.ended in let l = b.fits in omega (arith, k, l)
 
-  pub binds_within : (bound : ℕ) → b.variables ≤ bound → BindsBelow bound (restored b.exp)
-  binds_within bound l = binds code_of (restored b.exp) refl b.scoped b.numbered b.ended bound l
-
-  pub reads_within : (bound : ℕ) → b.variables ≤ bound → ReadsBelow bound (restored b.exp)
-  reads_within bound l = reads code_of (restored b.exp) refl b.scoped b.numbered b.ended bound l
+  pub variables_within : (bound : ℕ) → b.variables ≤ bound → VariablesBelow bound (restored b.exp)
+  variables_within bound l = listed_below code_of b.numbered bound l (restored b.exp) refl b.scoped
 
   pub entered_within : 2 + formals_of b.entry ≤ b.variables
   entered_within = formals_within code_of (restored b.exp) refl b.scoped b.numbered b.ended

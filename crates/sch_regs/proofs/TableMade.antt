@@ -14,12 +14,10 @@ use Rattle.sch_control.specs.flow.Bare.{erased}
 use Rattle.sch_control.specs.flow.Places.{formals_of}
 use Rattle.sch_regs.specs.NotedSets.{IsNoted, note, assign_noted}
 use Rattle.sch_regs.specs.PlaceChoice.{arrived, nothing_behind, table_of}
-use Rattle.sch_regs.specs.Reads.{ReadsBelow, BindsBelow}
 use Rattle.sch_regs.specs.SetsAsTests.{behind, noted_in, IsNotedBack}
 use Rattle.sch_regs.proofs.NotedBackward.{notes, noted_same}
 use Rattle.sch_regs.proofs.NotedPlaces.{noted_places}
-use Rattle.sch_regs.proofs.ReadsWithin.{binds_below, reads_below}
-use Rattle.sch_regs.proofs.WholeBodies.{scope_below, enough, bound_within, sits}
+use Rattle.sch_regs.proofs.WholeBodies.{enough, bound_within, sits}
 
 nothing : (none : NumberSet) → none ≡ set.empty → behind none none ≡ nothing_behind
 nothing none e = fun_ext (λ x. fun_ext (λ r. by r x)) where
@@ -32,14 +30,6 @@ module _ (c : Code) (e : Expression) (is : erased e ≡ c.expression) (i : in_sc
   bound_lt x h =
       let lt : nat_lt x c.variables ≡ true = and_right (nat_le (first_bound c.entry) x) _ (bound_within c e is i n d x h) in
       grind (arith, nat_tests, lt)
-
-  pub binds : (bound : ℕ) → c.variables ≤ bound → BindsBelow bound e
-  binds bound l = binds_below bound e (λ x h. let lt = bound_lt x h in omega (arith, lt, l))
-
-  pub reads : (bound : ℕ) → c.variables ≤ bound → ReadsBelow bound e
-  reads bound l =
-      reads_below bound e (first_scope c.entry) (sits c e is i n d).scoped
-      (λ x s. let lt = scope_below c.entry x (inr s) in let k = enough c e is i n d in omega (arith, lt, k, l)) (binds bound l)
 
   pub formals_within : 2 + formals_of c.entry ≤ c.variables
   formals_within = let k = enough c e is i n d in omega (arith, k)

@@ -10,7 +10,7 @@ use Rattle.sch_word.specs.declared.place.Place.TheVariants.{Reg, Slot}
 use Rattle.sch_word.proofs.facts.Booleans.{or_left, or_right}
 use Rattle.sch_control.specs.Tree.{Expression, perform, bind, sequence, branch, fix, call, tail_call, return, end, save}
 use Rattle.sch_control.specs.Valid.{member_variables}
-use Rattle.sch_regs.specs.LiveTests.{is_live, Behind}
+use Rattle.sch_control.specs.flow.LiveTests.{is_live, Behind}
 use Rattle.sch_word.specs.values.Registers.{argument_registers}
 use Rattle.sch_control.specs.flow.Places.{arrival, is_usual}
 use Rattle.sch_regs.specs.PlaceChoice.{Table, place_in, held, first_free, choose, choose_each, live_first, around, assign, arrived}

@@ -13,7 +13,7 @@ use Rattle.sch_control.specs.Valid.{with_variable, with_members, member_variable
 use Rattle.sch_control.specs.flow.Live.{Live, Later}
 use Rattle.sch_paths.proofs.paths.LiveByPaths.{itself, then_is, either_same, both_same}
 use Rattle.sch_paths.proofs.saves.LiveInScope.{Readable, not_both, outer_scope, repeats_left, repeats_right, repeats_apart}
-use Rattle.sch_regs.specs.LiveTests.{is_live, Behind}
+use Rattle.sch_control.specs.flow.LiveTests.{is_live, Behind}
 use Rattle.sch_regs.specs.PlaceChoice.{Table, placed, place_in, slots, choose, choose_each, live_first, around, assign}
 use Rattle.sch_word.specs.values.Registers.{argument_registers}
 use Rattle.sch_control.specs.Valid.{without_repeats}

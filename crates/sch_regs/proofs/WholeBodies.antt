@@ -95,7 +95,7 @@ more_slots : (k : ℕ) → SlotsBelow k (arrived (suc (suc (suc (suc (suc (suc k
 more_slots zero = (tt, (tt, (tt, (tt, (tt, (tt, (tt, (tt, tt))))))))
 more_slots (suc k) = (omega arith, slots_more k (arrived (suc (suc (suc (suc (suc (suc k))))))) (more_slots k))
 
-first_slots : (n : ℕ) → SlotsBelow (slots (arrived n)) (arrived n)
+pub first_slots : (n : ℕ) → SlotsBelow (slots (arrived n)) (arrived n)
 first_slots zero = (tt, (tt, tt))
 first_slots (suc zero) = (tt, (tt, (tt, tt)))
 first_slots (suc (suc zero)) = (tt, (tt, (tt, (tt, tt))))

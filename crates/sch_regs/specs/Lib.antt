@@ -1,8 +1,6 @@
-pub mod LiveTests
 pub mod NotedSets
 pub mod PlaceChoice
 pub mod Promises
-pub mod Reads
 pub mod SetsAsTests
 pub mod Shows
 pub mod Spills

@@ -12,7 +12,7 @@ use Rattle.sch_control.specs.Tree.{Expression, perform, bind, sequence, branch, 
 use Rattle.sch_control.specs.Valid.{member_variables}
 use Rattle.sch_control.specs.flow.Live.{named}
 use Rattle.sch_control.specs.flow.Places.{in_slot, link_place, closure_place, arrival, formals_of}
-use Rattle.sch_regs.specs.LiveTests.{is_live, Behind}
+use Rattle.sch_control.specs.flow.LiveTests.{is_live, Behind}
 
 -- ## Tables
 

@@ -4,7 +4,7 @@ use Rattle.std.specs.FinSet as set
 use Rattle.sch_sets.specs.Members.{NumberSet}
 use Rattle.sch_control.specs.declared.operation.Member.{Member}
 use Rattle.sch_control.specs.Tree.{Expression}
-use Rattle.sch_regs.specs.LiveTests.{is_live, Behind}
+use Rattle.sch_control.specs.flow.LiveTests.{is_live, Behind}
 use Rattle.sch_regs.specs.NotedSets.{Noted, note}
 
 -- what two sets say is live behind an expression: where its value counts as true, and where it is `#f`

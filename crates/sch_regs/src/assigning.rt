@@ -4,10 +4,10 @@ ghost use Rattle.std.specs.Prelude.{◌≡◌, ◌*◌, ◌<◌, ◌≤◌, [], 
 ghost use Rattle.std.specs.FinSet as set;
 ghost use Rattle.std.specs.List.{list_all};
 ghost use Rattle.sch_control.specs.Valid.{member_variables};
+ghost use Rattle.sch_control.specs.flow.Reads.{VariablesBelow};
 ghost use Rattle.sch_control.specs.flow.RestoredView.{restored};
 ghost use Rattle.sch_regs.specs.NotedSets.{assign_noted, first_variable};
 ghost use Rattle.sch_regs.specs.PlaceChoice as table;
-ghost use Rattle.sch_regs.specs.Reads.{BindsBelow};
 ghost use Rattle.sch_regs.specs.SetsAsTests.{noted_in};
 ghost use Rattle.sch_regs.specs.Shows.{Becomes, choose_all, choose_wanted};
 
@@ -96,7 +96,7 @@ pub(crate) fn assign<const N: usize>(
     e: &Exp<Restoring<N>>,
 )
     requires fits { length noted.now ≤ 64 * N }
-    requires below { BindsBelow (length noted.now) (restored e.now) }
+    requires below { VariablesBelow (length noted.now) (restored e.now) }
     ensures { Becomes placing.old placing.new (assign_noted (noted_in noted.now) (restored e.now)) }
 {
     match e {

@@ -3,7 +3,10 @@
 ghost use Rattle.std.specs.Prelude.{◌≡◌, IfOk};
 ghost use Rattle.sch_control.specs.flow.RestoredView.{restored, restored_listed};
 
-use sch_control::{Exp, Restoring, boxed, copy_application, copy_members, copy_operation};
+use sch_control::{
+    Exp, Restoring, boxed_bind, boxed_call, boxed_do, boxed_end, boxed_fix, boxed_if, boxed_return,
+    boxed_save, boxed_seq, boxed_tail_call, copy_application, copy_members, copy_operation,
+};
 use sch_word::{List, Mem};
 use std::alloc::Global;
 
@@ -29,50 +32,50 @@ pub(crate) fn copy<const N: usize>(
     match e {
         Exp::Do(o) => {
             let o = copy_operation(alloc, o)?;
-            boxed(alloc, Exp::Do(o))
+            boxed_do(alloc, o)
         }
         Exp::Bind(x, a, b) => {
             let a = copy(alloc, a)?;
             let b = copy(alloc, b)?;
-            boxed(alloc, Exp::Bind(*x, a, b))
+            boxed_bind(alloc, *x, a, b)
         }
         Exp::Seq(a, b) => {
             let a = copy(alloc, a)?;
             let b = copy(alloc, b)?;
-            boxed(alloc, Exp::Seq(a, b))
+            boxed_seq(alloc, a, b)
         }
         Exp::If(a, b, c) => {
             let a = copy(alloc, a)?;
             let b = copy(alloc, b)?;
             let c = copy(alloc, c)?;
-            boxed(alloc, Exp::If(a, b, c))
+            boxed_if(alloc, a, b, c)
         }
         Exp::Fix(members, e) => {
             let members = copy_members(alloc, members)?;
             let e = copy(alloc, e)?;
-            boxed(alloc, Exp::Fix(members, e))
+            boxed_fix(alloc, members, e)
         }
         Exp::Call(a, r) => {
             let a = copy_application(alloc, a)?;
             let r = copy_restoring(alloc, r)?;
-            boxed(alloc, Exp::Call(a, r))
+            boxed_call(alloc, a, r)
         }
         Exp::TailCall(a) => {
             let a = copy_application(alloc, a)?;
-            boxed(alloc, Exp::TailCall(a))
+            boxed_tail_call(alloc, a)
         }
         Exp::Return(e) => {
             let e = copy(alloc, e)?;
-            boxed(alloc, Exp::Return(e))
+            boxed_return(alloc, e)
         }
         Exp::End(e) => {
             let e = copy(alloc, e)?;
-            boxed(alloc, Exp::End(e))
+            boxed_end(alloc, e)
         }
         Exp::Save(saves, e) => {
             let saves = List::from_slice(alloc, saves.as_slice())?;
             let e = copy(alloc, e)?;
-            boxed(alloc, Exp::Save(saves, e))
+            boxed_save(alloc, saves, e)
         }
     }
 }

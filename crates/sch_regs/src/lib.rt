@@ -7,7 +7,6 @@ mod copying;
 mod noting;
 mod places;
 mod placing;
-mod reads;
 mod starting;
 
 pub use places::assign_places;

@@ -4,25 +4,15 @@ ghost use Rattle.std.specs.Prelude.{◌≡◌, ◌*◌, ◌<◌, ℕ, slice_set}
 ghost use Rattle.std.specs.FinSet as set;
 ghost use Rattle.sch_control.specs.flow.Live as flow;
 ghost use Rattle.sch_control.specs.flow.RestoredView.{restored};
-ghost use Rattle.sch_regs.specs.LiveTests.{by_result};
-ghost use Rattle.sch_regs.specs.Reads.{BindsBelow, ReadsBelow};
+ghost use Rattle.sch_control.specs.flow.LiveTests.{by_result};
+ghost use Rattle.sch_control.specs.flow.Reads.{VariablesBelow};
 ghost use Rattle.sch_regs.specs.SetsAsTests.{IsNotedBack, behind, with_first};
 
-use crate::reads::{read_application, read_members, read_operation, remove_members};
-use sch_control::{Atom, Exp, Member, Operand, Operation, Restoring};
+use sch_control::{
+    Exp, Member, Operation, Restoring, known, read_application, read_members, read_operation,
+    remove_members,
+};
 use sch_sets::Set;
-use sch_word::Const;
-
-// Whether the value of an operation is known to count as true, or to be `#f`.
-fn known(o: &Operation<u32>) -> Option<bool>
-    ensures { result ≡ flow.known o.now }
-{
-    match o {
-        Operation::Operand(Operand::Atom(Atom::Constant(Const::Boolean(b)))) => Some(*b),
-        Operation::Operand(Operand::Atom(Atom::Constant(_))) => Some(true),
-        _ => None,
-    }
-}
 
 // What is live behind an operation, by what is known of its value.
 fn after_operation<const N: usize>(
@@ -67,8 +57,7 @@ pub(crate) fn note<const N: usize>(
     noted: &mut Vec<Set<N>>,
 )
     requires some { 0 < N }
-    requires reads { ReadsBelow (64 * N) (restored e.now) }
-    requires binds { BindsBelow (64 * N) (restored e.now) }
+    requires below { VariablesBelow (64 * N) (restored e.now) }
     ensures { IsNotedBack (restored e.now) on_true.now on_false.now before.new noted.old.items noted.new.items }
 {
     match e {

@@ -11,7 +11,7 @@ use Rattle.sch_lang.specs.InScope.{InScope, EachInScope, LambdasInScope}
 use Rattle.sch_rename.proofs.Scopes.{inside}
 use Rattle.sch_word.proofs.Shaped.{both_true}
 use Rattle.sch_rename.proofs.FreeKept.{counts, counts_lambdas}
-use Rattle.sch_word.proofs.facts.NumberTests.{below_differs, same}
+use Rattle.sch_word.proofs.facts.NumberTests.{same}
 use Rattle.sch_word.proofs.facts.NumberSets.{below_numbers}
 
 -- ## Each number once

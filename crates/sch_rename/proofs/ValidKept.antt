@@ -5,7 +5,7 @@ use Rattle.sch_word.specs.trees.Bindings.{scope_with}
 use Rattle.sch_word.specs.values.Literals.{count_literals}
 use Rattle.sch_word.specs.runs.Runs.{statics_in_range}
 use Rattle.sch_word.specs.trees.Shape as shapes
-use Rattle.sch_word.specs.trees.Shape.{Shape, names_known, constant_in_range, well_formed, fits, procedures_fit, max_variables, max_levels}
+use Rattle.sch_word.specs.trees.Shape.{names_known, constant_in_range, well_formed, fits, procedures_fit, max_variables, max_levels}
 use Rattle.sch_word.proofs.Shaped.{Implies, implies_joins, same_implies, Holds, holds_joins, parts, both_true}
 use Rattle.sch_lang.specs.Tree.{Expression, Expressions, Lambdas, Source, constant, literal, local, global, set_local, set_global, define, branch, sequence, bind, fix, letrec, lambda, call, operation, no_expressions, and_expression, count_lambdas}
 use Rattle.sch_lang.specs.Measures.{variables, levels_lambdas, levels_each}

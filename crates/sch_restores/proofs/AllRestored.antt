@@ -220,7 +220,7 @@ module _ (n : ℕ) where
   restored_sets (end e) inside Met L below saves sets = restored_sets e inside Met _ below saves sets
   restored_sets (save saved e) inside Met L below saves sets = restored_sets e (with_region saved inside) Met L below saves sets
 
-live_restored : (keeps : ℕ → Bool) (e : Expression) (Met : Type 0) (L S : Later) → LiveSets e Met L → Restored keeps e Met L S
+pub live_restored : (keeps : ℕ → Bool) (e : Expression) (Met : Type 0) (L S : Later) → LiveSets e Met L → Restored keeps e Met L S
 live_restored keeps (perform o) Met L S sets = tt
 live_restored keeps (bind y a b) Met L S sets = (live_restored keeps a Met _ _ sets.0, live_restored keeps b Met L S sets.1)
 live_restored keeps (sequence a b) Met L S sets = (live_restored keeps a Met _ _ sets.0, live_restored keeps b Met L S sets.1)

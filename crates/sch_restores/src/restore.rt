@@ -12,8 +12,9 @@ ghost use Rattle.sch_paths.specs.EachLiveSaved.{EachLiveSaved};
 ghost use Rattle.sch_restores.specs.Restores.{RestoresSuffice, all_restored};
 
 use sch_control::{
-    Exp, RestoredBody, Restoring, SavedBody, boxed, copy_application, copy_members, copy_operation,
-    members_of, with_all,
+    Exp, RestoredBody, Restoring, SavedBody, boxed_bind, boxed_call, boxed_do, boxed_end,
+    boxed_fix, boxed_if, boxed_return, boxed_save, boxed_seq, boxed_tail_call, copy_application,
+    copy_members, copy_operation, members_of, with_all,
 };
 use sch_sets::Set;
 use sch_word::{List, Mem};
@@ -53,51 +54,51 @@ fn restore<const N: usize>(
     match e {
         Exp::Do(o) => {
             let o = copy_operation(alloc, o)?;
-            boxed(alloc, Exp::Do(o))
+            boxed_do(alloc, o)
         }
         Exp::Bind(x, a, b) => {
             let a = restore(alloc, count, a, inside)?;
             let b = restore(alloc, count, b, inside)?;
-            boxed(alloc, Exp::Bind(*x, a, b))
+            boxed_bind(alloc, *x, a, b)
         }
         Exp::Seq(a, b) => {
             let a = restore(alloc, count, a, inside)?;
             let b = restore(alloc, count, b, inside)?;
-            boxed(alloc, Exp::Seq(a, b))
+            boxed_seq(alloc, a, b)
         }
         Exp::If(a, b, c) => {
             let a = restore(alloc, count, a, inside)?;
             let b = restore(alloc, count, b, inside)?;
             let c = restore(alloc, count, c, inside)?;
-            boxed(alloc, Exp::If(a, b, c))
+            boxed_if(alloc, a, b, c)
         }
         Exp::Fix(members, e) => {
             let members = copy_members(alloc, members)?;
             let e = restore(alloc, count, e, inside)?;
-            boxed(alloc, Exp::Fix(members, e))
+            boxed_fix(alloc, members, e)
         }
         Exp::Call(a, live) => {
             let a = copy_application(alloc, a)?;
             let r = restoring(alloc, count, live, inside)?;
-            boxed(alloc, Exp::Call(a, r))
+            boxed_call(alloc, a, r)
         }
         Exp::TailCall(a) => {
             let a = copy_application(alloc, a)?;
-            boxed(alloc, Exp::TailCall(a))
+            boxed_tail_call(alloc, a)
         }
         Exp::Return(e) => {
             let e = restore(alloc, count, e, inside)?;
-            boxed(alloc, Exp::Return(e))
+            boxed_return(alloc, e)
         }
         Exp::End(e) => {
             let e = restore(alloc, count, e, inside)?;
-            boxed(alloc, Exp::End(e))
+            boxed_end(alloc, e)
         }
         Exp::Save(saves, e) => {
             let within = with_all(inside, saves.as_slice());
             let saves = List::from_slice(alloc, saves.as_slice())?;
             let e = restore(alloc, count, e, &within)?;
-            boxed(alloc, Exp::Save(saves, e))
+            boxed_save(alloc, saves, e)
         }
     }
 }

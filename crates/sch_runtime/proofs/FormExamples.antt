@@ -4,10 +4,10 @@ use Rattle.std.specs.Prelude.{pos}
 use Rattle.sch_word.specs.runs.ProgramLayout.{data_address}
 use Rattle.sch_insn.specs.declared.condition.TheConstants.{E}
 use Rattle.sch_insn.specs.declared.insn.Arg.TheVariants.{Reg, Base}
-use Rattle.sch_insn.specs.declared.insn.Insn.TheVariants.{MovTo, MovFrom, MovNumber, StoreByte, AddNumber, JumpTo, Syscall}
-use Rattle.sch_insn.specs.declared.register.TheConstants.{RAX, RCX, RDX, RSI, RDI, R11, R15}
+use Rattle.sch_insn.specs.declared.insn.Insn.TheVariants.{MovTo, MovNumber, StoreByte, AddNumber, JumpTo, Syscall}
+use Rattle.sch_insn.specs.declared.register.TheConstants.{RAX, RDX, RSI, RDI, R11, R15}
 use Rattle.sch_asm.specs.declared.item.Item.{Item}
-use Rattle.sch_asm.specs.declared.item.Item.TheVariants.{Label, Plain, Jump, JumpIf, LoadLabel, LoadWord, StoreWord}
+use Rattle.sch_asm.specs.declared.item.Item.TheVariants.{Label, Plain, JumpIf, LoadLabel, LoadWord, StoreWord}
 use Rattle.sch_runtime.specs.Code.{exit_code, kept_r11, kept_rsi, routine_items}
 use Rattle.sch_runtime.specs.Form.{keeps_form}
 

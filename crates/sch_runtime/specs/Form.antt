@@ -11,7 +11,7 @@ use Rattle.sch_insn.specs.declared.insn.Insn.{Insn}
 use Rattle.sch_insn.specs.declared.insn.Insn.TheVariants as insn
 use Rattle.sch_insn.specs.declared.register.TheConstants.{RAX, R11}
 use Rattle.sch_asm.specs.declared.item.Item.{Item}
-use Rattle.sch_asm.specs.declared.item.Item.TheVariants.{Label, Plain, Jump, JumpIf, LoadLabel, LoadWord, StoreWord, Mark}
+use Rattle.sch_asm.specs.declared.item.Item.TheVariants.{Label, Plain, Jump, JumpIf, LoadLabel, LoadWord, StoreWord}
 use Rattle.sch_runtime.specs.Code.{statuses}
 
 -- ## Instructions: the operand that is written (SDM volume 2, the page of each mnemonic). A division writes RAX and RDX, and

@@ -4,7 +4,6 @@ ghost use Rattle.std.specs.Prelude.{◌≡◌, IfOk, OnOk, filter};
 ghost use Rattle.std.specs.FinSet as set;
 ghost use Rattle.sch_word.specs.trees.Bindings.{numbers};
 ghost use Rattle.sch_control.specs.Tree as tree;
-ghost use Rattle.sch_control.specs.flow.Live as flow;
 ghost use Rattle.sch_control.specs.flow.Middle.{listed};
 ghost use Rattle.sch_saves.specs.LazyRegions as lazily;
 ghost use Rattle.sch_saves.specs.SetsOfNeeds.{AreSavedBy};
@@ -12,11 +11,12 @@ ghost use Rattle.sch_saves.specs.SetsOfNeeds.{AreSavedBy};
 use crate::regions::with_region;
 use crate::variables::Variables;
 use sch_control::{
-    Application, Atom, Exp, Operand, Operation, boxed, copy_application, copy_members,
-    copy_operation, members_of,
+    Application, Exp, Operation, boxed_bind, boxed_call, boxed_do, boxed_end, boxed_fix, boxed_if,
+    boxed_return, boxed_seq, boxed_tail_call, copy_application, copy_members, copy_operation,
+    known, members_of,
 };
 use sch_sets::Set;
-use sch_word::{Const, Mem};
+use sch_word::Mem;
 use std::alloc::Global;
 
 /// What is live after a call on each path through an expression: on each that gives a value that counts as true, and on
@@ -79,17 +79,6 @@ impl<const N: usize> Needs<N> {
     }
 }
 
-// Whether the value of an operation is known to count as true, or to be `#f`.
-fn known(o: &Operation<u32>) -> Option<bool>
-    ensures { result ≡ flow.known o.now }
-{
-    match o {
-        Operation::Operand(Operand::Atom(Atom::Constant(Const::Boolean(b)))) => Some(*b),
-        Operation::Operand(Operand::Atom(Atom::Constant(_))) => Some(true),
-        _ => None,
-    }
-}
-
 // What an operation needs: nothing, or everything for a result that it does not have.
 fn of_operation<const N: usize>(variables: &Variables<N>, o: &Operation<u32>) -> Needs<N>
     ensures { AreSavedBy variables.now.count (tree.perform o.now) result.on_true result.on_false }
@@ -118,7 +107,7 @@ fn operation<const N: usize>(
 {
     *needs = of_operation(variables, o);
     let o = copy_operation(alloc, o)?;
-    boxed(alloc, Exp::Do(o))
+    boxed_do(alloc, o)
 }
 
 fn call<const N: usize>(
@@ -133,7 +122,7 @@ fn call<const N: usize>(
 {
     needs.set_both(&live.meet(&variables.all));
     let a = copy_application(alloc, a)?;
-    boxed(alloc, Exp::Call(a, live.copy()))
+    boxed_call(alloc, a, live.copy())
 }
 
 fn tail_call<const N: usize>(
@@ -146,7 +135,7 @@ fn tail_call<const N: usize>(
 {
     *needs = Needs::none();
     let a = copy_application(alloc, a)?;
-    boxed(alloc, Exp::TailCall(a))
+    boxed_tail_call(alloc, a)
 }
 
 /// A region round an expression of all that it needs.
@@ -181,13 +170,13 @@ pub(crate) fn with_needs<const N: usize>(
             let a = with_needs(alloc, variables, a, needs)?;
             let b = with_needs(alloc, variables, b, &mut next)?;
             needs.then(&next);
-            boxed(alloc, Exp::Bind(*x, a, b))
+            boxed_bind(alloc, *x, a, b)
         }
         Exp::Seq(a, b) => {
             let a = with_needs(alloc, variables, a, needs)?;
             let b = with_needs(alloc, variables, b, &mut next)?;
             needs.then(&next);
-            boxed(alloc, Exp::Seq(a, b))
+            boxed_seq(alloc, a, b)
         }
         Exp::If(a, b, c) => {
             let mut other = Needs::none();
@@ -197,12 +186,12 @@ pub(crate) fn with_needs<const N: usize>(
             let second = with_needs(alloc, variables, c, &mut other)?;
             let c = surround(alloc, variables, &other, second)?;
             needs.choose(&next, &other);
-            boxed(alloc, Exp::If(a, b, c))
+            boxed_if(alloc, a, b, c)
         }
         Exp::Fix(members, e) => {
             let members = copy_members(alloc, members)?;
             let e = with_needs(alloc, variables, e, needs)?;
-            boxed(alloc, Exp::Fix(members, e))
+            boxed_fix(alloc, members, e)
         }
         Exp::Call(a, live) => call(alloc, variables, a, live, needs),
         Exp::TailCall(a) => tail_call(alloc, a, needs),
@@ -210,13 +199,13 @@ pub(crate) fn with_needs<const N: usize>(
             let e = with_needs(alloc, variables, e, needs)?;
             let both = needs.both();
             needs.set_both(&both);
-            boxed(alloc, Exp::Return(e))
+            boxed_return(alloc, e)
         }
         Exp::End(e) => {
             let e = with_needs(alloc, variables, e, needs)?;
             let both = needs.both();
             needs.set_both(&both);
-            boxed(alloc, Exp::End(e))
+            boxed_end(alloc, e)
         }
         Exp::Save(_, e) => with_needs(alloc, variables, e, needs),
     }

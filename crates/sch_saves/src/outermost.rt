@@ -8,7 +8,9 @@ ghost use Rattle.sch_control.specs.flow.Regions.{SavesBelow};
 ghost use Rattle.sch_saves.specs.LazyRegions as lazily;
 
 use crate::regions::with_region;
-use sch_control::{Exp, boxed, with_all};
+use sch_control::{
+    Exp, boxed, boxed_bind, boxed_end, boxed_fix, boxed_if, boxed_return, boxed_seq, with_all,
+};
 use sch_sets::Set;
 use sch_word::{List, Mem};
 use std::alloc::Global;
@@ -50,30 +52,30 @@ pub(crate) fn outermost<const N: usize>(
         Exp::Bind(x, a, b) => {
             let a = outermost(alloc, a, inside)?;
             let b = outermost(alloc, b, inside)?;
-            boxed(alloc, Exp::Bind(x, a, b))
+            boxed_bind(alloc, x, a, b)
         }
         Exp::Seq(a, b) => {
             let a = outermost(alloc, a, inside)?;
             let b = outermost(alloc, b, inside)?;
-            boxed(alloc, Exp::Seq(a, b))
+            boxed_seq(alloc, a, b)
         }
         Exp::If(a, b, c) => {
             let a = outermost(alloc, a, inside)?;
             let b = outermost(alloc, b, inside)?;
             let c = outermost(alloc, c, inside)?;
-            boxed(alloc, Exp::If(a, b, c))
+            boxed_if(alloc, a, b, c)
         }
         Exp::Fix(members, e) => {
             let e = outermost(alloc, e, inside)?;
-            boxed(alloc, Exp::Fix(members, e))
+            boxed_fix(alloc, members, e)
         }
         Exp::Return(e) => {
             let e = outermost(alloc, e, inside)?;
-            boxed(alloc, Exp::Return(e))
+            boxed_return(alloc, e)
         }
         Exp::End(e) => {
             let e = outermost(alloc, e, inside)?;
-            boxed(alloc, Exp::End(e))
+            boxed_end(alloc, e)
         }
         Exp::Save(saves, e) => {
             let kept = others(alloc, inside, saves.as_slice())?;

@@ -4,7 +4,7 @@ ghost use Rattle.std.specs.Prelude.{◌≡◌, IfOk};
 ghost use Rattle.sch_control.specs.flow.Middle.{listed};
 ghost use Rattle.sch_saves.specs.LazyRegions.{round};
 
-use sch_control::{Exp, boxed};
+use sch_control::{Exp, boxed_save};
 use sch_sets::Set;
 use sch_word::{List, Mem};
 use std::alloc::Global;
@@ -20,6 +20,6 @@ pub(crate) fn with_region<const N: usize>(
     if saves.is_empty() {
         Ok(e)
     } else {
-        boxed(alloc, Exp::Save(saves, e))
+        boxed_save(alloc, saves, e)
     }
 }

@@ -5,7 +5,7 @@ use Rattle.std.specs.Prelude.{ℕ, nat_eq, Bool, true, false, ◌&&◌, not, Lis
 use Rattle.sch_word.specs.declared.mark.MarkKind.{MarkKind}
 use Rattle.sch_word.specs.declared.mark.MarkKind.TheVariants as mark
 use Rattle.sch_insn.specs.declared.insn.Arg.{Arg}
-use Rattle.sch_insn.specs.declared.insn.Arg.TheVariants.{Reg, Base, Base32}
+use Rattle.sch_insn.specs.declared.insn.Arg.TheVariants.{Reg, Base, Base8, Base32}
 use Rattle.sch_insn.specs.declared.insn.Insn.{Insn}
 use Rattle.sch_insn.specs.declared.insn.Insn.TheVariants as insn
 use Rattle.sch_insn.specs.declared.register.TheConstants.{RDX, RBP, R14, R15}
@@ -16,6 +16,7 @@ use Rattle.sch_asm.specs.declared.item.Item.TheVariants as item
 
 abbrev pub has_base : (base : ℕ) → Arg → Bool
 has_base base (Base b) = nat_eq b base
+has_base base (Base8 b d) = nat_eq b base
 has_base base (Base32 b d) = nat_eq b base
 has_base base _ = false
 
@@ -30,10 +31,15 @@ writes_at base (insn.AndTo m r) = has_base base m
 writes_at base (insn.SubTo m r) = has_base base m
 writes_at base (insn.XorTo m r) = has_base base m
 writes_at base (insn.AddNumber m n) = has_base base m
+writes_at base (insn.AddNumber8 m n) = has_base base m
 writes_at base (insn.OrNumber m n) = has_base base m
+writes_at base (insn.OrNumber8 m n) = has_base base m
 writes_at base (insn.AndNumber m n) = has_base base m
+writes_at base (insn.AndNumber8 m n) = has_base base m
 writes_at base (insn.SubNumber m n) = has_base base m
+writes_at base (insn.SubNumber8 m n) = has_base base m
 writes_at base (insn.XorNumber m n) = has_base base m
+writes_at base (insn.XorNumber8 m n) = has_base base m
 writes_at base (insn.Neg m) = has_base base m
 writes_at base (insn.Shl m k) = has_base base m
 writes_at base (insn.Shr m k) = has_base base m

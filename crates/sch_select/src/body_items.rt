@@ -1,6 +1,6 @@
 //! The items of bodies.
 
-ghost use Rattle.std.specs.Prelude.{◌≡◌, ◌+◌, ◌^◌, ◌<◌, ◌≤◌, ◌++◌, ◌∷◌, IfOk, IsTrue, OnOk, List};
+ghost use Rattle.std.specs.Prelude.{◌≡◌, ◌+◌, ◌<◌, ◌≤◌, ◌++◌, ◌∷◌, IfOk, IsTrue, OnOk, List};
 ghost use Rattle.std.specs.List.{list_all};
 ghost use Rattle.sch_word.specs.trees.Shape.{max_operands};
 ghost use Rattle.sch_frames.specs.Valid.{max_words};
@@ -10,7 +10,7 @@ ghost use Rattle.sch_insn.specs.declared.insn.Insn.TheVariants.{MovTo};
 ghost use Rattle.sch_frames.specs.SourceView.{codes_of, code_of};
 ghost use Rattle.sch_select.specs.Select.{all_labels_needed, labels_needed, operand_needs, operation_needs};
 ghost use Rattle.sch_select.specs.Select.{body_code, copy_insn, instruction_code};
-ghost use Rattle.sch_select_memory.specs.Addresses.{place_operand};
+ghost use Rattle.sch_select_memory.specs.Addresses.{max_heap_end, place_operand};
 ghost use Rattle.sch_select_memory.specs.Reach.{is_reached_place};
 ghost use Rattle.sch_select.specs.Reach.{is_reached_code, is_reached_entry, is_reached_instruction};
 ghost use Rattle.sch_select.specs.Program.{count_code, entry_code, form_code, forms_code, labels_end, passed_code};
@@ -62,7 +62,7 @@ fn store(out: &mut List<Item>, p: Place) -> Result<(), Mem>
 /// One instruction, whose own labels are from n on.
 fn instruction(out: &mut List<Item>, labels: Labels, n: u32, i: &Instruction) -> Result<(), Mem>
     requires words { labels.words ≤ max_words }
-    requires low { labels.heap_end < 2 ^ 31 }
+    requires low { labels.heap_end ≤ max_heap_end }
     requires reached { IsTrue (is_reached_instruction i.now) }
     ensures { OnOk result ((rest : List Item) → out.new ++ rest
         ≡ out.old ++ instruction_code labels.base labels.end labels.words labels.heap_end labels.literals n i.now rest) }
@@ -137,7 +137,7 @@ fn body(
     instructions: &[Instruction],
 ) -> Result<u32, Mem>
     requires words { labels.words ≤ max_words }
-    requires low { labels.heap_end < 2 ^ 31 }
+    requires low { labels.heap_end ≤ max_heap_end }
     requires reached { IsTrue (list_all is_reached_instruction instructions.now) }
     ensures items { OnOk result ((rest : List Item) → out.new ++ rest
         ≡ out.old ++ body_code labels.base labels.end labels.words labels.heap_end labels.literals n instructions.now rest) }
@@ -195,7 +195,7 @@ fn check_entry(out: &mut List<Item>, entry: &Option<Entry>, n: u32) -> Result<()
 /// The body of a label, with labels of its own from n on, and the number behind these.
 fn form(out: &mut List<Item>, frames: Frames, label: u32, n: u32, b: &FrameBody) -> Result<u32, Mem>
     requires words { frames.words ≤ max_words }
-    requires low { frames.heap_end < 2 ^ 31 }
+    requires low { frames.heap_end ≤ max_heap_end }
     requires reached { IsTrue (is_reached_code (code_of b.now)) }
     ensures items { OnOk result ((rest : List Item) → out.new ++ rest
         ≡ out.old ++ form_code frames.words frames.heap_end frames.literals label n (code_of b.now) rest) }
@@ -229,7 +229,7 @@ pub(crate) fn forms(
     bodies: &[FrameBody],
 ) -> Result<(), Mem>
     requires words { frames.words ≤ max_words }
-    requires low { frames.heap_end < 2 ^ 31 }
+    requires low { frames.heap_end ≤ max_heap_end }
     requires reached { IsTrue (list_all is_reached_code (codes_of bodies.now)) }
     ensures { OnOk result ((rest : List Item) → out.new ++ rest
         ≡ out.old ++ forms_code frames.words frames.heap_end frames.literals 0 n (codes_of bodies.now) rest) }

@@ -21,6 +21,7 @@ ghost use Rattle.sch_select.specs.Reach.{is_reached_code};
 ghost use Rattle.sch_select_data.specs.Data.{heap_of, max_heap_address};
 ghost use Rattle.sch_select.specs.Program.{frames_bytes, laid_code, max_data, max_stack, own_label, program_code, program_zeros, forms_code};
 ghost use Rattle.sch_select.specs.Program.{stack_bytes};
+ghost use Rattle.sch_select_memory.specs.Addresses.{max_heap_end};
 ghost use Rattle.sch_select_memory.specs.OwnCode.{own_code};
 ghost use Rattle.sch_select.specs.MarkedStores.{stores_marked};
 ghost use Rattle.sch_select.specs.Sizes.{instructions_in, kinds_in, kinds_of, steps_size};
@@ -36,9 +37,6 @@ use sch_select_memory::own_routines;
 use sch_word::{Limits, List, Mem};
 use std::alloc::Global;
 
-// The last address at which the heap may begin.
-const MAX_HEAP_ADDRESS: u64 = 0x3FFF_FFF0;
-
 /// The bytes of the stack.
 fn stack_of(words: u32, depth: u64) -> u64
     requires words { words ≤ max_words }
@@ -50,20 +48,13 @@ fn stack_of(words: u32, depth: u64) -> u64
     frame * depth + 2 * frame
 }
 
-/// Where the heap begins, behind objects from a unit on that take this many words. Past `MAX_HEAP_ADDRESS` it is out of
-/// memory, so that addresses below the stack are numbers of 31 bits.
-fn heap_behind(unit: u64, words: usize) -> Result<u64, Mem>
-    requires low { 16 * unit ≤ 2 ^ 31 }
-    requires few { words ≤ 2 ^ 31 }
-    ensures start { IfOk result (λ heap. heap ≡ 16 * unit + 8 * words) }
-    ensures low { IfOk result (λ heap. heap ≤ max_heap_address) }
+/// Where the heap begins, behind objects from a unit on that take this many words.
+fn heap_behind(unit: u64, words: usize) -> u64
+    requires low { 16 * unit + 8 * words ≤ max_heap_address }
+    ensures start { result ≡ 16 * unit + 8 * words }
+    ensures low { result ≤ max_heap_address }
 {
-    let heap = 16 * unit + 8 * words as u64;
-    if heap <= MAX_HEAP_ADDRESS {
-        Ok(heap)
-    } else {
-        Err(Mem)
-    }
+    16 * unit + 8 * words as u64
 }
 
 /// Where the heap and the stack begin, with this depth.
@@ -82,7 +73,7 @@ fn put_bodies(
     bodies: &[FrameBody],
 ) -> Result<(), Mem>
     requires words { frames.words ≤ max_words }
-    requires low { frames.heap_end < 2 ^ 31 }
+    requires low { frames.heap_end ≤ max_heap_end }
     requires reached { IsTrue (list_all is_reached_code (codes_of bodies.now)) }
     ensures { OnOk result (items.new ≡ items.old ++ forms_code frames.words frames.heap_end frames.literals 0 n
         (codes_of bodies.now) (item.Jump (label_of routine.End) ∷ own_code frames.heap_end)) }
@@ -95,7 +86,7 @@ fn put_bodies(
 /// The items of a program whose heap and stack begin so.
 fn items_of(alloc: Global, p: &FrameProgram, ends: Ends) -> Result<List<Item>, Mem>
     requires heap { ends.heap < 2 ^ 31 }
-    requires stack { ends.stack < 2 ^ 31 }
+    requires stack { ends.stack ≤ max_heap_end }
     requires depth { ends.depth ≤ MAX_DEPTH }
     requires reached { IsTrue (list_all is_reached_code (codes_of p.now.bodies)) }
     requires few { length p.now.statics.literals ≤ max_statics }
@@ -128,8 +119,8 @@ fn items_of(alloc: Global, p: &FrameProgram, ends: Ends) -> Result<List<Item>, M
 /// Resolved with the run-time routines, they do what the program does, whatever the machine is given and
 /// whatever the kernel answers, and pass the program's marks. No call spreads its last operand. The frames of a form
 /// and of the calls that may be pending take at most 2^30 bytes. Time and memory are linear in the
-/// instructions, the labels, what is static and the library. It is out of memory also where what is static would reach
-/// past the last address at which the heap may begin, and where a label would be past the numbers of 32 bits.
+/// instructions, the labels, what is static and the library. It is out of memory also where a label would be past the
+/// numbers of 32 bits.
 pub fn select(alloc: Global, p: &FrameProgram, limits: Limits) -> Result<Asm, Mem>
     requires covered { IsTrue (is_covered_program (source p.now)) }
     requires stack { frames_bytes p.now.words limits.depth ≤ max_stack }
@@ -157,7 +148,7 @@ pub fn select(alloc: Global, p: &FrameProgram, limits: Limits) -> Result<Asm, Me
     let zeros = limits.heap + stack_of(p.words, limits.depth);
     let places = lay_out(&p.statics, p.library.len() as u64);
     let literals = literal_words(alloc, &p.statics.literals, places.unit)?;
-    let heap = heap_behind(places.unit, literals.objects.len())?;
+    let heap = heap_behind(places.unit, literals.objects.len());
     let ends = Ends {
         heap,
         stack: (heap + limits.heap) as u32,

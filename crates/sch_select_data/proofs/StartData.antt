@@ -9,7 +9,7 @@ use Rattle.std.proofs.lemmas.Bool.{and_parts, ltb-true, ne_eqb}
 use Rattle.std.proofs.lemmas.List.{length-map, length-replicate}
 use Rattle.std.proofs.lemmas.Option.{slice_get-map}
 use Rattle.sch_word.specs.values.Values.{Value, Object, pair, vector, string}
-use Rattle.sch_word.specs.values.Literals.{Literals, no_literals, and_literal, count_literals, literal_values, objects_of_each}
+use Rattle.sch_word.specs.values.Literals.{Literals, count_literals, literal_values, objects_of_each}
 use Rattle.sch_word.specs.values.Literals.{literals_known, literals_in_range}
 use Rattle.sch_word.specs.runs.Runs.{Statics, library_known, starting_value}
 use Rattle.sch_control.specs.Operations.{Procedure}
@@ -24,12 +24,12 @@ use Rattle.sch_select_memory.specs.Heap.{RecordAt, HeapAt, AreNew}
 use Rattle.sch_select_memory.proofs.heap.Encodings.{fits}
 use Rattle.sch_select_memory.proofs.heap.Spots.{units_append}
 use Rattle.sch_select_data.specs.ObjectParts.{object_parts, parts_at, have_no_object, AreSpotted}
-use Rattle.sch_select_data.specs.ObjectWords.{value_word, object_contents, objects_contents}
+use Rattle.sch_select_data.specs.ObjectWords.{value_word}
 use Rattle.sch_select_data.specs.PlacedWords.{units_in_each, placed_values, placed_each}
 use Rattle.sch_select_data.proofs.literals.ObjectSpots.{spotted_behind}
 use Rattle.sch_select_data.proofs.literals.ObjectsThere.{AreThere, objects_there}
 use Rattle.sch_select_data.proofs.literals.PlacedLiterals.{placed_objects, placed_literals}
-use Rattle.sch_select_data.proofs.literals.Sizes.{contents_length, each_units, objects_contents_length}
+use Rattle.sch_select_data.proofs.literals.Sizes.{each_units, objects_contents_length}
 use Rattle.sch_select_data.proofs.literals.WordBytes.{word_bytes}
 use Rattle.sch_select_data.proofs.literals.PutSteps.{placed_values_length}
 use Rattle.sch_select_memory.specs.Addresses.{body_label, globals_address, global_address, literal_address}

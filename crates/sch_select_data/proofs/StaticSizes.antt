@@ -2,6 +2,7 @@
 use Rattle.std.proofs.Common.{◌≡◌, ℕ, ◌+◌, ◌*◌, ◌≤◌, List, [], ◌∷◌, length, ap, ◌∙◌, arith}
 use Rattle.std.proofs.lemmas.List.{length-map}
 use Rattle.sch_word.specs.declared.statics.Statics as declared
+use Rattle.sch_word.specs.trees.Shape.{max_library}
 use Rattle.sch_word.specs.values.Literals.{Literal, Literals, constant, text, list, elements, no_literals, and_literal, count_literals, literal_size, literals_size}
 use Rattle.sch_word.specs.values.StaticsView.{statics}
 use Rattle.sch_word.specs.runs.Runs.{Statics, names_size, statics_size, max_statics}
@@ -13,9 +14,9 @@ use Rattle.sch_select_data.specs.ObjectWords.{objects_contents, objects_words}
 use Rattle.sch_select_data.specs.PlacedWords.{units_in_each}
 use Rattle.sch_select_data.proofs.literals.PlacedLiterals.{placed_objects}
 use Rattle.sch_select_data.proofs.literals.Rows.{count_rows}
-use Rattle.sch_select_data.proofs.literals.Sizes.{units_bound}
+use Rattle.sch_select_data.proofs.literals.Sizes.{each_bound}
 use Rattle.sch_select_memory.specs.Addresses.{names_address}
-use Rattle.sch_select_data.specs.Data.{static_count, closures_unit, objects_unit, heap_address}
+use Rattle.sch_select_data.specs.Data.{static_count, closures_unit, objects_unit, heap_address, max_heap_address}
 use Rattle.sch_select_data.specs.NameWords.{names_count, symbols_count}
 use Rattle.sch_select_data.proofs.StartData.{objects_count}
 
@@ -74,14 +75,6 @@ made_count ls unit words e =
     ap length e ∙ length-map (objects_contents (parts_at unit (objects_of_each ls 0)) (objects_of_each ls 0)) Fixed
     ∙ ap length (placed_objects unit ls) ∙ objects_count ls unit
 
-pub made_few : (s : Statics) → statics_size s ≤ max_statics → (unit : ℕ) (words : List Word)
-    → words ≡ objects_words (parts_at unit (objects_of_each s.literals 0)) (objects_of_each s.literals 0) → (count : ℕ)
-    → count ≡ length words → count ≤ 2147483648
-made_few s few unit words e count i =
-    let n = made_count s.literals unit words e in
-    let b = units_bound s.literals in
-    omega (arith, few, i, n, b)
-
 pub made_heap : (s : Statics) (library unit : ℕ) (words : List Word) (count : ℕ)
     → words ≡ objects_words (parts_at unit (objects_of_each s.literals 0)) (objects_of_each s.literals 0) → (heap : ℕ)
     → count ≡ length words → unit ≡ objects_unit (static_count s) library → heap ≡ 16 * unit + 8 * count
@@ -93,6 +86,18 @@ made_heap s library unit words count e heap i u h =
     ends_at_by : (at units unit words count heap : ℕ) → words ≡ 2 * units → count ≡ words → unit ≡ at → heap ≡ 16 * unit + 8 * count
         → heap ≡ 16 * (at + units)
     ends_at_by at units unit words count heap a b c d = omega (arith, a, b, c, d)
+
+-- no heap begins later
+heap_by : (literals globals symbols size units names library : ℕ) → units + literals ≤ 2 * size → symbols ≤ 2 * names
+    → names + size + globals ≤ max_statics → library ≤ max_library
+    → heap_address (literals + (globals + symbols)) library units ≤ max_heap_address
+heap_by literals globals symbols size units names library u s few lib = omega (arith, u, s, few, lib)
+
+pub heap_low : (s : Statics) (library : ℕ) → statics_size s ≤ max_statics → library ≤ max_library
+    → heap_address (static_count s) library (units_in_each s.literals) ≤ max_heap_address
+heap_low s library few lib =
+    heap_by (count_literals s.literals) (length s.globals) (symbols_count s.symbols) (literals_size s.literals)
+    (units_in_each s.literals) (names_size s.symbols) library (each_bound s.literals) (symbols_bound s.symbols) few lib
 
 -- the addresses of names end in front of the closures
 pub names_below : (s : declared.Statics) (names closures : ℕ) → names ≡ names_address (length s.literals) (length s.globals)

@@ -41,9 +41,10 @@ closures_of p = 16 * closures_unit (static_count p.statics)
 abbrev pub heap_of : Source → ℕ
 heap_of p = heap_address (static_count p.statics) (length p.library) (units_in_each p.statics.literals)
 
--- the last address at which the heap may begin, so that those below the stack are numbers of 31 bits (the project's own)
+-- The last address at which the heap of a program may begin: what is static takes 32 bytes for each node and byte at most,
+-- and the library's procedures take 16 each.
 abbrev pub max_heap_address : ℕ
-max_heap_address = 0x3FFFFFF0
+max_heap_address = 0x49000340
 
 -- ## Words
 

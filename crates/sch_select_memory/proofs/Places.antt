@@ -29,7 +29,7 @@ use Rattle.sch_select_memory.specs.Encoded.{IsWord, IsHeld, Words}
 use Rattle.sch_select_memory.specs.Heap.{HeapAt, AreNew}
 use Rattle.sch_select_memory.proofs.heap.Ranges.{BytesStay, word_stays, piece_beside}
 use Rattle.sch_select_memory.proofs.heap.Contents.{heap_kept, held_words}
-use Rattle.sch_select_memory.specs.Addresses.{place_operand, table_address, literal_address, global_address}
+use Rattle.sch_select_memory.specs.Addresses.{max_heap_end, place_operand, table_address, literal_address, global_address}
 use Rattle.sch_select_memory.specs.Addresses.{names_address, body_label}
 use Rattle.sch_select_memory.specs.Names.{AreNamed}
 use Rattle.sch_select_memory.proofs.heap.Encodings.{fits}
@@ -56,7 +56,7 @@ pub record Plan : Type 0 where
   pub closures_low : names_address literals globals + length names ≤ closures
   pub heap_low : closures ≤ heap
   pub stack_low : heap ≤ stack
-  pub near : stack < 2 ^ 31
+  pub near : stack ≤ max_heap_end
   pub small : 0x10000000 + size < 2 ^ 63
   pub narrow : words ≤ 2048
   pub labels : (l : ℕ) → setting.place_of l < 2 ^ 64

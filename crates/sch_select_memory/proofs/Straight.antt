@@ -1,8 +1,8 @@
 -- From one place of a text to another by instructions without memory: checks, tests and their ends.
-use Rattle.std.proofs.Common.{◌≡◌, ℕ, ◌+◌, ◌^◌, ◌<◌, ◌≤◌, ◌%◌, List, [], ◌∷◌, Bool, true, false, cond, Some, refl}
+use Rattle.std.proofs.Common.{◌≡◌, ℕ, ◌+◌, ◌-◌, ◌^◌, ◌<◌, ◌≤◌, ◌%◌, List, [], ◌∷◌, Bool, true, false, cond, Some, refl}
 use Rattle.std.proofs.Common.{sym, ap, ◌∙◌, subst, arith, ◌==◌, ◌||◌, eq-eqb}
-use Rattle.std.specs.Prelude.{ℤ, pos, not, bit_and}
-use Rattle.std.proofs.lemmas.Bool.{ne_eqb}
+use Rattle.std.specs.Prelude.{ℤ, pos, not, bit_and, nat_le}
+use Rattle.std.proofs.lemmas.Bool.{le-leb, leb-false, leb-true, lt-leb, ne_eqb}
 use Rattle.sch_word.specs.declared.stop.Stop.{Stop}
 use Rattle.sch_word.specs.declared.stop.Stop.TheVariants.{WrongType, Overflow}
 use Rattle.sch_word.specs.values.Fixnum.{is_fixnum}
@@ -379,3 +379,11 @@ module _ (setting : Setting) where
             few = omega arith;
           },
         )
+
+-- numbers are compared by their offsets from one that neither is below
+pub offset_compared : (a b from : ℕ) → from ≤ a → from ≤ b → nat_le (a - from) (b - from) ≡ nat_le a b
+offset_compared a b from low low' = by (nat_le a b) refl
+  where
+    by : (t : Bool) → nat_le a b ≡ t → nat_le (a - from) (b - from) ≡ nat_le a b
+    by true e = le-leb (a - from) (b - from) (let l = leb-true a b e in omega (arith, l, low, low')) ∙ sym e
+    by false e = lt-leb (a - from) (b - from) (let l = leb-false a b e in omega (arith, l, low, low')) ∙ sym e

@@ -1,8 +1,9 @@
 -- Where a program's data lie, the labels of its code, and places as operands.
-use Rattle.std.specs.Prelude.{ℕ, ◌+◌, ◌*◌, pos}
+use Rattle.std.specs.Prelude.{ℕ, ◌+◌, ◌-◌, ◌*◌, pos}
 use Rattle.sch_word.specs.declared.place.Place.{Place}
 use Rattle.sch_word.specs.declared.place.Place.TheVariants as place
 use Rattle.sch_word.specs.declared.stop.Stop.{Stop}
+use Rattle.sch_word.specs.runs.ProgramLayout.{data_address}
 use Rattle.sch_insn.specs.declared.insn.Arg.{Arg}
 use Rattle.sch_insn.specs.declared.insn.Arg.TheVariants.{Reg, Base32}
 use Rattle.sch_insn.specs.declared.register.TheConstants.{RBP, R12}
@@ -40,6 +41,15 @@ global_address literals g = globals_address literals + 8 * g
 -- the names of symbols stand behind the globals
 abbrev pub names_address : (literals globals : ℕ) → ℕ
 names_address literals globals = globals_address literals + 8 * globals
+
+-- ## The end of the heap
+
+-- Items test the end of the heap by its offset from where the data begin, which is a number of 31 bits.
+abbrev pub max_heap_end : ℕ
+max_heap_end = data_address + 0x7FFFFFFF
+
+abbrev pub heap_offset : (heap_end : ℕ) → ℕ
+heap_offset heap_end = heap_end - data_address
 
 -- ## Labels
 

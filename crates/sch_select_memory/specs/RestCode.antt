@@ -1,6 +1,7 @@
 -- The items of a procedure with a rest variable (R5RS 4.1.4) before its body, and the program's own routine that makes
 -- the list of the operands that are left over. A pair begins where R12 has it, and the pairs stand one behind the other.
 use Rattle.std.specs.Prelude.{ℕ, suc, ◌+◌, ◌-◌, ◌*◌, Bool, true, false, nat_lt, List, [], ◌∷◌, drop, pos}
+use Rattle.sch_word.specs.runs.ProgramLayout.{data_address}
 use Rattle.sch_word.specs.values.Registers.{argument_registers}
 use Rattle.sch_word.specs.declared.stop.Stop.TheVariants.{WrongCount, HeapLimit}
 use Rattle.sch_insn.specs.declared.condition.TheConstants.{B, E, NE, A}
@@ -12,7 +13,7 @@ use Rattle.sch_insn.specs.declared.register.TheConstants.{RAX, RCX, RDX, RBP, R1
 use Rattle.sch_asm.specs.declared.item.Item.{Item}
 use Rattle.sch_asm.specs.declared.item.Item.TheVariants.{Label, Plain, Jump, JumpIf, LoadLabel}
 use Rattle.sch_select_memory.specs.Encoded.{nil_word, pair_tag}
-use Rattle.sch_select_memory.specs.Addresses.{stop_label, part_operand}
+use Rattle.sch_select_memory.specs.Addresses.{heap_offset, stop_label, part_operand}
 
 -- ## Labels of the routine, below those of bodies
 
@@ -47,7 +48,8 @@ slot_operand = Base32 RCX (pos 0)
 abbrev pub check_pairs : (heap_end : ℕ) → List Item → List Item
 check_pairs heap_end rest =
     Plain (MovTo (Reg RDX) RAX) ∷ (Plain (Shl (Reg RDX) 4) ∷ (Plain (AddTo (Reg RDX) R12) ∷
-    (Plain (CmpNumber (Reg RDX) (pos heap_end)) ∷ (JumpIf A (stop_label HeapLimit) ∷ rest))))
+    (Plain (SubNumber (Reg RDX) (pos data_address))
+    ∷ (Plain (CmpNumber (Reg RDX) (pos (heap_offset heap_end))) ∷ (JumpIf A (stop_label HeapLimit) ∷ rest)))))
 
 -- the pair is the last one where its operand is
 abbrev pub one_less : List Item → List Item

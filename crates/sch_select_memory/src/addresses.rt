@@ -1,13 +1,13 @@
 //! Labels, addresses and immediates.
 
-ghost use Rattle.std.specs.Prelude.{◌≡◌, ◌*◌, ◌^◌, ◌<◌, IfOk, IsTrue, pos};
-ghost use Rattle.sch_select_memory.specs.Addresses.{body_label, global_address, literal_address, part_operand, place_operand, stop_label};
+ghost use Rattle.std.specs.Prelude.{◌≡◌, ◌*◌, ◌^◌, ◌<◌, ◌≤◌, IfOk, IsTrue, pos};
+ghost use Rattle.sch_select_memory.specs.Addresses.{body_label, global_address, heap_offset, literal_address, max_heap_end, part_operand, place_operand, stop_label};
 ghost use Rattle.sch_select_memory.specs.Reach.{is_reached_place, max_slots};
 
 use sch_asm::Routine;
 use sch_insn::Arg;
 use sch_insn::register::{R12, RBP};
-use sch_word::{Mem, Place, Stop, add_numbers};
+use sch_word::{DATA_ADDRESS, Mem, Place, Stop, add_numbers};
 
 /// Where the address of the names of symbols stands in the data.
 pub const TABLE_ADDRESS: u64 = 0x1000_0320;
@@ -23,6 +23,9 @@ pub const VECTOR_LABEL: u32 = 1040;
 
 /// The label of the routine that makes a string.
 pub const STRING_LABEL: u32 = 1041;
+
+/// Where the data begin, as an immediate.
+pub(crate) const DATA_OFFSET: i32 = DATA_ADDRESS as i32;
 
 /// The labels of bodies are numbered from here on.
 const FIRST_LABEL: u32 = 1088;
@@ -47,6 +50,14 @@ pub fn immediate(n: u32) -> i32
     ensures { result ≡ pos n }
 {
     n as i32
+}
+
+/// The end of the heap as an immediate: its offset from where the data begin.
+pub fn heap_offset(heap_end: u32) -> i32
+    requires { heap_end ≤ max_heap_end }
+    ensures { result ≡ pos (heap_offset heap_end) }
+{
+    heap_end.saturating_sub(DATA_ADDRESS as u32) as i32
 }
 
 /// The bytes of the slots before one, as an immediate or a displacement.

@@ -1,23 +1,23 @@
 //! The routine that makes strings.
 
-ghost use Rattle.std.specs.Prelude.{◌≡◌, ◌^◌, ◌<◌, ◌++◌, OnOk, List};
+ghost use Rattle.std.specs.Prelude.{◌≡◌, ◌≤◌, ◌++◌, OnOk, List};
+ghost use Rattle.sch_select_memory.specs.Addresses.{max_heap_end};
 ghost use Rattle.sch_asm.specs.declared.item.Item.{Item};
-ghost use Rattle.sch_select_memory.specs.MakeCode.{make_string_code};
+ghost use Rattle.sch_select_memory.specs.MakeCode.{check_filling, make_string_code};
 
-use crate::addresses::{immediate, stop};
+use crate::addresses::stop;
+use crate::new_vector::check_room;
 use crate::value_words::word::{BYTE_MASK, CHARACTER, CHARACTER_SHIFT, FIXNUM_SHIFT, TAG_MASK};
 use sch_asm::{Item, Routine};
-use sch_insn::condition::{A, L, NE};
+use sch_insn::condition::{L, NE};
 use sch_insn::register::{R12, RAX, RCX, RDX};
 use sch_insn::{Arg, Insn};
 use sch_word::{List, Mem, Stop};
 
-/// The routine that makes a string, but for its tag. It returns through R11.
-pub(crate) fn string_routine(out: &mut List<Item>, heap_end: u32) -> Result<(), Mem>
-    requires { heap_end < 2 ^ 31 }
-    ensures { OnOk result ((rest : List Item) → out.new ++ rest ≡ out.old ++ make_string_code heap_end rest) }
+/// RAX has a length and RCX a character, or the program stops.
+fn check_filling(out: &mut List<Item>) -> Result<(), Mem>
+    ensures { OnOk result ((rest : List Item) → out.new ++ rest ≡ out.old ++ check_filling rest) }
 {
-    let end = immediate(heap_end);
     out.extend_from_slice(&[
         Item::Plain(Insn::MovTo(Arg::Reg(RDX), RAX)),
         Item::Plain(Insn::AndNumber(Arg::Reg(RDX), TAG_MASK)),
@@ -28,14 +28,24 @@ pub(crate) fn string_routine(out: &mut List<Item>, heap_end: u32) -> Result<(), 
         Item::JumpIf(NE, stop(Stop::WrongType)),
         Item::Plain(Insn::CmpNumber(Arg::Reg(RAX), 0)),
         Item::JumpIf(L, stop(Stop::OutOfRange)),
+    ])
+}
+
+/// The routine that makes a string, but for its tag. It returns through R11.
+pub(crate) fn string_routine(out: &mut List<Item>, heap_end: u32) -> Result<(), Mem>
+    requires { heap_end ≤ max_heap_end }
+    ensures { OnOk result ((rest : List Item) → out.new ++ rest ≡ out.old ++ make_string_code heap_end rest) }
+{
+    check_filling(out)?;
+    out.extend_from_slice(&[
         Item::Plain(Insn::MovTo(Arg::Reg(RDX), RAX)),
         Item::Plain(Insn::Shr(Arg::Reg(RDX), FIXNUM_SHIFT)),
         Item::Plain(Insn::AddNumber(Arg::Reg(RDX), 23)),
         Item::Plain(Insn::Shr(Arg::Reg(RDX), 4)),
         Item::Plain(Insn::Shl(Arg::Reg(RDX), 4)),
-        Item::Plain(Insn::AddTo(Arg::Reg(RDX), R12)),
-        Item::Plain(Insn::CmpNumber(Arg::Reg(RDX), end)),
-        Item::JumpIf(A, stop(Stop::HeapLimit)),
+    ])?;
+    check_room(out, heap_end)?;
+    out.extend_from_slice(&[
         Item::Plain(Insn::MovTo(Arg::Base32(R12, 0), RAX)),
         Item::Plain(Insn::Shr(Arg::Reg(RCX), CHARACTER_SHIFT)),
         Item::Plain(Insn::MovTo(Arg::Reg(RDX), RAX)),

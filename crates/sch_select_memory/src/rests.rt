@@ -1,14 +1,15 @@
 //! The items of procedures with a rest variable, and the routine that makes the list of the operands left over.
 
-ghost use Rattle.std.specs.Prelude.{◌≡◌, ◌^◌, ◌<◌, ◌≤◌, ◌++◌, ◌∷◌, OnOk, List, nat_lt};
+ghost use Rattle.std.specs.Prelude.{◌≡◌, ◌<◌, ◌≤◌, ◌++◌, ◌∷◌, OnOk, List, nat_lt};
 ghost use Rattle.sch_word.specs.trees.Shape.{max_operands};
 ghost use Rattle.sch_word.specs.values.Registers.{argument_registers};
+ghost use Rattle.sch_select_memory.specs.Addresses.{max_heap_end};
 ghost use Rattle.sch_asm.specs.declared.item.Item.{Item};
 ghost use Rattle.sch_asm.specs.declared.item.Item.TheVariants as item;
 ghost use Rattle.sch_select_memory.specs.RestCode.{check_enough, check_pairs, first_code, first_slot_code, firsts_code, later_registers};
 ghost use Rattle.sch_select_memory.specs.RestCode.{list_code, list_label, more_code, registers_code, rest_entry, rest_routine, slots_code};
 
-use crate::addresses::{immediate, slot_bytes, stop};
+use crate::addresses::{DATA_OFFSET, heap_offset, immediate, slot_bytes, stop};
 use crate::value_words::word::{NIL, PAIR};
 use sch_asm::Item;
 use sch_insn::condition::{A, B, E, NE};
@@ -31,17 +32,18 @@ const DONE_LABEL: u32 = 1081;
 
 /// A way into the routine: the heap has a pair for each operand that is left.
 fn check_list(out: &mut List<Item>, m: u32, heap_end: u32) -> Result<(), Mem>
-    requires low { heap_end < 2 ^ 31 }
+    requires low { heap_end ≤ max_heap_end }
     requires few { m ≤ 6 }
     ensures { OnOk result ((rest : List Item) → out.new ++ rest
         ≡ out.old ++ item.Label (list_label m) ∷ check_pairs heap_end rest) }
 {
-    let end = immediate(heap_end);
+    let end = heap_offset(heap_end);
     out.extend_from_slice(&[
         Item::Label(LIST_LABEL + m),
         Item::Plain(Insn::MovTo(Arg::Reg(RDX), RAX)),
         Item::Plain(Insn::Shl(Arg::Reg(RDX), 4)),
         Item::Plain(Insn::AddTo(Arg::Reg(RDX), R12)),
+        Item::Plain(Insn::SubNumber(Arg::Reg(RDX), DATA_OFFSET)),
         Item::Plain(Insn::CmpNumber(Arg::Reg(RDX), end)),
         Item::JumpIf(A, stop(Stop::HeapLimit)),
     ])
@@ -68,7 +70,7 @@ fn first_register(out: &mut List<Item>, m: u32, r: u8) -> Result<(), Mem>
 
 /// The same, with the room of the heap looked at.
 fn first_list(out: &mut List<Item>, heap_end: u32, m: u32, r: u8) -> Result<(), Mem>
-    requires low { heap_end < 2 ^ 31 }
+    requires low { heap_end ≤ max_heap_end }
     requires few { m ≤ 5 }
     ensures { OnOk result ((rest : List Item) → out.new ++ rest
         ≡ out.old ++ item.Label (list_label m) ∷ check_pairs heap_end (first_code m r rest)) }
@@ -79,7 +81,7 @@ fn first_list(out: &mut List<Item>, heap_end: u32, m: u32, r: u8) -> Result<(), 
 
 /// The six ways into the routine with the first operand in a register.
 fn first_lists(out: &mut List<Item>, heap_end: u32) -> Result<(), Mem>
-    requires { heap_end < 2 ^ 31 }
+    requires { heap_end ≤ max_heap_end }
     ensures { OnOk result ((rest : List Item) → out.new ++ rest ≡ out.old ++ firsts_code heap_end 0 argument_registers rest) }
 {
     first_list(out, heap_end, 0, RBX)?;
@@ -166,7 +168,7 @@ fn slots(out: &mut List<Item>) -> Result<(), Mem>
 
 /// The routine that makes the list of the operands that are left over. It returns through R11.
 pub(crate) fn rest_routine(out: &mut List<Item>, heap_end: u32) -> Result<(), Mem>
-    requires { heap_end < 2 ^ 31 }
+    requires { heap_end ≤ max_heap_end }
     ensures { OnOk result ((rest : List Item) → out.new ++ rest ≡ out.old ++ rest_routine heap_end rest) }
 {
     first_lists(out, heap_end)?;

@@ -1,10 +1,10 @@
 //! The program's own routines.
 
-ghost use Rattle.std.specs.Prelude.{◌≡◌, ◌^◌, ◌<◌, ◌++◌, ◌∷◌, OnOk};
+ghost use Rattle.std.specs.Prelude.{◌≡◌, ◌≤◌, ◌++◌, ◌∷◌, OnOk};
 ghost use Rattle.sch_asm.specs.declared.item.Item.TheVariants as item;
 ghost use Rattle.sch_select_memory.specs.PutCode.{immediate_put, objects_put, put_value_code, texts_code};
 ghost use Rattle.sch_select_memory.specs.OwnCode.{own_code};
-ghost use Rattle.sch_select_memory.specs.Addresses.{put_label};
+ghost use Rattle.sch_select_memory.specs.Addresses.{max_heap_end, put_label};
 
 use crate::addresses::{PUT_LABEL, STRING_LABEL, TABLE_ADDRESS, VECTOR_LABEL, stop};
 use crate::new_string::string_routine;
@@ -147,7 +147,7 @@ fn put_routine(items: &mut List<Item>) -> Result<(), Mem>
 
 /// The program's own routines.
 pub fn own_routines(items: &mut List<Item>, heap_end: u32) -> Result<(), Mem>
-    requires { heap_end < 2 ^ 31 }
+    requires { heap_end ≤ max_heap_end }
     ensures { OnOk result (items.new ≡ items.old ++ own_code heap_end) }
 {
     put_routine(items)?;

@@ -1,7 +1,8 @@
 //! The items of what closures capture, and of cells.
 
-ghost use Rattle.std.specs.Prelude.{◌≡◌, ◌^◌, ◌<◌, ◌+◌, ◌*◌, ◌++◌, IsTrue, OnOk, List, pos};
+ghost use Rattle.std.specs.Prelude.{◌≡◌, ◌<◌, ◌≤◌, ◌+◌, ◌*◌, ◌++◌, IsTrue, OnOk, List, pos};
 ghost use Rattle.sch_word.specs.trees.Shape.{max_free_variables};
+ghost use Rattle.sch_select_memory.specs.Addresses.{max_heap_end};
 ghost use Rattle.sch_asm.specs.declared.item.Item.{Item};
 ghost use Rattle.sch_insn.specs.declared.insn.Arg.TheVariants.{Base32};
 ghost use Rattle.sch_select_operations.specs.CellCode.{cell_operand, check_cell, new_cell_code, read_cell_code, source_code, unset_cell_code};
@@ -95,7 +96,7 @@ pub(crate) fn write_cell(out: &mut List<Item>) -> Result<(), Mem>
 
 /// A new cell, which has what RAX has.
 pub(crate) fn new_cell(out: &mut List<Item>, heap_end: u32) -> Result<(), Mem>
-    requires { heap_end < 2 ^ 31 }
+    requires { heap_end ≤ max_heap_end }
     ensures { OnOk result ((rest : List Item) → out.new ++ rest ≡ out.old ++ new_cell_code heap_end rest) }
 {
     check_heap(out, heap_end, CELL_BYTES)?;
@@ -105,7 +106,7 @@ pub(crate) fn new_cell(out: &mut List<Item>, heap_end: u32) -> Result<(), Mem>
 
 /// A new cell that is unset.
 pub(crate) fn unset_cell(out: &mut List<Item>, heap_end: u32) -> Result<(), Mem>
-    requires { heap_end < 2 ^ 31 }
+    requires { heap_end ≤ max_heap_end }
     ensures { OnOk result ((rest : List Item) → out.new ++ rest ≡ out.old ++ unset_cell_code heap_end rest) }
 {
     check_heap(out, heap_end, CELL_BYTES)?;

@@ -3,6 +3,7 @@
 ghost use Rattle.std.specs.Prelude.{◌≡◌, ◌^◌, ◌<◌, ◌≤◌, ◌+◌, ◌*◌, ◌++◌, IfOk, IsTrue, OnOk, List, length};
 ghost use Rattle.std.specs.List.{list_all};
 ghost use Rattle.sch_word.specs.trees.Shape.{max_free_variables, max_operands};
+ghost use Rattle.sch_select_memory.specs.Addresses.{max_heap_end};
 ghost use Rattle.sch_asm.specs.declared.item.Item.{Item};
 ghost use Rattle.sch_select_operations.specs.ClosureCode.{closure_bytes, closure_code, fields_code, group_bytes, group_code, places_code};
 ghost use Rattle.sch_select_operations.specs.ClosureCode.{record_code, records_code, spill_code, spills_behind};
@@ -61,7 +62,7 @@ fn record(out: &mut List<Item>, offset: u32, c: &Closure<Place>) -> Result<(), M
 
 /// A new closure.
 pub(crate) fn closure(out: &mut List<Item>, heap_end: u32, c: &Closure<Place>) -> Result<(), Mem>
-    requires low { heap_end < 2 ^ 31 }
+    requires low { heap_end ≤ max_heap_end }
     requires reached { IsTrue (is_reached_closure c.now) }
     ensures { OnOk result ((rest : List Item) → out.new ++ rest ≡ out.old ++ closure_code heap_end c.now rest) }
 {
@@ -150,7 +151,7 @@ pub fn group(
     members: &[Member<Place>],
     spills: &[u32],
 ) -> Result<(), Mem>
-    requires low { heap_end < 2 ^ 31 }
+    requires low { heap_end ≤ max_heap_end }
     requires few { length members.now ≤ max_operands }
     requires reached { IsTrue (list_all is_reached_member members.now) }
     ensures { OnOk result ((rest : List Item) → out.new ++ rest ≡ out.old ++ group_code heap_end members.now spills.now rest) }

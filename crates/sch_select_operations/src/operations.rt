@@ -1,6 +1,7 @@
 //! The items of operations.
 
-ghost use Rattle.std.specs.Prelude.{◌≡◌, ◌^◌, ◌<◌, ◌++◌, IsTrue, OnOk, List};
+ghost use Rattle.std.specs.Prelude.{◌≡◌, ◌≤◌, ◌++◌, IsTrue, OnOk, List};
+ghost use Rattle.sch_select_memory.specs.Addresses.{max_heap_end};
 ghost use Rattle.sch_asm.specs.declared.item.Item.{Item};
 ghost use Rattle.sch_select_operations.specs.OperationCode.{operation_code};
 ghost use Rattle.sch_select_operations.specs.Reach.{is_reached_operation};
@@ -23,7 +24,7 @@ pub fn operation(
     n: u32,
     o: &Operation<Place>,
 ) -> Result<(), Mem>
-    requires low { heap_end < 2 ^ 31 }
+    requires low { heap_end ≤ max_heap_end }
     requires reached { IsTrue (is_reached_operation o.now) }
     ensures { OnOk result ((rest : List Item) → out.new ++ rest ≡ out.old ++ operation_code heap_end literals n o.now rest) }
 {

@@ -1,6 +1,8 @@
 //! The items of pairs, and what makes a part of the heap.
 
-ghost use Rattle.std.specs.Prelude.{◌≡◌, ◌^◌, ◌<◌, ◌++◌, OnOk, List};
+ghost use Rattle.std.specs.Prelude.{◌≡◌, ◌^◌, ◌<◌, ◌≤◌, ◌++◌, OnOk, List};
+ghost use Rattle.sch_word.specs.runs.ProgramLayout.{data_address};
+ghost use Rattle.sch_select_memory.specs.Addresses.{max_heap_end};
 ghost use Rattle.sch_asm.specs.declared.item.Item.{Item};
 ghost use Rattle.sch_select_operations.specs.ObjectCode.{check_heap, pair_code, part_code, part_of_pair, set_part_of_pair};
 
@@ -8,9 +10,9 @@ use sch_asm::Item;
 use sch_insn::condition::{A, NE};
 use sch_insn::register::{R12, RAX, RCX, RDX};
 use sch_insn::{Arg, Insn};
-use sch_select_memory::addresses::{immediate, stop};
+use sch_select_memory::addresses::{heap_offset, immediate, stop};
 use sch_select_memory::word::{PAIR, TAG_MASK, UNSPECIFIED};
-use sch_word::{List, Mem, Stop};
+use sch_word::{DATA_ADDRESS, List, Mem, Stop};
 
 /// The first word of the pair whose word is in RAX.
 pub(crate) const CAR: Arg = Arg::Base32(RAX, -1);
@@ -20,15 +22,15 @@ pub(crate) const CDR: Arg = Arg::Base32(RAX, 7);
 
 /// The heap has this number of bytes left, or stop 71.
 pub fn check_heap(out: &mut List<Item>, heap_end: u32, bytes: u32) -> Result<(), Mem>
-    requires low { heap_end < 2 ^ 31 }
-    requires few { bytes < 2 ^ 31 }
+    requires low { heap_end ≤ max_heap_end }
+    requires few { bytes ≤ data_address }
     ensures { OnOk result ((rest : List Item) → out.new ++ rest ≡ out.old ++ check_heap heap_end bytes rest) }
 {
-    let bytes = immediate(bytes);
-    let end = immediate(heap_end);
+    let before = immediate(DATA_ADDRESS as u32 - bytes);
+    let end = heap_offset(heap_end);
     out.extend_from_slice(&[
         Item::Plain(Insn::MovTo(Arg::Reg(RDX), R12)),
-        Item::Plain(Insn::AddNumber(Arg::Reg(RDX), bytes)),
+        Item::Plain(Insn::SubNumber(Arg::Reg(RDX), before)),
         Item::Plain(Insn::CmpNumber(Arg::Reg(RDX), end)),
         Item::JumpIf(A, stop(Stop::HeapLimit)),
     ])
@@ -78,7 +80,7 @@ pub(crate) fn set_part_of_pair(out: &mut List<Item>, to: Arg) -> Result<(), Mem>
 
 /// A new pair of RAX and RCX.
 pub(crate) fn pair(out: &mut List<Item>, heap_end: u32) -> Result<(), Mem>
-    requires { heap_end < 2 ^ 31 }
+    requires { heap_end ≤ max_heap_end }
     ensures { OnOk result ((rest : List Item) → out.new ++ rest ≡ out.old ++ pair_code heap_end rest) }
 {
     check_heap(out, heap_end, 16)?;

@@ -1,7 +1,8 @@
 //! The items of primitives over operands.
 
-ghost use Rattle.std.specs.Prelude.{◌≡◌, ◌^◌, ◌<◌, ◌+◌, ◌++◌, IsTrue, OnOk, List};
+ghost use Rattle.std.specs.Prelude.{◌≡◌, ◌≤◌, ◌+◌, ◌++◌, IsTrue, OnOk, List};
 ghost use Rattle.std.specs.List.{list_all};
+ghost use Rattle.sch_select_memory.specs.Addresses.{max_heap_end};
 ghost use Rattle.sch_asm.specs.declared.item.Item.{Item};
 ghost use Rattle.sch_select_operations.specs.Reach.{is_reached_operand};
 ghost use Rattle.sch_select_operations.specs.PrimitiveCode.{index_operand, pair_or_binary, primitive_code, ternary_code, three_code};
@@ -60,7 +61,7 @@ fn ternary(out: &mut List<Item>, which: Primitive) -> Result<(), Mem>
 
 /// A primitive of two operands, or a new pair.
 fn pair_or_binary(out: &mut List<Item>, heap_end: u32, n: u32, which: Primitive) -> Result<(), Mem>
-    requires { heap_end < 2 ^ 31 }
+    requires { heap_end ≤ max_heap_end }
     ensures { OnOk result ((rest : List Item) → out.new ++ rest ≡ out.old ++ pair_or_binary heap_end n which rest) }
 {
     match which {
@@ -77,7 +78,7 @@ pub fn primitive(
     which: Primitive,
     operands: &[Operand<Place>],
 ) -> Result<(), Mem>
-    requires low { heap_end < 2 ^ 31 }
+    requires low { heap_end ≤ max_heap_end }
     requires reached { IsTrue (list_all is_reached_operand operands.now) }
     ensures { OnOk result ((rest : List Item) → out.new ++ rest
         ≡ out.old ++ primitive_code heap_end n which operands.now rest) }

@@ -1,7 +1,7 @@
 -- Worked sets: what words of 64 bits hold, and what is said of sets.
 use Rattle.std.proofs.Common.{arith, ◌<◌, ◌≡◌, ℕ, true, false, List, [], ◌∷◌, refl}
 use Rattle.std.specs.FinSet as set
-use Rattle.sch_sets.specs.Members.{NumberSet, IsMember, HasMember, IsSubset, IsBelow, has_bit, numbers_below, numbers_in}
+use Rattle.sch_sets.specs.Members.{NumberSet, IsMember, HasMember, HasNone, IsSubset, IsBelow, IsFirst, has_bit, numbers_below, numbers_in}
 use Rattle.sch_sets.proofs.Membership.{member-empty, subset-insert, tests}
 
 -- ## One word: bits 0, 3 and 63
@@ -55,3 +55,8 @@ subsets = (subset-insert three 70, λ within. let h : IsMember 70 three = within
 
 bounds : IsBelow 71 three_and_seventy × (IsBelow 70 three_and_seventy → ⊥)
 bounds = (λ v member. grind (arith, tests, member), λ below. let h : 70 < 70 = below 70 (grind (arith, tests)) in omega arith)
+
+first : IsFirst 4 71 three_and_seventy 70 × (HasNone 4 70 three_and_seventy × (HasNone 4 71 three_and_seventy → ⊥))
+first =
+    let none : HasNone 4 70 three_and_seventy = λ v least high member. grind (arith, tests, least, high, member) in
+    ((omega arith, (omega arith, (grind (arith, tests), none))), (none, λ past. past 70 (omega arith) (omega arith) (grind (arith, tests))))

@@ -1,15 +1,16 @@
 -- The set that words of 64 bits hold: which numbers are in it, and what the bits of words say of sets.
-use Rattle.std.proofs.Common.{◌≡◌, ◌≢◌, ℕ, ◌+◌, ◌-◌, ◌*◌, ◌/◌, ◌%◌, ◌^◌, ◌<◌, ◌≤◌, ◌∙◌, suc, zero, Bool, true, false, cond, List, length, get_or, nat_eq, nat_lt, refl, ap, sym, arith, inl, inr, w64, get_or-set_same, get_or-set_other, below_more}
-use Rattle.std.specs.Prelude.{◌&&◌, ◌||◌, not, bit_and, bit_or}
-use Rattle.std.specs.Int.{trailing_zeros}
+use Rattle.std.proofs.Common.{◌≡◌, ◌≢◌, ℕ, ◌+◌, ◌-◌, ◌*◌, ◌/◌, ◌%◌, ◌^◌, ◌<◌, ◌≤◌, ◌∙◌, suc, zero, Bool, true, false, cond, List, length, get_or, nat_eq, nat_lt, refl, ap, sym, subst, arith, inl, inr, w64, get_or-set_same, get_or-set_other, below_more}
+use Rattle.std.specs.Prelude.{◌&&◌, ◌||◌, not, nat_le, bit_and, bit_or}
+use Rattle.std.specs.Int.{bit_at, trailing_zeros}
 use Rattle.std.specs.FinSet as fin
 use Rattle.std.proofs.Math.ListN.{set, replicate}
 use Rattle.std.proofs.lemmas.Bool.{cases_eq, cases_lt}
 use Rattle.std.proofs.lemmas.Bool.Decides.{nat_tests}
 use Rattle.std.proofs.lemmas.List.{get_or_past, get_or-replicate, length-replicate}
-use Rattle.std.proofs.lemmas.Nat.Bits.{bit_at_or, bit_at_and, bit_at-zero, bit_at_set_same, bit_at_set_other, bit_at_clear_same, bit_at_clear_other, bit_at_not, bit_at-trailing_zeros, bit_at-lt}
+use Rattle.std.proofs.lemmas.Nat.Bits.{bit_at_or, bit_at_and, bit_at-zero, bit_at_set_same, bit_at_set_other, bit_at_clear_same, bit_at_clear_other, bit_at_not, bit_at_ones, bit_at_ones_above, bit_at-trailing_zeros, bit_at-lt}
+use Rattle.std.proofs.lemmas.Nat.{one_shl}
 use mathlib.Core.Bool.{true≢false}
-use Rattle.sch_sets.specs.Members.{NumberSet, HasMember, IsBelow, has_bit, numbers_below, numbers_in}
+use Rattle.sch_sets.specs.Members.{NumberSet, HasMember, HasNone, IsBelow, IsFirst, has_bit, numbers_below, numbers_in}
 use Rattle.sch_sets.proofs.Membership.{same_tests, contains-empty, contains-insert, contains-remove, contains-union, contains-intersection, contains-difference, tests}
 
 -- ## Which numbers words hold
@@ -81,6 +82,77 @@ numbers_in-member words j fits some =
     let bit : v % 64 ≡ trailing_zeros w64 w = omega arith in
     let member : has_bit words v ≡ true = rw (word, bit, lowest.1) refl in
     (v, contains-numbers_in words v ∙ member)
+
+-- ## The first member from a number on
+
+-- the bits of a word from one on
+pub bit_from : (w b k : ℕ) → w < 2 ^ 64 → b < 64 → k < 64
+    → nat_eq (bit_at (bit_and w (2 ^ 64 - 1 - (1 * 2 ^ b % 2 ^ 64 - 1))) k) 1 ≡ (nat_le b k && nat_eq (bit_at w k) 1)
+bit_from w b k fits small low =
+    let ones : ℕ = 1 * 2 ^ b % 2 ^ 64 - 1 in
+    let kept : bit_at (2 ^ 64 - 1 - ones) k ≡ 1 - bit_at (2 ^ b - 1) k
+    = bit_at_not w64 ones k (omega arith) low ∙ ap (λ m. 1 - bit_at (m - 1) k) (one_shl b 64 small) in
+    rw (bit_at_and w (2 ^ 64 - 1 - ones) k, kept)
+    (elim (cases_lt k b) [
+      | inl below ↦ rw (bit_at_ones b k below) (grind (arith, nat_tests))
+      | inr above ↦ rw (bit_at_ones_above b k above) (grind (arith, nat_tests, bit_at-lt w k))
+    ])
+
+-- bit k of word j stands for the number 64 j + k
+pub contains-word : (words : List ℕ) (j k : ℕ) → k < 64 → fin.contains (numbers_in words) (64 * j + k) ≡ nat_eq (bit_at (get_or words j 0) k) 1
+unfolding has_bit
+contains-word words j k low =
+    let word : (64 * j + k) / 64 ≡ j = omega arith in
+    let bit : (64 * j + k) % 64 ≡ k = omega arith in
+    contains-numbers_in words (64 * j + k) ∙ rw (word, bit) refl
+
+-- a word whose bits stand for the members from a number on
+abbrev pub TellsMembers : (s : NumberSet) (from i word : ℕ) → Type 0
+TellsMembers s from i word = (k : ℕ) → k < 64 → nat_eq (bit_at word k) 1 ≡ (nat_le from (64 * i + k) && fin.contains s (64 * i + k))
+
+-- none of them, where it is 0
+pub none_in_word : (s : NumberSet) (from i word : ℕ) → TellsMembers s from i word → word ≡ 0 → HasNone from (64 * i) s → HasNone from (64 * (i + 1)) s
+none_in_word s from i word tells none before v low high member =
+    elim (cases_lt v (64 * i)) [
+      | inl below ↦ before v low below member
+      | inr above ↦
+          let k : ℕ = v - 64 * i in
+          let is : 64 * i + k ≡ v = omega arith in
+          let told : nat_eq (bit_at word k) 1 ≡ (nat_le from v && fin.contains s v) = subst (λ z. nat_eq (bit_at word k) 1 ≡ (nat_le from z && fin.contains s z)) is (tells k (omega arith)) in
+          let off : bit_at word k ≡ 0 = ap (λ z. bit_at z k) none ∙ bit_at-zero k in
+          grind (arith, nat_tests, told, off, low, member)
+    ]
+
+-- none below its lowest bit
+none_below : (s : NumberSet) (from i word : ℕ) → TellsMembers s from i word → HasNone from (64 * i) s → (k : ℕ) → k < 64
+    → ((j : ℕ) → j < k → bit_at word j ≡ 0) → HasNone from (64 * i + k) s
+none_below s from i word tells before k low zeros v least high member =
+    elim (cases_lt v (64 * i)) [
+      | inl below ↦ before v least below member
+      | inr above ↦
+          let j : ℕ = v - 64 * i in
+          let is : 64 * i + j ≡ v = omega arith in
+          let told : nat_eq (bit_at word j) 1 ≡ (nat_le from v && fin.contains s v) = subst (λ z. nat_eq (bit_at word j) 1 ≡ (nat_le from z && fin.contains s z)) is (tells j (omega arith)) in
+          let off : bit_at word j ≡ 0 = zeros j (omega arith) in
+          grind (arith, nat_tests, told, off, least, member)
+    ]
+
+-- else the first is that of its lowest bit
+pub first_in_word : (s : NumberSet) (from end i word : ℕ) → TellsMembers s from i word → word ≢ 0 → word < 2 ^ 64 → HasNone from (64 * i) s
+    → 64 * i + trailing_zeros w64 word < end → IsFirst from end s (64 * i + trailing_zeros w64 word)
+first_in_word s from end i word tells some fits before high =
+    let lowest = bit_at-trailing_zeros w64 word (omega arith) fits in
+    let k : ℕ = trailing_zeros w64 word in
+    let told = tells k lowest.0 in
+    let on : bit_at word k ≡ 1 = lowest.1 in
+    (grind (arith, nat_tests, told, on), (high, (grind (arith, nat_tests, told, on), none_below s from i word tells before k lowest.0 lowest.2)))
+
+-- and where that is past an end, none is before the end
+pub none_before : (s : NumberSet) (from end i word : ℕ) → TellsMembers s from i word → word ≢ 0 → word < 2 ^ 64 → HasNone from (64 * i) s
+    → end ≤ 64 * i + trailing_zeros w64 word → HasNone from end s
+none_before s from end i word tells some fits before past v least high member =
+    let lowest = bit_at-trailing_zeros w64 word (omega arith) fits in
+    none_below s from i word tells before (trailing_zeros w64 word) lowest.0 lowest.2 v least (omega arith) member
 
 -- ## One bit that is set or cleared, as the code does it
 

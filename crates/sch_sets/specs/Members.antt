@@ -1,5 +1,5 @@
 -- Sets of numbers, and the set that words of 64 bits hold.
-use Rattle.std.specs.Prelude.{◌≡◌, ℕ, ◌*◌, ◌/◌, ◌%◌, ◌<◌, Bool, true, cond, List, slice_index, length, nat_eq, suc, zero}
+use Rattle.std.specs.Prelude.{◌≡◌, ℕ, ◌*◌, ◌/◌, ◌%◌, ◌<◌, ◌≤◌, Bool, true, cond, List, slice_index, length, nat_eq, suc, zero}
 use Rattle.std.specs.Int.{bit_at}
 use Rattle.std.specs.Ordering.{nat_cmp}
 use Rattle.std.specs.FinSet as set
@@ -23,6 +23,14 @@ IsSubset s t = (v : ℕ) → IsMember v s → IsMember v t
 -- each member is below a bound
 abbrev pub IsBelow : ℕ → NumberSet → Type 0
 IsBelow bound s = (v : ℕ) → IsMember v s → v < bound
+
+-- no member is one of the numbers from `low` on and below `high`
+abbrev pub HasNone : (low high : ℕ) → NumberSet → Type 0
+HasNone low high s = (v : ℕ) → low ≤ v → v < high → IsMember v s → ⊥
+
+-- the least member of those numbers
+abbrev pub IsFirst : (low high : ℕ) → NumberSet → ℕ → Type 0
+IsFirst low high s v = (low ≤ v) × ((v < high) × (IsMember v s × HasNone low v s))
 
 -- the bit of a number is set: in word v / 64, bit v % 64
 unfoldable pub has_bit : List ℕ → ℕ → Bool

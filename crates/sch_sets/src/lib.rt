@@ -1,10 +1,11 @@
 //! Sets of small numbers, such as the variables of a body: a bit for each number. No call takes memory.
 #![tactic(auto)]
 
-ghost use Rattle.std.specs.Prelude.{◌≡◌, ◌*◌, ◌<◌, ◌↔◌, IsTrue};
+ghost use Rattle.std.specs.Prelude.{◌≡◌, ◌*◌, ◌+◌, ◌<◌, ◌≤◌, ◌&&◌, ◌↔◌, ℕ, IsTrue, MatchOption, nat_eq, nat_le};
 ghost use Rattle.std.specs.Bool.{OnFalse};
+ghost use Rattle.std.specs.Int.{bit_at};
 ghost use Rattle.std.specs.FinSet as set;
-ghost use Rattle.sch_sets.specs.Members.{HasMember, IsBelow};
+ghost use Rattle.sch_sets.specs.Members.{HasMember, HasNone, IsBelow, IsFirst};
 
 use std::marker::Model;
 
@@ -12,6 +13,14 @@ use std::marker::Model;
 #[derive(Drop)]
 pub struct Set<const N: usize> {
     words: [u64; N],
+}
+
+// The bits of a word from one on.
+fn bits_from(word: u64, bit: u32) -> u64
+    requires { bit < 64 }
+    ensures { (k : ℕ) → k < 64 → nat_eq (bit_at result k) 1 ≡ (nat_le bit k && nat_eq (bit_at word k) 1) }
+{
+    word & !((1 << bit) - 1)
 }
 
 impl<const N: usize> Model for Set<N> {
@@ -110,6 +119,37 @@ impl<const N: usize> Set<N> {
             }
         }
         true
+    }
+
+    // The bits of a word that stand for members from one on.
+    fn members_in_word(&self, word: u32, from: u32) -> u64
+        requires within { word < N }
+        ensures { (k : ℕ) → k < 64
+            → nat_eq (bit_at result k) 1 ≡ (nat_le from (64 * word + k) && set.contains self.now (64 * word + k)) }
+    {
+        if word > from / 64 {
+            self.words[word as usize]
+        } else if word == from / 64 {
+            bits_from(self.words[word as usize], from % 64)
+        } else {
+            0
+        }
+    }
+
+    /// The first member from `from` on, if it is below `end`. Words without members are passed over, so that a walk over all
+    /// members takes as many steps as there are words and members.
+    pub fn next(&self, from: u32, end: u32) -> Option<u32>
+        requires { end ≤ 64 * N }
+        ensures { MatchOption result (HasNone from end self.now) (λ v. IsFirst from end self.now v) }
+    {
+        'words: for i in from / 64..end.div_ceil(64) {
+            let word = self.members_in_word(i, from);
+            if word != 0 {
+                let v = 64 * i + word.trailing_zeros();
+                return if v < end { Some(v) } else { None };
+            }
+        }
+        None
     }
 
     /// Each member is below 64 `N`: a law, which costs nothing when it runs.

@@ -1,5 +1,5 @@
 -- The kernel's rows at a state without spare words.
-use Rattle.std.proofs.Common.{◌≡◌, ◌≢◌, ℕ, zero, suc, ◌<◌, List, [], ◌∷◌, ◌++◌, length, take, Bool, true, false, cond, Some, None, refl, sym, ap, ◌∙◌, subst, arith, append-nil, ◌%◌, ◌==◌, ◌&&◌}
+use Rattle.std.proofs.Common.{◌≡◌, ◌≢◌, ℕ, zero, suc, ◌<◌, List, [], ◌∷◌, ◌++◌, length, take, true, false, cond, Some, None, refl, sym, ap, ◌∙◌, subst, arith, append-nil, ◌%◌, ◌==◌, ◌&&◌}
 use Rattle.std.proofs.lemmas.Bool.{eqb-true, ne_eqb}
 use Rattle.sch_word.proofs.facts.Lists.{take_whole}
 use Rattle.sch_word.specs.declared.answer.Answer.{Answer}

@@ -1,7 +1,7 @@
 -- Which segment serves: where segments lie apart, any one that holds the bytes is the first that does.
-use Rattle.std.proofs.Common.{◌≡◌, ℕ, zero, suc, ◌+◌, ◌-◌, ◌<◌, ◌≤◌, List, [], ◌∷◌, ◌++◌, length, take, drop, get_or, set, subst, length-append, length-drop, Bool, true, false, cond, Option, Some, None, refl, sym, ap, ◌∙◌, arith, nat_le, ◌&&◌}
+use Rattle.std.proofs.Common.{◌≡◌, ℕ, zero, suc, ◌+◌, ◌-◌, ◌<◌, ◌≤◌, List, [], ◌∷◌, length, drop, get_or, set, subst, Bool, true, false, cond, Option, Some, None, refl, sym, ap, ◌∙◌, arith, nat_le, ◌&&◌}
 use Rattle.std.proofs.lemmas.Bool.Decides.{nat_tests}
-use Rattle.std.proofs.lemmas.List.{length-take-le, map-set, length-map, length-set}
+use Rattle.std.proofs.lemmas.List.{map-set, length-map, length-set}
 use Rattle.std.specs.Prelude.{map, Result, Ok, Err}
 use Rattle.std.specs.Result.{result_err}
 use Rattle.sch_word.specs.values.Memory as words

@@ -1,5 +1,5 @@
 -- What a machine does over an outlet, which may tell what it takes and which answers it holds, or not.
-use Rattle.std.specs.Prelude.{◌≡◌, ℕ, zero, suc, ◌≤◌, List, [], ◌++◌, Option, Some, None, All}
+use Rattle.std.specs.Prelude.{◌≡◌, ℕ, ◌≤◌, List, [], ◌++◌, Option, Some, None, All}
 use Rattle.sch_word.specs.declared.answer.Answer.{Answer}
 use Rattle.sch_word.specs.runs.Answers.{TakesNothing}
 use Rattle.sch_io.specs.Told.{Tells}

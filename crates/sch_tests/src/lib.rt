@@ -12,6 +12,8 @@ mod listings;
 #[cfg(test)]
 mod program;
 #[cfg(test)]
+mod registers;
+#[cfg(test)]
 mod straight;
 #[cfg(test)]
 mod words;

@@ -1,12 +1,11 @@
 -- The forms of a text are read as the parts of a sequence at level 0.
-use Rattle.std.proofs.Common.{◌≡◌, ℕ, ◌+◌, ◌<◌, Bool, false, List, [], ◌∷◌, ◌++◌, length, drop, get_or, map, Option, refl, sym, ap, ◌∙◌, subst, add-one}
-use Rattle.std.proofs.lemmas.List.{map-append}
+use Rattle.std.proofs.Common.{◌≡◌, ℕ, ◌+◌, ◌<◌, Bool, false, List, [], length, drop, get_or, map, Option, refl, sym, subst, add-one}
 use Rattle.sch_word.proofs.facts.Lists.{next_left}
 use Rattle.sch_names.specs.Scope.{Globals}
 use Rattle.sch_sketch.specs.declared.draft.Draft as code
 use Rattle.sch_sketch.specs.declared.fault.Fault.{Fault}
 use Rattle.sch_sketch.specs.declared.sketch.Position.TheVariants.{Value}
-use Rattle.sch_sketch.specs.Draft.{Draft, Drafts, drafts, no_drafts, and_draft}
+use Rattle.sch_sketch.specs.Draft.{Draft, Drafts, no_drafts, and_draft}
 use Rattle.sch_sketch.specs.DraftView.{draft_of, drafts_of}
 use Rattle.sch_sketch.specs.Sketch.{Sketch, Sketches, sketches, no_sketch, and_sketch, sequencing}
 use Rattle.sch_expansion.specs.Following.{and_then}

@@ -1,5 +1,5 @@
 -- A text without faults has one list of drafts, and one with a fault has none.
-use Rattle.std.proofs.Common.{◌≡◌, inl, inr, ◌≤◌, ℕ, Bool, true, false, List, [], Option, Some, None, refl, sym, ap, ◌∙◌, subst}
+use Rattle.std.proofs.Common.{◌≡◌, inl, inr, ◌≤◌, ℕ, true, List, [], Option, Some, None, refl, sym, ap, ◌∙◌, subst}
 use Rattle.sch_read.specs.Grammar.{Data}
 use Rattle.sch_word.proofs.facts.Booleans.{false_true}
 use Rattle.sch_word.proofs.facts.Lists.{some_same}

@@ -14,7 +14,7 @@ use Rattle.sch_word.specs.runs.Computation.{Outcome, Action, gives, State, in_st
 use Rattle.sch_word.proofs.facts.Booleans.{and_left, and_right}
 use Rattle.sch_flat.specs.Tree.{Tree, Trees, Variable, bound, free, constant, literal, variable, operation, no_trees, and_tree, count}
 use Rattle.sch_flat.specs.Meaning as from
-use Rattle.sch_flat.specs.Meaning.{Closure, value_in, values_in, and_values}
+use Rattle.sch_flat.specs.Meaning.{Closure, value_in, and_values}
 use Rattle.sch_flat.specs.Valid.{is_known}
 use Rattle.sch_control.specs.declared.operation.Atom.TheVariants as atom
 use Rattle.sch_control.specs.declared.operation.Operand.TheVariants as operand

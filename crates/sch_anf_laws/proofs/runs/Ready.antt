@@ -6,7 +6,7 @@ use Rattle.std.proofs.lemmas.Bool.{eqb-true}
 use Rattle.sch_word.specs.trees.Bindings.{numbers, scope_with}
 use Rattle.sch_word.specs.values.Primitives.{operands_of}
 use Rattle.sch_word.specs.trees.Shape as shapes
-use Rattle.sch_word.specs.trees.Shape.{names_known, well_formed, is_width, sites_once}
+use Rattle.sch_word.specs.trees.Shape.{names_known, well_formed}
 use Rattle.sch_word.proofs.facts.Booleans.{and_left, and_right}
 use Rattle.sch_flat.specs.Tree.{Tree, Trees, constant, literal, variable, global, set_global, define, branch, sequence, bind, make_closure, fix_closures, call, operation, new_cells, cell_get, cell_set, no_trees, and_tree, count}
 use Rattle.sch_flat.specs.Measures.{over, over_each}

@@ -11,7 +11,7 @@ use Rattle.sch_word.specs.values.Values.{Value, unspecified, cell, constant_valu
 use Rattle.sch_word.specs.runs.Store.{Store}
 use Rattle.sch_word.specs.trees.Bindings.{numbers, scope_with, with_variables}
 use Rattle.sch_word.specs.runs.Computation as computation
-use Rattle.sch_word.specs.runs.Computation.{Outcome, Action, gives, stops, spent, State, on_value, in_store, with_rest, read_literal, read_global, write_global, read_cell, write_cell, set_or_stop, numbers_from, procedures_from, new_procedure, in_order, in_turn, all_values, blanks, call_with}
+use Rattle.sch_word.specs.runs.Computation.{Outcome, Action, gives, stops, spent, State, on_value, in_store, with_rest, read_global, write_global, read_cell, write_cell, set_or_stop, numbers_from, procedures_from, new_procedure, in_order, in_turn, all_values, blanks, call_with}
 use Rattle.sch_word.specs.runs.Charges.{charge, charge_each, procedure_bytes, cell_bytes}
 use Rattle.sch_word.specs.values.CellBytes.{cells_bytes}
 use Rattle.sch_word.specs.values.PrimitiveRows.{primitive}
@@ -33,13 +33,13 @@ use Rattle.sch_control.specs.declared.operation.Operation.TheVariants as does
 use Rattle.sch_control.specs.declared.operation.Application.{Application}
 use Rattle.sch_control.specs.Tree.{Expression}
 use Rattle.sch_control.specs.Tree as tree
-use Rattle.sch_control.specs.Operations.{Procedure, operand_value, operand_values, part_values, source_value, source_values, operate, members_made, member_bytes, with_procedures}
+use Rattle.sch_control.specs.Operations.{Procedure, operand_value, part_values, source_values, operate, members_made, member_bytes, with_procedures}
 use Rattle.sch_control.specs.Operations as operations
 use Rattle.sch_control.specs.Sizes.{is_bare_atom}
 use Rattle.sch_control.specs.Meaning as to
 use Rattle.sch_control.specs.Meaning.{World, Result, Then, Callee, plain, no_region, marked, with_value, on_outcome, on_return, call_in, put, put_each, put_inside, mark_members}
 use Rattle.sch_control.proofs.PlainMarks.{members_unmarked, none_saved}
-use Rattle.sch_anf_laws.specs.Normal.{Scope, number_of, source_of, is_simple, simple_operand, operand_at, operands_at, operand_binds, part_binds, operands_bind, inits_bind, init_numbers, numbers_for, binds, unless_atom, ends_in_call, finished, called, bound_unless, normal, normal_parts, with_operands, with_inits, with_new_cells, cell_operation, closure_of, members_of, bound_places, operator_place}
+use Rattle.sch_anf_laws.specs.Normal.{Scope, source_of, is_simple, simple_operand, operand_at, operands_at, part_binds, operands_bind, inits_bind, init_numbers, numbers_for, binds, unless_atom, ends_in_call, finished, called, bound_unless, normal, normal_parts, with_operands, with_inits, with_new_cells, cell_operation, closure_of, members_of, bound_places, operator_place}
 use Rattle.sch_anf_laws.specs.Normal as normal
 use Rattle.sch_anf_laws.proofs.runs.Bodies.{get_left}
 use Rattle.sch_anf_laws.proofs.runs.Orders.{Parts}

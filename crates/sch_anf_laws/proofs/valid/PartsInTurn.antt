@@ -9,7 +9,7 @@ use Rattle.sch_word.specs.trees.Bindings.{numbers, with_variables}
 use Rattle.sch_word.specs.runs.Orders.{order_at}
 use Rattle.sch_word.proofs.facts.Booleans.{and_left, and_right, and_of}
 use Rattle.sch_flat.specs.Tree as flat
-use Rattle.sch_flat.specs.Tree.{Tree, Trees, Body, NewCell, constant, literal, variable, global, set_global, define, branch, sequence, bind, make_closure, fix_closures, call, operation, new_cells, cell_get, cell_set, no_trees, and_tree, count}
+use Rattle.sch_flat.specs.Tree.{Tree, Trees, Body, NewCell, constant, literal, variable, global, set_global, define, branch, sequence, bind, make_closure, fix_closures, call, operation, new_cells, cell_get, cell_set, no_trees, and_tree}
 use Rattle.sch_control.specs.declared.operation.Atom.TheVariants as atom
 use Rattle.sch_control.specs.declared.operation.Operand.{Operand}
 use Rattle.sch_control.specs.declared.operation.Operand.TheVariants as op

@@ -20,7 +20,7 @@ use Rattle.sch_control.specs.AtomsAndSites.{operand_atoms, operands_atoms, sourc
 use Rattle.sch_control.specs.Tree as tree
 use Rattle.sch_control.specs.Tree.{Expression}
 use Rattle.sch_control.specs.Valid.{with_variable, with_members, in_scope_atom, in_scope_atoms, in_scope, only_reads}
-use Rattle.sch_anf_laws.specs.Normal.{Scope, number_of, source_of, is_atom, are_atoms, is_simple, atom_of, atoms_of, simple_operand, operand_at, operands_at, operand_binds, unless_atom, ends_in_call, part_binds, binds, operands_bind, inits_bind, init_numbers, numbers_for, finished, called, bound_unless, normal, normal_parts, with_operands, with_inits, with_new_cells, cell_operation, closure_of, members_of}
+use Rattle.sch_anf_laws.specs.Normal.{Scope, number_of, source_of, is_atom, are_atoms, is_simple, atom_of, atoms_of, simple_operand, operand_at, operands_at, operand_binds, unless_atom, ends_in_call, part_binds, binds, operands_bind, inits_bind, init_numbers, numbers_for, finished, called, bound_unless, normal, normal_parts, with_operands, with_inits, with_new_cells, cell_operation, members_of}
 use Rattle.sch_anf_laws.specs.Normal as normal
 use Rattle.sch_anf_laws.proofs.DroppedAtoms.{dropped_as}
 

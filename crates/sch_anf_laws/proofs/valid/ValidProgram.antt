@@ -10,7 +10,7 @@ use Rattle.sch_word.specs.trees.Bindings.{Bindings, bound_to, this_or, numbers}
 use Rattle.sch_word.specs.runs.Orders.{order_or_none}
 use Rattle.sch_word.specs.runs.Runs.{statics_valid, statics_in_range}
 use Rattle.sch_word.specs.trees.Shape as shapes
-use Rattle.sch_word.specs.trees.Shape.{Shape, names_known, constant_in_range, well_formed, fits, is_width, max_variables, max_free_variables}
+use Rattle.sch_word.specs.trees.Shape.{names_known, constant_in_range, well_formed, fits, is_width, max_variables, max_free_variables}
 use Rattle.sch_word.proofs.facts.Booleans.{and_left, and_right, and_of}
 use Rattle.sch_flat.specs.Tree.{Tree, Trees, Body, Source, constant, literal, variable, global, set_global, define, branch, sequence, bind, make_closure, fix_closures, call, operation, new_cells, cell_get, cell_set, no_trees, and_tree, count}
 use Rattle.sch_flat.specs.Measures.{over, over_each, over_bodies, over_source, sites_of, variables}
@@ -26,7 +26,7 @@ use Rattle.sch_anf_laws.specs.Normal.{is_simple, new_label, procedure_code, form
 use Rattle.sch_anf_laws.proofs.runs.Fine.{bound_below}
 use Rattle.sch_anf_laws.proofs.runs.Bodies.{stands_at}
 use Rattle.sch_anf_laws.proofs.runs.Ready as ready
-use Rattle.sch_anf_laws.proofs.runs.Ready.{Every, every_of, every_left, every_right}
+use Rattle.sch_anf_laws.proofs.runs.Ready.{Every, every_left, every_right}
 use Rattle.sch_anf_laws.proofs.runs.Sites.{keyed_times, rows_listed, width_within, counted, widths}
 use Rattle.sch_anf_laws.proofs.valid.Parts.{node_good, joint_source, entry_for}
 use Rattle.sch_anf_laws.proofs.valid.PartsInTurn.{Listed, normal_turns, procedures_turn}

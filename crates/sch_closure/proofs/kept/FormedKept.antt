@@ -3,7 +3,7 @@ use Rattle.std.proofs.Common.{ℕ, suc, ◌+◌, Bool, true, false, List, [], �
 use Rattle.std.specs.Prelude.{IsTrue, ◌&&◌, ◌||◌, not, nat_le, nat_eq}
 use Rattle.std.specs.List.{list_all}
 use Rattle.sch_word.specs.trees.Shape as shapes
-use Rattle.sch_word.specs.trees.Shape.{Shape, Procedure, names_known, constant_in_range, well_formed, fits, procedure_fits, procedures_fit, max_operands, max_variables, max_free_variables}
+use Rattle.sch_word.specs.trees.Shape.{Shape, names_known, constant_in_range, well_formed, fits, procedure_fits, procedures_fit, max_operands, max_variables}
 use Rattle.sch_word.proofs.Shaped.{parts, both_true}
 use Rattle.sch_cells.specs.Tree.{Tree, Trees, Lambdas, Source, constant, literal, variable, global, set_variable, set_global, define, branch, sequence, bind, fix, letrec, lambda, call, operation, new_cells, cell_get, cell_set, no_trees, and_tree, no_lambdas, and_lambda, count, count_lambdas}
 use Rattle.sch_cells.specs.Measures as from
@@ -16,7 +16,7 @@ use Rattle.sch_flat.specs.Tree as flat
 use Rattle.sch_flat.specs.Measures as to
 use Rattle.sch_flat.specs.Valid.{body_fits, forms_fit}
 use Rattle.sch_closure.specs.Closed as closing
-use Rattle.sch_closure.specs.Closed.{place, place_from, placed, procedures, procedures_each, procedures_lambdas, fields_of, closed, closed_each, made_each, body_of, all_procedures, all_of_each, all_of_lambdas, closed_source}
+use Rattle.sch_closure.specs.Closed.{place_from, placed, procedures, procedures_each, procedures_lambdas, fields_of, closed, closed_each, body_of, all_procedures, all_of_each, all_of_lambdas, closed_source}
 use Rattle.sch_closure.specs.Fresh.{Fresh, FreshEach, FreshLambdas}
 use Rattle.sch_closure.proofs.Same.{made_length, none_within}
 use Rattle.sch_closure.proofs.Scopes.{free_within}

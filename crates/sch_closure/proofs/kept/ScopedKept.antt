@@ -13,7 +13,7 @@ use Rattle.sch_cells.specs.Variables.{free, free_each, free_lambdas, bound, boun
 use Rattle.sch_cells.specs.Clear.{In, Apart, Clear, ClearEach, ClearLambdas}
 use Rattle.sch_cells.proofs.Clearing.{distinct_left, distinct_right}
 use Rattle.sch_flat.specs.Tree as flat
-use Rattle.sch_flat.specs.Valid.{is_known, is_content, cells_scope, cell_variables, all_new, has_fields, is_made, body_scoped}
+use Rattle.sch_flat.specs.Valid.{is_known, is_content, cells_scope, cell_variables, all_new, is_made, body_scoped}
 use Rattle.sch_flat.specs.Valid as valid
 use Rattle.sch_closure.specs.Closed as closing
 use Rattle.sch_closure.specs.Closed.{place, place_from, place_or_none, placed, procedures, procedures_each, procedures_lambdas, fields_of, made, closed, closed_each, made_each, body_of, all_procedures, all_of_each, all_of_lambdas}

@@ -9,7 +9,7 @@ use Rattle.sch_word.specs.runs.Computation.{numbers_from}
 use Rattle.sch_word.specs.values.Literals.{count_literals}
 use Rattle.sch_word.specs.runs.Runs.{SameRuns}
 use Rattle.sch_word.specs.trees.Shape as shapes
-use Rattle.sch_word.specs.trees.Shape.{Shape, names_known, constant_in_range, well_formed, fits, procedures_fit, is_width, sites_once, max_operands, max_levels, max_variables, max_free_variables}
+use Rattle.sch_word.specs.trees.Shape.{names_known, constant_in_range, well_formed, fits, procedures_fit, is_width, max_operands, max_levels, max_variables, max_free_variables}
 use Rattle.sch_word.proofs.Shaped.{parts, both_true}
 use Rattle.sch_cells.specs.Tree.{Tree, Trees, Lambdas, Source, constant, literal, variable, global, set_variable, set_global, define, branch, sequence, bind, fix, letrec, lambda, call, operation, new_cells, cell_get, cell_set, no_trees, and_tree, no_lambdas, and_lambda, count}
 use Rattle.sch_cells.specs.Bodies as bodies

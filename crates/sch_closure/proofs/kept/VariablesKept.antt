@@ -9,13 +9,13 @@ use Rattle.sch_cells.specs.Tree.{Tree, Trees, Lambdas, constant, literal, variab
 use Rattle.sch_cells.specs.Variables.{free, free_each, free_lambdas, cells_bound, cells_used, without_each, assigns, assigns_each, assigns_lambdas}
 use Rattle.sch_cells.specs.Bodies as from
 use Rattle.sch_cells.proofs.Unassigned.{all_unassigned, bound_count_unassigned}
-use Rattle.sch_cells.specs.Bodies.{once_or_not, counts_nothing, one_unless, unassigned, all_same, bound_count, with_cells}
+use Rattle.sch_cells.specs.Bodies.{once_or_not, counts_nothing, one_unless, all_same, with_cells}
 use Rattle.sch_cells.specs.Clear.{In, Apart}
 use Rattle.sch_flat.specs.Tree as flat
 use Rattle.sch_flat.specs.Measures as to
 use Rattle.sch_flat.specs.Measures.{one_unless_simple}
 use Rattle.sch_closure.specs.Closed as closing
-use Rattle.sch_closure.specs.Closed.{place, place_from, placed, procedures, procedures_each, procedures_lambdas, fields_of, closed, closed_each, made_each, body_of}
+use Rattle.sch_closure.specs.Closed.{place, place_from, placed, procedures, procedures_each, procedures_lambdas, fields_of, closed, closed_each, body_of}
 use Rattle.sch_closure.specs.Fresh.{Fresh, FreshEach, FreshLambdas}
 use Rattle.sch_closure.proofs.Sets.{remove_other}
 use Rattle.sch_closure.proofs.Same.{made_length, place_bound, apart_head, apart_tail}

@@ -1,5 +1,5 @@
 -- The live sets of a body, where each call lists what is live after it.
-use Rattle.std.specs.Prelude.{◌≡◌, ◌↔◌, ℕ, Bool, true, false}
+use Rattle.std.specs.Prelude.{◌≡◌, ◌↔◌, ℕ, true, false}
 use Rattle.std.specs.Bool.{MatchBool}
 use Rattle.sch_word.specs.trees.NumberSets.{has}
 use Rattle.sch_control.specs.Tree.{Expression, perform, bind, sequence, branch, fix, call, tail_call, return, end, save}

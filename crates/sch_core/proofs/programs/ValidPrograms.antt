@@ -7,7 +7,7 @@ use Rattle.sch_word.specs.values.Literals.{count_literals}
 use Rattle.sch_word.specs.trees.BoundVariables.{formals_in}
 use Rattle.sch_lang.specs.Tree.{Expression, Expressions, Source, count_lambdas}
 use Rattle.sch_lang.specs.Measures as measures
-use Rattle.sch_lang.specs.Measures.{over_source, over_each, over_lambdas, shape, sites_of, site_here, levels_lambdas, procedures, node_and_bound, nodes_and_bound}
+use Rattle.sch_lang.specs.Measures.{over_each, over_lambdas, shape, site_here, levels_lambdas, procedures, node_and_bound, nodes_and_bound}
 use Rattle.sch_lang.specs.Valid.{named_here, fits_here, shaped_here, lambdas_fit, in_range, constants_in_range, shaped, within_limits, sites_once, statics_known, is_valid}
 use Rattle.sch_lang.specs.InScope.{lambdas_in_scope}
 use Rattle.sch_lang.proofs.SitesInOrder as order

@@ -3,7 +3,7 @@
 use Rattle.std.proofs.Common.{◌≡◌, ◌≤◌, ◌+◌, ◌*◌, ℕ, Bool, true, false, List, [], length, Option, Some, None, refl, subst, arith}
 use Rattle.sch_word.specs.trees.BoundVariables.{formals_in}
 use Rattle.sch_lang.specs.Tree as tree
-use Rattle.sch_lang.specs.Tree.{Expression, Expressions, no_expressions, and_expression, count_lambdas}
+use Rattle.sch_lang.specs.Tree.{Expression, Expressions, no_expressions, and_expression}
 use Rattle.sch_lang.specs.Measures.{over, over_each, over_lambdas, node_and_bound, procedures}
 use Rattle.sch_names.specs.Scope.{Scope, Globals}
 use Rattle.sch_sketch.specs.declared.sketch.Position.{Position}

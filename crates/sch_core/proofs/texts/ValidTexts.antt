@@ -2,7 +2,7 @@
 use Rattle.std.proofs.Common.{◌≡◌, ◌⊎◌, inl, inr, ◌≤◌, ℕ, ◌+◌, ◌*◌, Bool, true, false, cond, ◌||◌, List, [], ◌∷◌, ◌++◌, length, map, Option, Some, None, refl, sym, ap, ◌∙◌, subst, arith, append_assoc}
 use Rattle.std.specs.Str.{bytes_eq}
 use Rattle.sch_word.proofs.facts.Booleans.{and_parts}
-use Rattle.sch_lang.specs.Tree.{Expression, Expressions, no_expressions, and_expression, count}
+use Rattle.sch_lang.specs.Tree.{Expressions, no_expressions, and_expression, count}
 use Rattle.sch_lang.specs.Valid.{is_valid}
 use Rattle.sch_read.specs.Grammar.{Datum, Data, atom, list, dotted, vector, none, cons, boolean, integer, character, symbol}
 use Rattle.sch_read.specs.Grammar as grammar

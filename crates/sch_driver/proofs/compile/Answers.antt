@@ -1,8 +1,11 @@
-use Rattle.std.proofs.Common.{◌≤◌, length, arith, ap, map, sym, subst, ◌∙◌}
+use Rattle.std.proofs.Common.{◌≤◌, length, arith, ap, sym, subst, ◌∙◌}
 use Rattle.std.specs.Prelude.{IsTrue}
+use Rattle.std.proofs.lemmas.List.{length-map}
 use Rattle.sch_word.specs.runs.Orders.{is_order_table}
+use Rattle.sch_lang.specs.Bodies.{bodies_of}
 use Rattle.sch_lang.specs.ProgramView.{source}
 use Rattle.sch_lang.specs.Run.{run}
+use Rattle.sch_lang.proofs.BodyCounts.{bodies_within_nodes}
 use Rattle.sch_control.specs.ProgramView as control
 use Rattle.sch_prelude.specs.LibraryText.{library_text}
 use Rattle.sch_driver.specs.Causes.{IsErrorOf, Means, max_source_size}
@@ -51,6 +54,7 @@ returns-in_err-assembled-clause-refused c =
 pub returns-clause-compiled : goal.returns-clause-compiled
 returns-clause-compiled c =
     let p = source c.in_ok-program.program in
+    let control_bodies = (control.source c.in_ok-control.control).bodies in
     let orders = c.in_ok-orders.orders in
     let runs = c.in_ok-control.ensures.runs in
     let made = c.in_ok-control.ensures in
@@ -79,7 +83,9 @@ returns-clause-compiled c =
         given = c.in_ok-orders.ensures.orders;
         cycles = c.new.ensures;
         words = does.frame.largest;
+        few = omega (arith, ap length fits.names, length-map control_bodies (λ b. b.name), length-map (bodies_of p) (λ b. b.name), bodies_within_nodes p, c.in_ok-program.ensures.size);
         marks = c.in_ok-assembled.ensures.marks;
+        stand = c.in_ok-assembled.ensures.stand;
       };
       size = does.size;
       bound = bound_chain p (control.source c.in_ok-control.control) does.laid_out.code does.bound c.in_ok-control.ensures.work;
@@ -92,6 +98,8 @@ returns-clause-compiled c =
       fits = does.fits;
       ends = does.ends (run p orders limits.heap limits.depth) same;
       marked = does.marked (run p orders limits.heap limits.depth) same;
+      stores = does.stores;
+      lazily = does.lazily (run p orders limits.heap limits.depth) same;
     }
 
 pub returns-clause-printable : goal.returns-clause-printable

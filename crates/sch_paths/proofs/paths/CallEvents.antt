@@ -1,6 +1,6 @@
 -- What is listed at a call of a path is what is live after it.
 use Rattle.std.proofs.Common.{◌≡◌, ℕ, Bool, true, false, List, [], ◌∷◌, ◌++◌, refl, ap, sym, ◌∙◌, subst, inl, inr, ◌⊎◌, map, append_assoc}
-use Rattle.std.specs.Prelude.{◌↔◌, nat_eq, cond, filter, ◌||◌}
+use Rattle.std.specs.Prelude.{nat_eq, cond, filter, ◌||◌}
 use Rattle.std.proofs.lemmas.Bool.{eqb-true}
 use Rattle.std.specs.Bool.{MatchBool}
 use Rattle.sch_word.specs.trees.NumberSets.{has}
@@ -11,9 +11,9 @@ use Rattle.sch_control.specs.AtomsAndSites.{operation_atoms, application_atoms, 
 use Rattle.sch_control.specs.Meaning.{heads, with_region, no_region}
 use Rattle.sch_control.specs.Tree.{Expression, perform, bind, sequence, branch, fix, call, tail_call, return, end, save}
 use Rattle.sch_control.specs.Valid.{member_variables}
-use Rattle.sch_control.specs.flow.Live.{named, Perhaps, Across, MayGive, Live, Later, nothing_later}
+use Rattle.sch_control.specs.flow.Live.{named, Perhaps, Live, Later, nothing_later}
 use Rattle.sch_control.specs.flow.LiveSets.{LiveSets}
-use Rattle.sch_control.specs.flow.Paths.{Event, Binds, References, Saves, Calls, Tails, Returns, Ends, binding, grouping, IsPath, Yes, No, On, decided, Meets, MayMeet, live, is_call, some_call}
+use Rattle.sch_control.specs.flow.Paths.{Event, Binds, References, Saves, Calls, Returns, Ends, binding, grouping, IsPath, Yes, No, On, decided, Meets, MayMeet, live, is_call, some_call}
 use Rattle.sch_paths.specs.Calls.{MeetsAfter, ListsLive}
 use Rattle.sch_paths.proofs.runs.SameOperands.{perhaps}
 use Rattle.sch_paths.proofs.paths.LiveByPaths.{live_is, binding_live}

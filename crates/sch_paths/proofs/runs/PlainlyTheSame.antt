@@ -1,6 +1,5 @@
 -- Read plainly, a body does the same with its regions and its lists as without them.
-use Rattle.std.proofs.Common.{◌≡◌, ℕ, Bool, true, false, subst}
-use Rattle.std.specs.Bool.{MatchBool}
+use Rattle.std.proofs.Common.{◌≡◌, ℕ, Bool, true, subst}
 use Rattle.sch_control.specs.Meaning.{plain, do_body, no_region, with_region}
 use Rattle.sch_control.specs.Tree.{Expression, perform, bind, sequence, branch, fix, call, tail_call, return, end, save, Code}
 use Rattle.sch_control.specs.Valid.{in_scope_whole, numbered}

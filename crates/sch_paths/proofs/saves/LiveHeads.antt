@@ -1,4 +1,4 @@
--- What is saved at the head of a region is live there, so that a layout finds the same variables live.
+-- What is saved at the head of a region is live there.
 use Rattle.std.proofs.Common.{◌≡◌, ℕ, Bool, true, false, List, [], ◌∷◌, ◌++◌, Option, Some, None, refl, ap, sym, ◌∙◌, inl, inr, ◌⊎◌, map}
 use Rattle.std.specs.Prelude.{◌↔◌, nat_eq, ◌||◌}
 use Rattle.std.specs.Bool.{MatchBool}
@@ -13,7 +13,6 @@ use Rattle.sch_control.specs.flow.Live.{named, known, ByResult, Across, Live, La
 use Rattle.sch_control.specs.flow.Paths.{Event, References, Saves, Calls, Tails, binding, grouping, IsPath, calls}
 use Rattle.sch_control.specs.flow.LiveSets.{LiveSets}
 use Rattle.sch_paths.specs.Exact.{saved_round, ArmsSave}
-use Rattle.sch_control.specs.flow.LiveOrSaved.{LiveOrSaved}
 use Rattle.sch_paths.specs.Regions.{HeadsLive, regions_stand}
 use Rattle.sch_paths.proofs.runs.SameOperands.{perhaps}
 use Rattle.sch_paths.proofs.paths.LiveByPaths.{itself, then_is, either_same, both_same, match_same}
@@ -21,49 +20,6 @@ use Rattle.sch_paths.proofs.saves.SavedAndRestored.{calls_append}
 use Rattle.sch_paths.proofs.paths.MeetsByCases.{has_path, of_result}
 use Rattle.sch_paths.proofs.saves.TwoSets.{either, EveryPathCalls, references_call, binding_calls, grouping_calls, saves_call}
 use Rattle.sch_paths.proofs.saves.LiveInScope.{among_is}
-
--- ## A layout finds the same variables live
-
-result_map : (k : Option Bool) (L M : Bool → Type 0) → ((t : Bool) → L t → M t) → ByResult k L → ByResult k M
-result_map (Some t) L M f l = f t l
-result_map None L M f (inl l) = inl (f true l)
-result_map None L M f (inr l) = inr (f false l)
-
-match_map : (t : Bool) {A B C D : Type 0} → (A → C) → (B → D) → MatchBool t A B → MatchBool t C D
-match_map true f g = f
-match_map false f g = g
-
-live_or_saved_map : (x : ℕ) (e : Expression) (L M : Bool → Type 0) → ((t : Bool) → L t → M t) → LiveOrSaved x e L → LiveOrSaved x e M
-live_or_saved_map x (perform o) L M f (inl m) = inl m
-live_or_saved_map x (perform o) L M f (inr l) = inr (result_map (known o) L M f l)
-live_or_saved_map x (bind y a b) L M f l = live_or_saved_map x a _ _ (λ t w. (w.0, live_or_saved_map x b L M f w.1)) l
-live_or_saved_map x (sequence a b) L M f l = live_or_saved_map x a _ _ (λ t w. live_or_saved_map x b L M f w) l
-live_or_saved_map x (branch a b c) L M f l = live_or_saved_map x a _ _ (λ t. match_map t (live_or_saved_map x b L M f) (live_or_saved_map x c L M f)) l
-live_or_saved_map x (fix members e) L M f l = (l.0, elim l.1 [ inl m ↦ inl m | inr w ↦ inr (live_or_saved_map x e L M f w) ])
-live_or_saved_map x (call a restores) L M f (inl m) = inl m
-live_or_saved_map x (call a restores) L M f (inr l) = inr (result_map None L M f l)
-live_or_saved_map x (tail_call a) L M f l = l
-live_or_saved_map x (return e) L M f l = l
-live_or_saved_map x (end e) L M f l = l
-live_or_saved_map x (save saves e) L M f (inl h) = inl h
-live_or_saved_map x (save saves e) L M f (inr l) = inr (live_or_saved_map x e L M f l)
-
-live_or_saved_same : (x : ℕ) (e : Expression) (L M : Bool → Type 0) → ((t : Bool) → L t ↔ M t) → LiveOrSaved x e L ↔ LiveOrSaved x e M
-live_or_saved_same x e L M f = (live_or_saved_map x e L M (λ t. (f t).0), live_or_saved_map x e M L (λ t. (f t).1))
-
-pub live_or_saved_live : (e : Expression) (L : Later) → HeadsLive e L → (x : ℕ) → LiveOrSaved x e (L x) ↔ Live x e (L x)
-live_or_saved_live (perform o) L h x = itself
-live_or_saved_live (bind y a b) L h x = then_is (live_or_saved_same x a _ _ (λ t. both_same itself (live_or_saved_live b L h.1 x))) (live_or_saved_live a _ h.0 x)
-live_or_saved_live (sequence a b) L h x = then_is (live_or_saved_same x a _ _ (λ t. live_or_saved_live b L h.1 x)) (live_or_saved_live a _ h.0 x)
-live_or_saved_live (branch a b c) L h x = then_is (live_or_saved_same x a _ _ (λ t. match_same t (live_or_saved_live b L h.1.0 x) (live_or_saved_live c L h.1.1 x))) (live_or_saved_live a _ h.0 x)
-live_or_saved_live (fix members e) L h x = both_same itself (either_same itself (live_or_saved_live e L h x))
-live_or_saved_live (call a restores) L h x = itself
-live_or_saved_live (tail_call a) L h x = itself
-live_or_saved_live (return e) L h x = live_or_saved_live e (λ x t. x ≡ 0) h x
-live_or_saved_live (end e) L h x = live_or_saved_live e (λ x t. ⊥) h x
-live_or_saved_live (save saves e) L h x =
-    let inner = live_or_saved_live e L h.1 x in
-    (λ w. elim w [ inl m ↦ h.0 x m | inr l ↦ inner.0 l ], λ l. inr (inner.1 l))
 
 -- ## Heads of regions
 

@@ -1,5 +1,5 @@
 -- The items of a selected program are valid.
-use Rattle.std.proofs.Common.{◌≡◌, ℕ, suc, ◌+◌, ◌*◌, ◌<◌, ◌≤◌, List, [], ◌∷◌, length, Option, Some, None, true}
+use Rattle.std.proofs.Common.{◌≡◌, ℕ, suc, ◌+◌, ◌-◌, ◌*◌, ◌<◌, ◌≤◌, List, [], ◌∷◌, length, Option, Some, None, true}
 use Rattle.std.proofs.Common.{false, refl, sym, ◌∙◌, arith, ◌&&◌, ⊎_elim}
 use Rattle.std.specs.Prelude.{ℤ, pos, negsuc, ◌≤ℤ◌, ◌*ℤ◌, int_le, not, nat_eq, nat_lt, nat_le}
 use Rattle.std.specs.List.{list_all}
@@ -25,6 +25,7 @@ use Rattle.sch_control.specs.declared.operation.Source.TheVariants as source
 use Rattle.sch_control.specs.declared.operation.Closure.{Closure}
 use Rattle.sch_control.specs.declared.operation.Member.{Member}
 use Rattle.sch_control.specs.declared.operation.Operation.{Operation}
+use Rattle.sch_word.specs.runs.ProgramLayout.{data_address}
 use Rattle.sch_insn.specs.declared.insn.Insn.TheVariants.{MovTo, MovNumber, AddNumber}
 use Rattle.sch_insn.specs.declared.insn.Arg.TheVariants.{Reg}
 use Rattle.sch_control.specs.declared.operation.Operation.TheVariants as operation
@@ -44,7 +45,7 @@ use Rattle.sch_select.proofs.items.RestItems.{count_valid}
 use Rattle.sch_select_operations.specs.OperandCode.{atom_code, unary_code, binary_code, read_code, operand_code, second_code}
 use Rattle.sch_select_operations.specs.CellCode.{source_code}
 use Rattle.sch_select_operations.specs.ObjectCode.{check_heap, part_code}
-use Rattle.sch_select_memory.specs.Addresses.{part_operand, global_address, place_operand, literal_address}
+use Rattle.sch_select_memory.specs.Addresses.{heap_offset, max_heap_end, part_operand, global_address, place_operand, literal_address}
 use Rattle.sch_select_operations.specs.ClosureCode.{fields_code, record_code, closure_bytes, group_bytes, places_code}
 use Rattle.sch_select_operations.specs.ClosureCode.{records_code, group_code, spills_behind}
 use Rattle.sch_select.proofs.items.AppendedItems.{spill_same}
@@ -103,7 +104,7 @@ register_small r e = ⊎_elim (λ lt. lt-ltb r 16 lt) (λ le. absurd
         other k lt = ne_eqb r k (λ e. omega (arith, e, lt, le))
 
 module _ (words globals symbols literals heap_end : ℕ) (narrow : words ≤ 2048) (few : literals + globals ≤ 29360128)
-    (named : symbols ≤ 29360128) (near : heap_end < 2147483648) where
+    (named : symbols ≤ 29360128) (near : heap_end ≤ max_heap_end) where
   place_valid : (p : Place) → is_place words p ≡ true → arg_valid (place_operand p) ≡ true
   place_valid (Reg r) e = register_small r e
   place_valid (Slot j) e = let lt = ltb-true j words e in fits_short (8 * j) (omega (arith, lt, narrow))
@@ -179,13 +180,13 @@ module _ (words globals symbols literals heap_end : ℕ) (narrow : words ≤ 204
       (and_from (nat_lt r 16 && fits_32 (pos (4 + 8 * k))) (nat_lt r 16)
       (and_from (nat_lt r 16) (fits_32 (pos (4 + 8 * k))) low (fits_short (4 + 8 * k) (omega (arith, lt)))) low)
 
-  heap_valid : (bytes : ℕ) → bytes < 2147483648 → Valid (check_heap heap_end bytes)
-  heap_valid bytes lt rest =
-      in_front (fits_32 (pos bytes)) _ (fits_short bytes lt)
-      ∙ in_front (fits_32 (pos heap_end)) _ (fits_short heap_end near)
+  heap_valid : (bytes : ℕ) → Valid (check_heap heap_end bytes)
+  heap_valid bytes rest =
+      in_front (fits_32 (pos (data_address - bytes))) _ (fits_short (data_address - bytes) (omega arith))
+      ∙ in_front (fits_32 (pos (heap_offset heap_end))) _ (fits_short (heap_offset heap_end) (omega (arith, near)))
 
   pair_valid : (n : ℕ) (which : Primitive) → Valid (pair_or_binary heap_end n which)
-  pair_valid n Cons rest = heap_valid 16 (omega arith) (item.Plain (MovTo (part_operand 0) 0) ∷
+  pair_valid n Cons rest = heap_valid 16 (item.Plain (MovTo (part_operand 0) 0) ∷
       (item.Plain (MovTo (part_operand 8) 1) ∷ part_code 1 16 rest))
   pair_valid n which rest = binary_valid n which rest
 
@@ -266,7 +267,7 @@ module _ (words globals symbols literals heap_end : ℕ) (narrow : words ≤ 204
   group_valid members spills few e rest =
       let n = leb-true (length members) max_operands few in
       let s = group_small members e in
-      heap_valid (group_bytes members) (omega (arith, n, s))
+      heap_valid (group_bytes members)
       (places_code 0 members spills (records_code 0 members (item.Plain
       (AddNumber (Reg 12) (pos (group_bytes members))) ∷ rest)))
       ∙ places_valid 0 members spills (omega (arith, n)) e (records_code 0 members
@@ -300,9 +301,9 @@ module _ (words globals symbols literals heap_end : ℕ) (narrow : words ≤ 204
       0x7FFFFFF8) (items_valid rest) (global_valid g p.0)
   operation_valid n (operation.Field p k) e rest = source_valid 0 (source.Field p k) refl e rest
   operation_valid n (operation.NewCell x) e rest = source_valid 0 x refl e _
-      ∙ heap_valid 16 (omega arith) (item.Plain (MovTo (part_operand 0) 0) ∷ part_code 7 16 rest)
+      ∙ heap_valid 16 (item.Plain (MovTo (part_operand 0) 0) ∷ part_code 7 16 rest)
       ∙ stored_valid 0 0 (omega arith) refl (part_code 7 16 rest) ∙ part_valid 7 16 (omega arith) (omega arith) rest
-  operation_valid n operation.UnsetCell e rest = heap_valid 16 (omega arith)
+  operation_valid n operation.UnsetCell e rest = heap_valid 16
       (item.Plain (MovNumber (part_operand 0) (pos 38)) ∷ part_code 7 16 rest)
       ∙ part_valid 7 16 (omega arith) (omega arith) rest
   operation_valid n (operation.CellGet x) e rest = source_valid 0 x refl e _
@@ -311,7 +312,7 @@ module _ (words globals symbols literals heap_end : ℕ) (narrow : words ≤ 204
       operand_valid n o p.1 _ ∙ source_valid 1 x refl p.0 _
   operation_valid n (operation.MakeClosure c) e rest =
       let b = closure_small c e in
-      heap_valid (closure_bytes c) (omega (arith, b)) (record_code 0 c (part_code 4 (closure_bytes c) rest))
+      heap_valid (closure_bytes c) (record_code 0 c (part_code 4 (closure_bytes c) rest))
       ∙ record_valid 0 c (omega arith) e (part_code 4 (closure_bytes c) rest)
       ∙ part_valid 4 (closure_bytes c) (omega arith) (omega (arith, b)) rest
 
@@ -385,12 +386,12 @@ module _ (words globals symbols literals heap_end : ℕ) (narrow : words ≤ 204
       ∙ forms_valid (suc label) (labels_end n c) cs p.1 rest
 
 -- the program's own routines name where the heap ends
-last_valid : (heap_end : ℕ) → heap_end < 2147483648 → items_valid (last_code heap_end) ≡ true
-last_valid heap_end near = rw (fits_short heap_end near) refl
+last_valid : (heap_end : ℕ) → heap_end ≤ max_heap_end → items_valid (last_code heap_end) ≡ true
+last_valid heap_end near = rw (fits_short (heap_offset heap_end) (omega (arith, near))) refl
 
 pub program_sound : (p : tree.Source) (limit depth : ℕ) → p.words ≤ 2048
     → count_literals p.statics.literals + length p.statics.globals ≤ 29360128 → length p.statics.symbols ≤ 29360128
-    → heap_of p + limit < 2147483648 → depth ≤ 10000000 → selects p ≡ true → AreItems (program_code p limit depth)
+    → heap_of p + limit ≤ max_heap_end → depth ≤ 10000000 → selects p ≡ true → AreItems (program_code p limit depth)
 program_sound p limit depth narrow few named near deep e =
     let globals = length p.statics.globals in
     let symbols = length p.statics.symbols in

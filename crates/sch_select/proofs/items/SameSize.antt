@@ -18,7 +18,7 @@ use Rattle.sch_word.specs.declared.mark.MarkKind.TheVariants.{Enter}
 use Rattle.sch_asm.specs.declared.routine.Routine.TheVariants as routine
 use Rattle.sch_jumps.specs.declared.piece.Piece.{Piece}
 use Rattle.sch_jumps.specs.declared.piece.Piece.TheVariants as piece
-use Rattle.sch_asm.specs.Pieces.{piece_of, skeleton}
+use Rattle.sch_asm.specs.Pieces.{skeleton}
 use Rattle.sch_asm.specs.Routines.{label_of}
 use Rattle.sch_asm.proofs.Skeleton.{behind_same, skeleton_append}
 use Rattle.sch_select_memory.specs.Addresses.{body_label}

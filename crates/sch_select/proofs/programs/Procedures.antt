@@ -382,7 +382,7 @@ module _ (plan : Plan) (body_steps : ℕ) (laid : Laid plan body_steps) where
                 (omega (arith, most, entries, charged, room, answers, same))
             by (stops why t') q = subst (λ t'. Owed (on_outcome w.marks (with_rest w.state.cells w.state.procedures
                 (stops why t')) (entering p.label))) (sym q.0)
-                (stops_here plan body_steps laid before [] x 12 40 why w q.1 g.printed (m ∙ sym (append-nil before))
+                (stops_here plan body_steps laid before [] x 13 40 why w q.1 g.printed (m ∙ sym (append-nil before))
                 (omega arith))
             by (spent t') q = absurd q
 

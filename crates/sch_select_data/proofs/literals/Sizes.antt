@@ -111,7 +111,7 @@ mutual
   literal_bound (list ls tail) = let h = each_bound ls in let g = literal_bound tail in omega (arith, h, g)
   literal_bound (elements ls) = let h = each_bound ls in omega (arith, h)
 
-  each_bound : (ls : Literals) → units_in_each ls + count_literals ls ≤ 2 * literals_size ls
+  pub each_bound : (ls : Literals) → units_in_each ls + count_literals ls ≤ 2 * literals_size ls
   each_bound no_literals = omega arith
   each_bound (and_literal l ls) = let h = literal_bound l in let g = each_bound ls in omega (arith, h, g)
 

@@ -33,26 +33,26 @@ module _ (plan : Plan) (body_steps : ℕ) (laid : Laid plan body_steps) (act : A
       (length (drop required vs)) following us t) → Sim plan body_steps act q.parts_after before t
       (changed x q.registers q.flags q.place q.bytes) c
       (next us (record w { state = record w.state { store = t } }))) where
-    pub rest_sim : Sim plan body_steps act parts before w.state.store x (24 + c)
+    pub rest_sim : Sim plan body_steps act parts before w.state.store x (25 + c)
         (on_outcome w.marks (with_rest w.state.cells w.state.procedures (fit (suc required) true vs w.state.store)) next)
     rest_sim = by (fit (suc required) true vs w.state.store)
         (fitted plan act parts a0 behind routine self vs w.state x required n following many few counted f g h)
       where
         by : (o : Outcome Store (List Value))
             → Fits plan act parts a0 behind routine x w.state self (length (drop required vs)) following o
-            → Sim plan body_steps act parts before w.state.store x (24 + c)
+            → Sim plan body_steps act parts before w.state.store x (25 + c)
             (on_outcome w.marks (with_rest w.state.cells w.state.procedures o) next)
         by (gives us t) q =
             let first = q.few in let entries = q.entries in let charged = q.charged in let room = q.store.within in
             let answers = ap length q.answers in let bodies = ap (λ k. body_steps * k) q.entries in
             after plan body_steps act parts q.parts_after q.words before [] w.state.store t x
-            (changed x q.registers q.flags q.place q.bytes) q.least q.steps c (24 + c) _ q.leads q.below
+            (changed x q.registers q.flags q.place q.bytes) q.least q.steps c (25 + c) _ q.leads q.below
             (omega (arith, entries)) (omega (arith, entries))
             (omega (arith, first, charged, room, answers, bodies))
             (subst (λ b. Sim plan body_steps act q.parts_after b t (changed x q.registers q.flags q.place q.bytes) c
             (next us (record w { state = record w.state { store = t } }))) (sym (append-nil before)) (K us t q))
-        by (stops why t) q = subst (λ t. Sim plan body_steps act parts before w.state.store x (24 + c)
+        by (stops why t) q = subst (λ t. Sim plan body_steps act parts before w.state.store x (25 + c)
             (on_outcome w.marks (with_rest w.state.cells w.state.procedures (stops why t)) next)) (sym q.0)
-            (stops_here plan body_steps laid before [] x 12 (24 + c) why w q.1 g.printed
+            (stops_here plan body_steps laid before [] x 13 (25 + c) why w q.1 g.printed
             (marked ∙ sym (append-nil before)) (omega arith))
         by (spent t) q = absurd q

@@ -40,7 +40,7 @@ module _ (plan : Plan) where
 
   past_check : (l a : ℕ) (rest : List Item) → Stands setting [] a (item.Label l ∷ check_pairs stack rest)
       → Somewhere rest
-  past_check l a rest h = (_, h.2.2.2.2.2.4)
+  past_check l a rest h = (_, h.2.2.2.2.2.2.4)
 
   past_first : (m r a : ℕ) (rest : List Item) → Stands setting [] a (first_code m r rest) → Somewhere rest
   past_first m r a rest h = (_, h.2.2.4.2.2.2.2.2.2.4)

@@ -13,6 +13,7 @@ use Rattle.sch_word.specs.runs.Computation.{State, Outcome, gives, stops, spent,
 use Rattle.sch_word.proofs.facts.Lists.{left_length}
 use Rattle.sch_control.specs.Operations.{Procedure}
 use Rattle.sch_frames.specs.Meaning.{Junk, entry_places}
+use Rattle.sch_word.specs.runs.ProgramLayout.{data_address}
 use Rattle.sch_insn.specs.declared.condition.TheConstants.{B, A}
 use Rattle.sch_insn.specs.declared.insn.Arg.TheVariants as arg
 use Rattle.sch_insn.specs.declared.insn.Insn.TheVariants.{MovTo, AddTo, AddNumber, SubNumber, CmpNumber, Shl}
@@ -30,9 +31,9 @@ use Rattle.sch_asm.proofs.EachItem.{goes, branches, jumps, loads_label}
 use Rattle.sch_select_memory.specs.Parts.{Parts}
 use Rattle.sch_select_memory.specs.Encoded.{Words}
 use Rattle.sch_select_memory.proofs.heap.Contents.{words_stay}
-use Rattle.sch_select_memory.specs.Addresses.{stop_label}
+use Rattle.sch_select_memory.specs.Addresses.{heap_offset, stop_label}
 use Rattle.sch_select_memory.specs.RestCode.{rest_routine, rest_entry, check_pairs, list_code, list_label}
-use Rattle.sch_select_memory.proofs.Straight.{Halts, Kept, kept_set, kept_then}
+use Rattle.sch_select_memory.proofs.Straight.{Halts, Kept, kept_set, kept_then, offset_compared}
 use Rattle.sch_select_memory.proofs.Places.{Plan, Activation, StoreAt, PlacesAt, places_kept}
 use Rattle.sch_select_memory.proofs.HeapWrites.{room_tested}
 use Rattle.sch_select_memory.proofs.lists.RestLoop.{changed, InSlots}
@@ -77,18 +78,18 @@ module _ (plan : Plan) (act : Activation plan) (parts : Parts) (a0 : ℕ) (behin
     pub registers : ℕ → ℕ
     pub flags : Flags
     pub place : ℕ
-    pub leads : Leads setting 5 5 [] y (changed y registers flags place y.bytes)
+    pub leads : Leads setting 6 6 [] y (changed y registers flags place y.bytes)
     pub kept : Kept is_two y.registers registers
     pub ahead : Stands setting [] place rest
 
   abbrev pub RoomTested : Bool → View → List Item → Type 0
   RoomTested true y rest = Roomy y rest
-  RoomTested false y rest = Halts setting y [] 5 HeapLimit
+  RoomTested false y rest = Halts setting y [] 6 HeapLimit
 
   room_for : (next left : ℕ) (y : View) (rest : List Item) → y.registers 0 ≡ left → left < 2 ^ 31
-      → y.registers 12 ≡ next → next ≤ stack → Stands setting [] y.place (check_pairs stack rest)
+      → y.registers 12 ≡ next → data_address ≤ next → next ≤ stack → Stands setting [] y.place (check_pairs stack rest)
       → RoomTested (nat_le (next + 16 * left) stack) y rest
-  room_for next left y rest counted few at low h = by (nat_le (next + 16 * left) stack) refl
+  room_for next left y rest counted few at above low h = by (nat_le (next + 16 * left) stack) refl
     where
       y4 : View
       y4 = record y { registers = set_register y.registers 2 (y.registers 0); place = y.place + h.0 }
@@ -110,47 +111,63 @@ module _ (plan : Plan) (act : Activation plan) (parts : Parts) (a0 : ℕ) (behin
         place = y5.place + h.2.2.0;
       }
 
+      room : ℕ
+      room = (difference_of sum data_address).value
+
       y7 : View
-      y7 = record y6 { flags = (difference_of sum stack).flags; place = y6.place + h.2.2.2.0 }
+      y7 = record y6 {
+        registers = set_register y6.registers 2 room;
+        flags = (difference_of sum data_address).flags;
+        place = y6.place + h.2.2.2.0;
+      }
+
+      y8 : View
+      y8 = record y7 { flags = (difference_of room (heap_offset stack)).flags; place = y7.place + h.2.2.2.2.0 }
 
       sum_is : sum ≡ next + 16 * left
       sum_is = let n = near in omega (arith, counted, few, at, low, n)
 
-      way : Leads setting 4 4 [] y y7
-      way = leads_on setting.marks (leads_on setting.marks (leads_on setting.marks
+      room_is : room ≡ next + 16 * left - data_address
+      room_is = let n = near in omega (arith, sum_is, few, above, low, n)
+
+      way : Leads setting 5 5 [] y y8
+      way = leads_on setting.marks (leads_on setting.marks (leads_on setting.marks (leads_on setting.marks
           (goes setting y y4 (MovTo (arg.Reg 2) 0) h.0 [] h.1 refl)
           (goes setting y4 y5 (Shl (arg.Reg 2) 4) h.2.0 [] h.2.1 refl))
           (goes setting y5 y6 (AddTo (arg.Reg 2) 12) h.2.2.0 [] h.2.2.1 refl))
-          (goes setting y6 y7 (CmpNumber (arg.Reg 2) (pos stack)) h.2.2.2.0 [] h.2.2.2.1 refl)
+          (goes setting y6 y7 (SubNumber (arg.Reg 2) (pos data_address)) h.2.2.2.0 [] h.2.2.2.1 refl))
+          (goes setting y7 y8 (CmpNumber (arg.Reg 2) (pos (heap_offset stack))) h.2.2.2.2.0 [] h.2.2.2.2.1 refl)
 
-      above : (b : Bool) → nat_le (next + 16 * left) stack ≡ b → condition y7.flags A ≡ Some (not b)
-      above b e = compared_a sum stack (let n = near in let s = sum_is in omega (arith, s, low, few, n))
-          (let n = near in omega (arith, n)) ∙ ap (λ k. Some (not (nat_le k stack))) sum_is
+      over : (b : Bool) → nat_le (next + 16 * left) stack ≡ b → condition y8.flags A ≡ Some (not b)
+      over b e = compared_a room (heap_offset stack) (let n = near in let s = room_is in omega (arith, s, low, few, n))
+          (let n = near in omega (arith, n)) ∙ ap (λ k. Some (not (nat_le k (heap_offset stack)))) room_is
+          ∙ ap (λ b. Some (not b)) (offset_compared (next + 16 * left) stack data_address (omega (arith, above)) (omega (arith, above, low)))
           ∙ ap (λ b. Some (not b)) e
 
       kept : Kept is_two y.registers y7.registers
       kept = kept_then is_two y.registers y4.registers y7.registers (kept_set is_two y.registers 2 (y.registers 0) refl)
           (kept_then is_two y4.registers y5.registers y7.registers
           (kept_set is_two y4.registers 2 (y4.registers 2 * 2 ^ 4 % 2 ^ 64) refl)
-          (kept_set is_two y5.registers 2 sum refl))
+          (kept_then is_two y5.registers y6.registers y7.registers (kept_set is_two y5.registers 2 sum refl)
+          (kept_set is_two y6.registers 2 room refl)))
 
       by : (b : Bool) → nat_le (next + 16 * left) stack ≡ b → RoomTested b y rest
       by true e = record {
         registers = y7.registers;
-        flags = y7.flags;
-        place = y7.place + h.2.2.2.2.0;
+        flags = y8.flags;
+        place = y8.place + h.2.2.2.2.2.0;
         leads = leads_on setting.marks way
-            (branches setting y7 A (stop_label HeapLimit) rest [] false h.2.2.2.2 (above true e));
+            (branches setting y8 A (stop_label HeapLimit) rest [] false h.2.2.2.2.2 (over true e));
         kept = kept;
-        ahead = h.2.2.2.2.4;
+        ahead = h.2.2.2.2.2.4;
       }
       by false e = record {
         registers = y7.registers;
-        flags = y7.flags;
-        least = 5;
-        steps = 5;
+        flags = y8.flags;
+        least = 6;
+        steps = 6;
         leads = leads_on setting.marks way
-            (branches setting y7 A (stop_label HeapLimit) rest [] true h.2.2.2.2 (above false e));
+            (branches setting y8 A (stop_label HeapLimit) rest [] true h.2.2.2.2.2 (over false e));
         few = omega arith;
       }
 
@@ -280,7 +297,7 @@ module _ (plan : Plan) (act : Activation plan) (parts : Parts) (a0 : ℕ) (behin
     pub steps : ℕ
     pub leads : Leads setting least steps [] x (changed x registers flags place bytes)
     pub some : 1 ≤ least
-    pub few : steps ≤ 10 * left + 24
+    pub few : steps ≤ 10 * left + 25
     pub places_at : PlacesAt plan act parts_after t.charged (entry_places self arguments) (λ k. Junk) registers bytes
     pub store : StoreAt plan parts_after (record s { store = t }) bytes x.output x.answers
     pub ahead : Stands setting [] place following
@@ -292,7 +309,7 @@ module _ (plan : Plan) (act : Activation plan) (parts : Parts) (a0 : ℕ) (behin
   -- what is owed to the arguments that fit, or to a stop
   abbrev pub Fits : View → State Procedure → Value → ℕ → List Item → Outcome Store (List Value) → Type 0
   Fits x s self left following (gives arguments t) = Begun x s self left following arguments t
-  Fits x s self left following (stops why t) = (t ≡ s.store) × Halts setting x [] 12 why
+  Fits x s self left following (stops why t) = (t ≡ s.store) × Halts setting x [] 13 why
   Fits x s self left following (spent t) = ⊥
 
   module _ (self : Value) (vs : List Value) (s : State Procedure) (x : View) (required n : ℕ) (following : List Item)
@@ -325,7 +342,7 @@ module _ (plan : Plan) (act : Activation plan) (parts : Parts) (a0 : ℕ) (behin
     below_required b e = compared_b (x.registers 0) required ∙ ap (λ k. Some (nat_lt k required)) counted
         ∙ ap Some (less_than (length vs) required b e)
 
-    too_few : nat_le required (length vs) ≡ false → Halts setting x [] 12 WrongCount
+    too_few : nat_le required (length vs) ≡ false → Halts setting x [] 13 WrongCount
     too_few e = record {
       registers = y1.registers;
       flags = y1.flags;
@@ -376,9 +393,9 @@ module _ (plan : Plan) (act : Activation plan) (parts : Parts) (a0 : ℕ) (behin
           (room_tested plan parts s x.bytes x.output x.answers (16 * length left_over) g ∙ e)
           (let d = left_length vs required enough in let w = narrow in let top = g.within in
           room_for (heap + t.charged) (length left_over) z q.code (q.counted ∙ left_is) (omega (arith, d, w, many))
-          (q.kept 12 refl ∙ f3.free) top q.stands)
+          (q.kept 12 refl ∙ f3.free) (let hl = plan.heap_low in let cl = plan.closures_low in omega (arith, hl, cl)) top q.stands)
 
-      no_room : RoomTested false z q.code → Halts setting x [] 12 HeapLimit
+      no_room : RoomTested false z q.code → Halts setting x [] 13 HeapLimit
       no_room r = let a = q.few in let b = r.few in record {
         registers = r.registers;
         flags = r.flags;
@@ -413,9 +430,9 @@ module _ (plan : Plan) (act : Activation plan) (parts : Parts) (a0 : ℕ) (behin
             flags = l.flags;
             place = l.place;
             bytes = l.bytes;
-            least = 3 + q.least + 5 + l.least;
+            least = 3 + q.least + 6 + l.least;
             some = omega arith;
-            steps = 3 + q.steps + 5 + l.steps;
+            steps = 3 + q.steps + 6 + l.steps;
             leads = leads_on setting.marks (leads_on setting.marks (leads_on setting.marks way q.leads) r.leads)
                 l.leads;
             few = omega (arith, few1, few2);

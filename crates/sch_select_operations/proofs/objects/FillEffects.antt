@@ -1,15 +1,16 @@
 -- What a new vector or string is checked for, how many bytes it takes, and what is left by the routine that fills it.
 use Rattle.std.proofs.Common.{◌≡◌, ℕ, zero, suc, ◌+◌, ◌-◌, ◌*◌, ◌/◌, ◌%◌, ◌^◌, ◌<◌, ◌≤◌, List, [], ◌∷◌, length, take, drop}
-use Rattle.std.proofs.Common.{Bool, true, false, Some, refl, sym, ap, ◌∙◌, subst, arith, ⊎_elim, ◌==◌, ◌||◌}
+use Rattle.std.proofs.Common.{Bool, true, false, Some, refl, sym, ap, ◌∙◌, arith, ⊎_elim, ◌==◌, ◌||◌}
 use Rattle.std.specs.Prelude.{ℤ, ◌≤ℤ◌, pos, negsuc, not, nat_abs, nat_le, int_lt}
 use Rattle.std.proofs.lemmas.Int.{ints}
 use Rattle.std.proofs.lemmas.List.{drop-drop}
 use Rattle.sch_word.specs.declared.stop.Stop.TheVariants.{OutOfRange, HeapLimit}
 use Rattle.sch_word.specs.values.PrimitiveRows.{is_natural}
 use Rattle.sch_word.specs.runs.Charges.{rounded}
+use Rattle.sch_word.specs.runs.ProgramLayout.{data_address}
 use Rattle.sch_insn.specs.declared.condition.TheConstants.{A, L}
 use Rattle.sch_insn.specs.declared.insn.Arg.TheVariants.{Reg}
-use Rattle.sch_insn.specs.declared.insn.Insn.TheVariants.{MovTo, AddTo, AddNumber, CmpNumber, Shl, Shr}
+use Rattle.sch_insn.specs.declared.insn.Insn.TheVariants.{MovTo, AddTo, AddNumber, SubNumber, CmpNumber, Shl, Shr}
 use Rattle.sch_insn.specs.declared.state.Flags.{Flags}
 use Rattle.sch_insn.specs.Machine.{set_register, sum_of, difference_of, condition, unknown_flags}
 use Rattle.sch_insn.proofs.Conditions.{compared_a}
@@ -24,9 +25,9 @@ use Rattle.sch_select_memory.proofs.heap.Signs.{low_word}
 use Rattle.sch_select_memory.proofs.heap.Quotients.{positive_word}
 use Rattle.sch_select_memory.proofs.heap.Ranges.{piece_in}
 use Rattle.sch_select_memory.specs.Checks.{round_code}
-use Rattle.sch_select_memory.specs.Addresses.{stop_label}
+use Rattle.sch_select_memory.specs.Addresses.{heap_offset, stop_label}
 use Rattle.sch_select_memory.specs.MakeCode.{check_length, check_room, fill_code}
-use Rattle.sch_select_memory.proofs.Straight.{Halts, Kept, kept_set, kept_then, moved_to}
+use Rattle.sch_select_memory.proofs.Straight.{Halts, Kept, kept_set, kept_then, moved_to, offset_compared}
 use Rattle.sch_select_memory.proofs.Places.{Plan}
 use Rattle.sch_select_memory.proofs.HeapWrites.{Wrote}
 use Rattle.sch_select_operations.proofs.objects.Indices.{Ranged}
@@ -166,18 +167,18 @@ module _ (plan : Plan) where
     pub registers : ℕ → ℕ
     pub flags : Flags
     pub place : ℕ
-    pub leads : Leads setting 6 6 [] z (moved_to z registers flags place)
+    pub leads : Leads setting 7 7 [] z (moved_to z registers flags place)
     pub kept : Kept (λ r. r == 2) z.registers registers
     pub ahead : Here place following
 
   abbrev pub Tested : Bool → View → List Item → Type 0
   Tested true z following = Room z following
-  Tested false z following = Halts setting z [] 6 HeapLimit
+  Tested false z following = Halts setting z [] 7 HeapLimit
 
   pub room_tested_here : (next m : ℕ) (z : View) (following : List Item) → z.registers 2 ≡ m → z.registers 12 ≡ next
-      → next ≤ stack → m < 9223372036854775808 → Here z.place (round_code (check_room stack following))
+      → data_address ≤ next → next ≤ stack → m < 9223372036854775808 → Here z.place (round_code (check_room stack following))
       → Tested (nat_le (next + rounded (8 + m)) stack) z following
-  room_tested_here next m z following is at low lt h = by (nat_le (next + rounded (8 + m)) stack) refl
+  room_tested_here next m z following is at above low lt h = by (nat_le (next + rounded (8 + m)) stack) refl
     where
       r : Rounded z m (check_room stack following)
       r = round_here z m (check_room stack following) is lt h
@@ -194,8 +195,14 @@ module _ (plan : Plan) where
       y1 : View
       y1 = moved_to z (set_register r.registers 2 sum) (sum_of (r.registers 2) (r.registers 12)).flags (r.place + i.0)
 
+      room : ℕ
+      room = (difference_of sum data_address).value
+
       y2 : View
-      y2 = moved_to z y1.registers (difference_of sum stack).flags (y1.place + i.2.0)
+      y2 = moved_to z (set_register y1.registers 2 room) (difference_of sum data_address).flags (y1.place + i.2.0)
+
+      y3 : View
+      y3 = moved_to z y2.registers (difference_of room (heap_offset stack)).flags (y2.place + i.2.2.0)
 
       free : r.registers 12 ≡ next
       free = r.kept 12 refl ∙ at
@@ -209,36 +216,43 @@ module _ (plan : Plan) where
       sum_is : sum ≡ next + rounded (8 + m)
       sum_is = omega (arith, free, size, fits)
 
-      kept : Kept (λ r. r == 2) z.registers y1.registers
-      kept = kept_then (λ r. r == 2) z.registers r.registers y1.registers r.kept
-          (kept_set (λ r. r == 2) r.registers 2 sum refl)
+      room_is : room ≡ next + rounded (8 + m) - data_address
+      room_is = omega (arith, sum_is, fits, above)
 
-      first : Leads setting 5 5 [] z y2
-      first = leads_on setting.marks (leads_on setting.marks r.leads
+      kept : Kept (λ r. r == 2) z.registers y2.registers
+      kept = kept_then (λ r. r == 2) z.registers r.registers y2.registers r.kept
+          (kept_then (λ r. r == 2) r.registers y1.registers y2.registers (kept_set (λ r. r == 2) r.registers 2 sum refl)
+          (kept_set (λ r. r == 2) y1.registers 2 room refl))
+
+      first : Leads setting 6 6 [] z y3
+      first = leads_on setting.marks (leads_on setting.marks (leads_on setting.marks r.leads
           (goes setting y y1 (AddTo (Reg 2) 12) i.0 [] i.1 refl))
-          (goes setting y1 y2 (CmpNumber (Reg 2) (pos stack)) i.2.0 [] i.2.1 refl)
+          (goes setting y1 y2 (SubNumber (Reg 2) (pos data_address)) i.2.0 [] i.2.1 refl))
+          (goes setting y2 y3 (CmpNumber (Reg 2) (pos (heap_offset stack))) i.2.2.0 [] i.2.2.1 refl)
 
-      above : (b : Bool) → nat_le (next + rounded (8 + m)) stack ≡ b → condition y2.flags A ≡ Some (not b)
-      above b e = compared_a sum stack (subst (λ k. k < 2 ^ 64) (sym sum_is) fits) (let n = near in omega (arith, n))
-          ∙ ap (λ k. Some (not (nat_le k stack))) sum_is ∙ ap (λ b. Some (not b)) e
+      over : (b : Bool) → nat_le (next + rounded (8 + m)) stack ≡ b → condition y3.flags A ≡ Some (not b)
+      over b e = compared_a room (heap_offset stack) (omega (arith, room_is, fits)) (let n = near in omega (arith, n))
+          ∙ ap (λ k. Some (not (nat_le k (heap_offset stack)))) room_is
+          ∙ ap (λ b. Some (not b)) (offset_compared (next + rounded (8 + m)) stack data_address (omega (arith, above)) (omega (arith, above, low)))
+          ∙ ap (λ b. Some (not b)) e
 
       by : (b : Bool) → nat_le (next + rounded (8 + m)) stack ≡ b → Tested b z following
       by true e = record {
-        registers = y1.registers;
-        flags = y2.flags;
-        place = y2.place + i.2.2.0;
-        leads = leads_on setting.marks first (branches setting y2 A (stop_label HeapLimit) following [] false i.2.2
-            (above true e));
+        registers = y2.registers;
+        flags = y3.flags;
+        place = y3.place + i.2.2.2.0;
+        leads = leads_on setting.marks first (branches setting y3 A (stop_label HeapLimit) following [] false i.2.2.2
+            (over true e));
         kept = kept;
-        ahead = i.2.2.4;
+        ahead = i.2.2.2.4;
       }
       by false e = record {
-        registers = y1.registers;
-        flags = y2.flags;
-        least = 6;
-        steps = 6;
-        leads = leads_on setting.marks first (branches setting y2 A (stop_label HeapLimit) following [] true i.2.2
-            (above false e));
+        registers = y2.registers;
+        flags = y3.flags;
+        least = 7;
+        steps = 7;
+        leads = leads_on setting.marks first (branches setting y3 A (stop_label HeapLimit) following [] true i.2.2.2
+            (over false e));
         few = omega arith;
       }
 

@@ -103,7 +103,7 @@ module _ (plan : Plan) (body_steps : ℕ) (laid : Laid plan body_steps) (act : A
     made o m b = on_value (require b HeapLimit (λ u. gives unspecified (record u
         { charged = u.charged + rounded (8 + m) })) t) (λ _. new_object o)
 
-    low_next : next < 2 ^ 31
+    low_next : next < 2 ^ 32
     low_next = let a = g.within in let n = near in omega (arith, a, n)
 
     -- ---- behind the fill
@@ -172,7 +172,7 @@ module _ (plan : Plan) (body_steps : ℕ) (laid : Laid plan body_steps) (act : A
     roomed o m registers flags place steps following leads few size_is lt free st then =
         by (nat_le (t.charged + rounded (8 + m)) t.constants.heap) refl
         (subst (λ b. Tested plan b z following) (room_tested plan parts w.state x.bytes x.output x.answers
-        (rounded (8 + m)) g) (room_tested_here plan next m z following size_is free g.within lt st))
+        (rounded (8 + m)) g) (room_tested_here plan next m z following size_is free (let hl = plan.heap_low in let cl = plan.closures_low in omega (arith, hl, cl)) g.within lt st))
       where
         z : View
         z = moved_to x registers flags place
@@ -183,8 +183,8 @@ module _ (plan : Plan) (body_steps : ℕ) (laid : Laid plan body_steps) (act : A
             let le : t.charged + rounded (8 + m) ≤ t.constants.heap =
             leb-true (t.charged + rounded (8 + m)) t.constants.heap e in
             let lim = g.limit in then r (omega (arith, le, lim))
-        by false e r = stops_here plan body_steps laid before waiting x (steps + 6) (30 + c) HeapLimit w
-            (halts_after setting x registers flags place waiting steps steps 6 (steps + 6) HeapLimit leads
+        by false e r = stops_here plan body_steps laid before waiting x (steps + 7) (30 + c) HeapLimit w
+            (halts_after setting x registers flags place waiting steps steps 7 (steps + 7) HeapLimit leads
             (omega arith) r) g.printed marked (omega (arith, few))
 
     -- ---- the fill
@@ -400,9 +400,9 @@ module _ (plan : Plan) (body_steps : ℕ) (laid : Laid plan body_steps) (act : A
             within = let hl = plan.heap_low in heap_inside plan act next x.bytes g.size_is (omega (arith, hl))
                 (omega (arith, fits_in))
 
-            b : Back j (8 * j) (steps + 1 + 6 + 1 + 6 + (5 * j + 4)) (AreWords (next + 8) j word) (round_code (ending 2))
+            b : Back j (8 * j) (steps + 1 + 7 + 1 + 6 + (5 * j + 4)) (AreWords (next + 8) j word) (round_code (ending 2))
             b = back (label_of routine.FillWords) n j (8 * j) value (5 * j + 4) (AreWords (next + 8) j word) r.registers
-                r.flags (r.place + r.ahead.0) (steps + 1 + 6 + 1) (round_code (ending 2)) value_is lt fits_in
+                r.flags (r.place + r.ahead.0) (steps + 1 + 7 + 1) (round_code (ending 2)) value_is lt fits_in
                 (leads_on setting.marks (leads_on setting.marks (leads_on setting.marks leads
                 (goes setting z y (MovTo (Reg 2) 0) st.0 [] st.1 refl)) r.leads)
                 (stores_word setting (moved_to x r.registers r.flags r.place) 0 r.ahead.0 next (Base32 12 (pos 0)) []
@@ -604,10 +604,10 @@ module _ (plan : Plan) (body_steps : ℕ) (laid : Laid plan body_steps) (act : A
             letter_is : letter % 256 ≡ byte
             letter_is = byte_shifted byte (r.registers 1) (r.kept 1 refl ∙ hb.0) hb.1
 
-            b : Back j j (steps + 1 + 1 + 6 + 1 + 1 + 6 + (5 * j + 4)) (AreBytes (next + 8) j byte)
+            b : Back j j (steps + 1 + 1 + 7 + 1 + 1 + 6 + (5 * j + 4)) (AreBytes (next + 8) j byte)
                 (item.Plain (Shr (Reg 2) 3) ∷ round_code (ending 3))
             b = back (label_of routine.FillBytes) n j j value (5 * j + 4) (AreBytes (next + 8) j byte) v1.registers
-                v1.flags v1.place (steps + 1 + 1 + 6 + 1 + 1) (item.Plain (Shr (Reg 2) 3) ∷ round_code (ending 3))
+                v1.flags v1.place (steps + 1 + 1 + 7 + 1 + 1) (item.Plain (Shr (Reg 2) 3) ∷ round_code (ending 3))
                 value_is lt fits_in
                 (leads_on setting.marks (leads_on setting.marks (leads_on setting.marks to_y r.leads)
                 (stores_word setting (moved_to x r.registers r.flags r.place) 0 r.ahead.0 next (Base32 12 (pos 0)) []

@@ -25,6 +25,7 @@ use Rattle.sch_asm.specs.Effects.{is_scratch}
 use Rattle.sch_asm.specs.Views.{View, Leads}
 use Rattle.sch_asm.proofs.EachItem.{goes, stores_one_byte}
 use Rattle.sch_asm.proofs.Bytes.{with_byte, byte_set, size_with_byte, word_beside_byte}
+use Rattle.sch_select_memory.specs.Addresses.{max_heap_end}
 use Rattle.sch_select_memory.specs.Parts.{Parts}
 use Rattle.sch_select_memory.specs.Encoded.{IsWord}
 use Rattle.sch_select_memory.specs.Heap.{StringAt, text_address}
@@ -102,7 +103,7 @@ module _ (plan : Plan) (body_steps : ℕ) (laid : Laid plan body_steps) (act : A
         is : registers 0 ≡ 16 * p.at.unit + 3
         is = kept 0 refl ∙ p.is
 
-        m : stack < 2 ^ 31
+        m : stack ≤ max_heap_end
         m = near
 
         hi : 16 * p.at.unit + 16 * suc p.at.more ≤ stack

@@ -20,6 +20,7 @@ use Rattle.sch_asm.specs.Stands.{Stands}
 use Rattle.sch_asm.specs.Data.{FixnumWord, word_in}
 use Rattle.sch_asm.specs.Views.{View}
 use Rattle.sch_asm.proofs.EachItem.{goes, loads_word, loads_one_byte}
+use Rattle.sch_select_memory.specs.Addresses.{max_heap_end}
 use Rattle.sch_select_memory.specs.Parts.{a_string, Parts, Spot, spot}
 use Rattle.sch_select_memory.specs.Encoded.{IsWord}
 use Rattle.sch_select_memory.specs.Heap.{StringAt, text_address}
@@ -187,7 +188,7 @@ module _ (plan : Plan) (act : Activation plan) (parts : Parts) (s : State Proced
       is : x.registers 0 ≡ 16 * p.at.unit + 3
       is = same ∙ p.is
 
-      m : stack < 2 ^ 31
+      m : stack ≤ max_heap_end
       m = near
 
       hi : 16 * p.at.unit + 16 * suc p.at.more ≤ stack

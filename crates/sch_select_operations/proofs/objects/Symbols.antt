@@ -20,6 +20,7 @@ use Rattle.sch_asm.specs.Stands.{Stands}
 use Rattle.sch_asm.specs.Data.{FixnumWord, word_in}
 use Rattle.sch_asm.specs.Views.{View}
 use Rattle.sch_asm.proofs.EachItem.{goes, loads_word, loads_data, loads_one_byte}
+use Rattle.sch_select_memory.specs.Addresses.{max_heap_end}
 use Rattle.sch_select_memory.specs.Parts.{Parts}
 use Rattle.sch_select_memory.specs.Encoded.{IsWord}
 use Rattle.sch_select_memory.proofs.heap.Encodings.{symbol_tested}
@@ -189,7 +190,7 @@ module _ (plan : Plan) (act : Activation plan) (parts : Parts) (s : State Proced
       high : q.at + 8 + length q.name ≤ heap
       high = q.high
 
-      near_is : stack < 2 ^ 31
+      near_is : stack ≤ max_heap_end
       near_is = near
 
       low : heap ≤ stack

@@ -28,6 +28,7 @@ use Rattle.sch_asm.specs.Effects.{is_scratch}
 use Rattle.sch_asm.specs.Views.{View, Leads}
 use Rattle.sch_asm.proofs.EachItem.{goes, loads_word, stores_word}
 use Rattle.sch_asm.proofs.Words.{word_same, word_other}
+use Rattle.sch_select_memory.specs.Addresses.{max_heap_end}
 use Rattle.sch_select_memory.specs.Parts.{a_vector, Parts, Spot, spot}
 use Rattle.sch_select_memory.specs.Encoded.{IsWord}
 use Rattle.sch_select_memory.specs.Heap.{VectorAt, field_address}
@@ -192,7 +193,7 @@ module _ (plan : Plan) (act : Activation plan) (parts : Parts) (s : State Proced
       is : x.registers 0 ≡ 16 * p.at.unit + 2
       is = same ∙ p.is
 
-      m : stack < 2 ^ 31
+      m : stack ≤ max_heap_end
       m = near
 
       hi : 16 * p.at.unit + 16 * suc p.at.more ≤ stack
@@ -371,7 +372,7 @@ module _ (plan : Plan) (body_steps : ℕ) (laid : Laid plan body_steps) (act : A
         is : registers 0 ≡ 16 * p.at.unit + 2
         is = kept 0 refl ∙ p.is
 
-        m : stack < 2 ^ 31
+        m : stack ≤ max_heap_end
         m = near
 
         hi : 16 * p.at.unit + 16 * suc p.at.more ≤ stack

@@ -119,7 +119,8 @@ module _ (plan : Plan) (body_steps : ℕ) (laid : Laid plan body_steps) (act : A
     make_cell contents code h stores = by (nat_le (w.state.store.charged + 16) w.state.store.constants.heap) refl
         (subst (λ b. Tested plan b x waiting (code part))
         (room_tested plan parts w.state x.bytes x.output x.answers 16 g)
-        (room_here plan next 16 x waiting (code part) p.free g.within (omega arith) h))
+        (room_here plan next 16 x waiting (code part) p.free (let hl = plan.heap_low in let cl = plan.closures_low in omega (arith, hl, cl))
+        g.within (omega arith) h))
       where
         t : Store
         t = w.state.store

@@ -1,11 +1,12 @@
 -- The machine makes closures: one, and a group that know one another.
-use Rattle.std.proofs.Common.{◌≡◌, ℕ, zero, suc, ◌+◌, ◌*◌, ◌^◌, ◌<◌, ◌≤◌, List, [], ◌∷◌, ◌++◌, length, map, Bool}
+use Rattle.std.proofs.Common.{◌≡◌, ℕ, zero, suc, ◌+◌, ◌*◌, ◌≤◌, List, [], ◌∷◌, ◌++◌, length, map, Bool}
 use Rattle.std.proofs.Common.{true, false, cond, Option, Some, None, refl, sym, ap, ◌∙◌, subst, arith, append-nil, append_assoc}
 use Rattle.std.proofs.Common.{inr}
 use Rattle.std.specs.Prelude.{pos, nat_le, slice_get, ◌&&◌}
 use Rattle.std.specs.List.{list_all}
 use Rattle.std.proofs.lemmas.Bool.{and_parts, leb-true, le-leb}
 use Rattle.std.proofs.lemmas.Bool.Decides.{nat_tests}
+use Rattle.sch_word.specs.runs.ProgramLayout.{data_address}
 use Rattle.sch_word.specs.trees.Shape.{max_operands}
 use Rattle.sch_word.specs.declared.mark.MarkKind.TheVariants.{Spill}
 use Rattle.sch_word.specs.declared.place.Place.{Place}
@@ -253,7 +254,7 @@ module _ (plan : Plan) (body_steps : ℕ) (laid : Laid plan body_steps) (act : A
         tested : Tested plan (nat_le (t.charged + total) t.constants.heap) x waiting code
         tested = subst (λ b. Tested plan b x waiting code)
             (room_tested plan parts w.state x.bytes x.output x.answers total g)
-            (room_here plan next total x waiting code p.free g.within
+            (room_here plan next total x waiting code p.free (let hl = plan.heap_low in let cl = plan.closures_low in omega (arith, hl, cl)) g.within
             (let a = few in omega (arith, a)) h)
 
         by_room : (vs : List Value) → source_values (held f) w.state q.fields ≡ Some vs → (b : Bool)
@@ -535,7 +536,7 @@ module _ (plan : Plan) (body_steps : ℕ) (laid : Laid plan body_steps) (act : A
         result : Outcome Store Value → Result
         result o = on_outcome w.marks (with_rest w.state.cells w.state.procedures o) (λ _ w. then_made w)
 
-        small : total < 2 ^ 31
+        small : total ≤ data_address
         small = let a = group_small words globals (length symbols) literals members e in
             let b = leb-true (length members) max_operands few in omega
             (arith, a, b)
@@ -557,7 +558,7 @@ module _ (plan : Plan) (body_steps : ℕ) (laid : Laid plan body_steps) (act : A
         tested = subst (λ b. Tested plan b x waiting code)
             (room_tested plan parts w.state x.bytes x.output x.answers total g
             ∙ ap (λ n. nat_le (t.charged + n) t.constants.heap) (sym sum_is))
-            (room_here plan next_part total x waiting code p.free g.within small h)
+            (room_here plan next_part total x waiting code p.free (let hl = plan.heap_low in let cl = plan.closures_low in omega (arith, hl, cl)) g.within small h)
 
         no_room : Halts setting x waiting 4 HeapLimit → Owed parts before w x cost (result (stops HeapLimit all.ends))
         no_room s =

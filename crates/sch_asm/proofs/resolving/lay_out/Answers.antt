@@ -1,15 +1,15 @@
 -- The table that is filled is that of the items.
-use Rattle.std.proofs.Common.{◌≡◌, ℕ, ◌+◌, ◌-◌, ◌<◌, ◌≤◌, ◌++◌, List, [], length, Bool, refl, sym, ap, ◌∙◌, subst, arith}
+use Rattle.std.proofs.Common.{◌≡◌, ℕ, ◌+◌, ◌-◌, ◌<◌, ◌++◌, List, [], length, Bool, sym, ap, ◌∙◌, subst, arith}
 use Rattle.std.specs.Prelude.{slice_index}
 use Rattle.sch_jumps.specs.declared.piece.Piece.{Piece}
 use Rattle.sch_jumps.specs.Sizes.{ArePieces, jump_count}
-use Rattle.sch_jumps.specs.Least.{AllReach, IsLeast, text_size}
+use Rattle.sch_jumps.specs.Least.{AllReach, IsLeast}
 use Rattle.sch_jumps.specs.Places.{Once, Own}
 use Rattle.sch_jumps.specs.Spans.{LabelsBelow, set_of}
 use Rattle.sch_asm.specs.declared.assembly.Word.{Word}
 use Rattle.sch_asm.specs.declared.item.Item.{Item}
 use Rattle.sch_asm.specs.Items.{AreKnown, AreOwn, AreRoutines, IsEachOnce, labels_in}
-use Rattle.sch_asm.specs.Layout.{IsLaidOut, StandBelow, UseBelow, WordsBelow}
+use Rattle.sch_asm.specs.Layout.{IsLaidOut}
 use Rattle.sch_asm.specs.Pieces.{skeleton}
 use Rattle.sch_asm.proofs.Skeleton.{skeleton_append, sound_pieces}
 use Rattle.sch_asm.proofs.Tables.{once_in_both, own_high, routines_low, stand_back, stand_below, stand_front, use_append, uses_known}

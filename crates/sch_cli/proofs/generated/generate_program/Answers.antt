@@ -1,8 +1,7 @@
 use Rattle.std.proofs.Common.{◌∙◌, subst, sym}
-use Rattle.sch_generator.specs.GeneratedText.{generated_text}
 use Rattle.sch_cli.specs.Figures.{AreFiguresOf, HasNoFigures}
 use Rattle.sch_cli.specs.Prints.{Generates, Prints, measured, not_measured}
-use Rattle.sch_cli.specs.Seen.{TookNothing, stream_change}
+use Rattle.sch_cli.specs.Seen.{stream_change}
 use Rattle.sch_cli.specs.declared.failure.Failure.TheVariants.{Memory}
 use Rattle.sch_cli.proofs.DiskSteps.{failed_with, took_nothing}
 use Rattle.sch_cli.proofs.NoImageStatus.{generated_is_other}

@@ -1,8 +1,8 @@
-use Rattle.std.proofs.Common.{◌≡◌, ◌≤◌, ◌∙◌, length, refl, subst, sym}
+use Rattle.std.proofs.Common.{refl, subst}
 use Rattle.sch_elf.specs.Stands.{StandsFor}
 use Rattle.sch_prelude.specs.LibraryText.{library_text}
 use Rattle.sch_driver.specs.Compiled.{IsCompiled}
-use Rattle.sch_cli.specs.Command.{default_depth, default_heap}
+use Rattle.sch_cli.specs.Command.{default_heap}
 use Rattle.sch_cli.specs.Figures.{HasNoFigures}
 use Rattle.sch_cli.specs.Refusals.{IsRefused}
 use Rattle.sch_cli.specs.declared.failure.Failure.TheVariants.{Memory}

@@ -1,7 +1,6 @@
 use Rattle.std.proofs.Common.{◌∙◌, subst, sym}
 use Rattle.sch_prelude.specs.LibraryText.{library_text}
 use Rattle.sch_driver.specs.Compiled.{IsCompiled}
-use Rattle.sch_listing.specs.ListingText.{listing_text}
 use Rattle.sch_cli.specs.Lists.{ListsSource, listed, no_memory, refused}
 use Rattle.sch_cli.specs.Prints.{Prints}
 use Rattle.sch_cli.specs.Refusals.{IsRefused}

@@ -1,4 +1,4 @@
-use Rattle.std.proofs.Common.{◌≡◌, Some, None, true, ap, sym, ◌∙◌, subst, arith, rules}
+use Rattle.std.proofs.Common.{◌≡◌, Some, None, true, ap, sym, ◌∙◌, arith, rules}
 use Rattle.std.proofs.Math.Logic.{∥∥₁_elim}
 use Rattle.std.proofs.Props.{props}
 use Rattle.sch_lang.specs.ProgramView.{source}
@@ -10,12 +10,12 @@ use Rattle.sch_sketch.specs.DraftView.{drafts_of}
 use Rattle.sch_link_tables.specs.Programs.{seen, program_of}
 use Rattle.sch_link_program.specs.Definitions.{definitions_of}
 use Rattle.sch_link_program.specs.PartsView.{parts_of}
-use Rattle.sch_link_program.specs.Ranged.{IsValidOnceRanged, trees_in_range}
+use Rattle.sch_link_program.specs.Ranged.{trees_in_range}
 use Rattle.sch_toplevel.specs.Views.{given}
 use Rattle.sch_core.specs.Excess.{first_excess}
 use Rattle.sch_toplevel.specs.Forms.{form_places}
 use Rattle.sch_core.proofs.texts.ProgramOfText.{faulty, exceeding, found, valid_once, small, places_are}
-use Rattle.sch_core.proofs.DataLaws.{faulty_error, excessive_error, first_counted, never_both, one_program, err_only}
+use Rattle.sch_core.proofs.DataLaws.{faulty_error, excessive_error, first_counted, never_both, one_program}
 use Rattle.sch_core.proofs.expander.core.Goals as goal
 
 pub returns-in-Some-clause-fault : goal.returns-in-Some-clause-fault

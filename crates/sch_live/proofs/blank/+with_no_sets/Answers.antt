@@ -9,8 +9,8 @@ use Rattle.sch_live.proofs.blank.+with_no_sets.Goals as goal
 
 pub returns-in_ok-a-in-Call : goal.returns-in_ok-a-in-Call
 returns-in_ok-a-in-Call g t c =
-    IfOk-weaker c.boxed-in-Call.result _ _
+    IfOk-weaker c.boxed_call.result _ _
     (λ x l. ap listed l
     ∙ (ap (λ z. call z (set.items c.new.result)) c.in_ok-a-in-Call.ensures
     ∙ (ap (λ z. call c.in-Call.a (set.items z)) c.new.ensures ∙ (ap (λ z. call c.in-Call.a z) items_empty ∙ ap expression (sym c.in-Call.is)))))
-    c.boxed-in-Call.ensures
+    c.boxed_call.ensures

@@ -1,12 +1,14 @@
 use Rattle.std.proofs.Common.{rules, arith, ap, sym, ◌∙◌, subst, ◌*◌, ◌<◌, true}
 use Rattle.std.proofs.lemmas.Grind.{common_steps}
 use Rattle.sch_control.specs.Valid.{in_scope_whole, numbered, ended, shaped_whole, fields_known}
-use Rattle.sch_control.specs.View.{code}
+use Rattle.sch_control.specs.View.{code, expression}
 use Rattle.sch_control.specs.flow.Bare.{unlisted}
 use Rattle.sch_control.specs.flow.Middle.{listed}
+use Rattle.sch_control.specs.flow.Reads.{VariablesBelow}
+use Rattle.sch_paths.proofs.saves.VariablesBelow.{some_below, code_below}
 use Rattle.sch_live.specs.Reached.{where_reached}
-use Rattle.sch_live.specs.Reads.{VariablesBelow}
-use Rattle.sch_live.proofs.LiveBodies.{some_below, code_below, same, sets, kept, runs, truncated}
+use Rattle.sch_live.proofs.MadeLists.{made_lists}
+use Rattle.sch_live.proofs.LiveBodies.{same, sets, kept, runs, truncated}
 use Rattle.sch_live.proofs.live_bodies.live.Goals as goal
 
 pub list_live-requires : goal.list_live-requires
@@ -65,3 +67,7 @@ returns-clause-meaning g c =
     c.in_ok-exp.ensures (c.list_live.ensures.same ∙ ap (λ z. unlisted (listed z)) c.deref_mut.ensures.value) c.none.ensures.on_true c.none.ensures.on_false
     c.list_live.ensures.sets
     (ap listed c.into_inner.ensures ∙ (c.keep_reached.ensures.made ∙ ap (λ z. where_reached true (listed z)) c.deref_mut-2.ensures.value))
+
+pub returns-clause-made : goal.returns-clause-made
+returns-clause-made g c =
+    made_lists c.args.b.now.variables (listed c.into_inner.result) (expression c.args.b.now.exp) (returns-clause-live g c) (returns-clause-same g c)

@@ -6,7 +6,7 @@ use Rattle.sch_control.specs.AtomsAndSites.{member_atoms}
 use Rattle.sch_control.specs.Tree.{perform, bind, sequence, branch, fix, call, tail_call, return, end, save}
 use Rattle.sch_control.specs.Valid.{member_variables}
 use Rattle.sch_control.specs.flow.RestoredView.{restored}
-use Rattle.sch_regs.specs.Reads.{IsWith}
+use Rattle.sch_control.specs.flow.Reads.{IsWith}
 use Rattle.sch_regs.specs.SetsAsTests.{with_first}
 use Rattle.sch_regs.proofs.NotedSteps.{of_tree, do_back, bind_back, sequence_back, branch_back, fix_back, call_back, tail_back, return_back, end_back}
 use Rattle.sch_regs.proofs.noting.+note.Goals as goal

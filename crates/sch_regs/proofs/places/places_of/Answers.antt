@@ -6,7 +6,7 @@ use Rattle.sch_control.specs.flow.RestoredView.{restored}
 use Rattle.sch_regs.specs.NotedSets.{assign_noted}
 use Rattle.sch_regs.specs.PlaceChoice.{arrived, in_order, slots, table_of}
 use Rattle.sch_regs.specs.SetsAsTests.{noted_in}
-use Rattle.sch_regs.proofs.PlacedBodies.{code_of, some_words, binds_within, reads_within, entered_within, few_slots}
+use Rattle.sch_regs.proofs.PlacedBodies.{code_of, some_words, variables_within, entered_within, few_slots}
 use Rattle.sch_regs.proofs.TableMade.{table_made}
 use Rattle.sch_regs.proofs.places.places_of.Goals as goal
 
@@ -16,7 +16,7 @@ note-requires g c =
       first_of (search rules, grind (arith, common_steps), omega arith),
       (
         first_of (search rules, grind (arith, common_steps), omega arith),
-        (some_words b, (reads_within b (64 * g.row.N) b.fits, binds_within b (64 * g.row.N) b.fits)),
+        (some_words b, variables_within b (64 * g.row.N) b.fits),
       ),
     )
 
@@ -40,7 +40,7 @@ assign-requires g c =
         first_of (search rules, grind (arith, common_steps), omega arith),
         (
           first_of (search rules, grind (arith, common_steps), omega arith),
-          (omega (arith, long, l), binds_within b (length c.as_slice.result.now) (omega (arith, long))),
+          (omega (arith, long, l), variables_within b (length c.as_slice.result.now) (omega (arith, long))),
         ),
       ),
     )

@@ -7,51 +7,51 @@ use Rattle.sch_saves.proofs.needs.+with_needs.Goals as goal
 
 pub returns-in_ok-b-in-Bind-clause-sets : goal.returns-in_ok-b-in-Bind-clause-sets
 returns-in_ok-b-in-Bind-clause-sets g t c =
-    IfOk-weaker c.boxed.result _ _
+    IfOk-weaker c.boxed_bind.result _ _
     (λ x l. equal_tree c.args.variables.now.count _ _ _ _ (ap listed c.in-Bind.is)
     (bind_sets c.args.variables.now.count c.in-Bind.x (listed c.in-Bind.a.value) (listed c.in-Bind.b.value) _ _ _ _ _ _ c.then.ensures.on_true c.then.ensures.on_false
     (equal_tree c.args.variables.now.count (listed c.in-Bind.a.value) _ _ _ (ap listed (sym c.deref.ensures)) c.in_ok-a-in-Bind.ensures.sets)
     (equal_tree c.args.variables.now.count (listed c.in-Bind.b.value) _ _ _ (ap listed (sym c.deref-in-Bind.ensures)) c.in_ok-b-in-Bind.ensures.sets)))
-    c.boxed.ensures
+    c.boxed_bind.ensures
 
 pub returns-in_ok-b-in-Seq-clause-sets : goal.returns-in_ok-b-in-Seq-clause-sets
 returns-in_ok-b-in-Seq-clause-sets g t c =
-    IfOk-weaker c.boxed-in-Seq.result _ _
+    IfOk-weaker c.boxed_seq.result _ _
     (λ x l. equal_tree c.args.variables.now.count _ _ _ _ (ap listed c.in-Seq.is)
     (sequence_sets c.args.variables.now.count (listed c.in-Seq.a.value) (listed c.in-Seq.b.value) _ _ _ _ _ _ c.then-in-Seq.ensures.on_true c.then-in-Seq.ensures.on_false
     (equal_tree c.args.variables.now.count (listed c.in-Seq.a.value) _ _ _ (ap listed (sym c.deref-in-Seq.ensures)) c.in_ok-a-in-Seq.ensures.sets)
     (equal_tree c.args.variables.now.count (listed c.in-Seq.b.value) _ _ _ (ap listed (sym c.deref-in-Seq-2.ensures)) c.in_ok-b-in-Seq.ensures.sets)))
-    c.boxed-in-Seq.ensures
+    c.boxed_seq.ensures
 
 pub returns-in_ok-c-in-If-clause-sets : goal.returns-in_ok-c-in-If-clause-sets
 returns-in_ok-c-in-If-clause-sets g t c =
-    IfOk-weaker c.boxed-in-If.result _ _
+    IfOk-weaker c.boxed_if.result _ _
     (λ x l. equal_tree c.args.variables.now.count _ _ _ _ (ap listed c.in-If.is)
     (branch_sets c.args.variables.now.count (listed c.in-If.a.value) (listed c.in-If.b.value) (listed c.in-If.c.value) _ _ _ _ _ _ _ _ c.choose.ensures.on_true c.choose.ensures.on_false
     (equal_tree c.args.variables.now.count (listed c.in-If.a.value) _ _ _ (ap listed (sym c.deref-in-If.ensures)) c.in_ok-a-in-If.ensures.sets)
     (equal_tree c.args.variables.now.count (listed c.in-If.b.value) _ _ _ (ap listed (sym c.deref-in-If-2.ensures)) c.in_ok-first-in-If.ensures.sets)
     (equal_tree c.args.variables.now.count (listed c.in-If.c.value) _ _ _ (ap listed (sym c.deref-in-If-3.ensures)) c.in_ok-second-in-If.ensures.sets)))
-    c.boxed-in-If.ensures
+    c.boxed_if.ensures
 
 pub returns-in_ok-e-in-Return-clause-sets : goal.returns-in_ok-e-in-Return-clause-sets
 returns-in_ok-e-in-Return-clause-sets g t c =
-    IfOk-weaker c.boxed-in-Return.result _ _
+    IfOk-weaker c.boxed_return.result _ _
     (λ x l. equal_tree c.args.variables.now.count _ _ _ _ (ap listed c.in-Return.is)
     (return_sets c.args.variables.now.count (listed c.in-Return.e.value) _ _ _ _ _ c.both-both.ensures c.set_both.ensures.on_true c.set_both.ensures.on_false
     (equal_tree c.args.variables.now.count (listed c.in-Return.e.value) _ _ _ (ap listed (sym c.deref-in-Return.ensures)) c.in_ok-e-in-Return.ensures.sets)))
-    c.boxed-in-Return.ensures
+    c.boxed_return.ensures
 
 pub returns-in_ok-e-in-End-clause-sets : goal.returns-in_ok-e-in-End-clause-sets
 returns-in_ok-e-in-End-clause-sets g t c =
-    IfOk-weaker c.boxed-in-End.result _ _
+    IfOk-weaker c.boxed_end.result _ _
     (λ x l. equal_tree c.args.variables.now.count _ _ _ _ (ap listed c.in-End.is)
     (end_sets c.args.variables.now.count (listed c.in-End.e.value) _ _ _ _ _ c.both-both-in-End.ensures c.set_both-in-End.ensures.on_true c.set_both-in-End.ensures.on_false
     (equal_tree c.args.variables.now.count (listed c.in-End.e.value) _ _ _ (ap listed (sym c.deref-in-End.ensures)) c.in_ok-e-in-End.ensures.sets)))
-    c.boxed-in-End.ensures
+    c.boxed_end.ensures
 
 pub returns-in_ok-c-in-If-clause-made : goal.returns-in_ok-c-in-If-clause-made
 returns-in_ok-c-in-If-clause-made g t c =
-    IfOk-weaker c.boxed-in-If.result _ _
+    IfOk-weaker c.boxed_if.result _ _
     (λ x l. ap listed l
     ∙ (branch_made c.args.variables.now.count (listed c.in-If.a.value) (listed c.in-If.b.value) (listed c.in-If.c.value) (listed c.in_ok-a-in-If.a.value) (listed c.in_ok-first-in-If.first.value)
     (listed c.in_ok-b-in-If.b.value) (listed c.in_ok-second-in-If.second.value) (listed c.in_ok-c-in-If.c.value) _ _ _ _
@@ -63,7 +63,7 @@ returns-in_ok-c-in-If-clause-made g t c =
     (equal_tree c.args.variables.now.count (listed c.in-If.c.value) _ _ _ (ap listed (sym c.deref-in-If-3.ensures)) c.in_ok-second-in-If.ensures.sets)
     c.in_ok-c-in-If.ensures
     ∙ ap (λ z. lazily.with_needs c.args.variables.now.count (listed z)) (sym c.in-If.is)))
-    c.boxed-in-If.ensures
+    c.boxed_if.ensures
 
 pub returns-in-TailCall-clause-sets : goal.returns-in-TailCall-clause-sets
 returns-in-TailCall-clause-sets g t c =

@@ -1,4 +1,4 @@
-use Rattle.std.proofs.Common.{◌≡◌, ℕ, List, ap, ◌∙◌, ◌+◌, ◌*◌, ◌≤◌, ◌<◌, length, map, sym, subst, arith}
+use Rattle.std.proofs.Common.{◌≡◌, ℕ, List, ap, ◌∙◌, ◌+◌, ◌*◌, ◌≤◌, length, map, sym, subst, refl, arith}
 use Rattle.std.specs.Prelude.{IsTrue, None, false}
 use Rattle.sch_word.specs.values.LiteralView.{literals_of}
 use Rattle.sch_word.specs.values.StaticsView.{statics}
@@ -14,16 +14,16 @@ use Rattle.sch_select_data.proofs.literals.Rows.{count_rows}
 use Rattle.sch_select_data.specs.Data.{static_count, objects_unit, names_of, closures_of, heap_of, max_heap_address}
 use Rattle.sch_select_data.specs.Data.{data_words, program_words}
 use Rattle.sch_select.specs.Program.{max_data, max_stack, program_code, program_zeros, own_label, stack_bytes}
-use Rattle.sch_select_memory.specs.Addresses.{names_address}
+use Rattle.sch_select_memory.specs.Addresses.{max_heap_end, names_address}
 use Rattle.sch_select.specs.MarkedStores.{stores_marked}
 use Rattle.sch_select.specs.Sizes.{instructions_in, kinds_in, kinds_of, steps_size}
 use Rattle.sch_select.proofs.programs.CoveredPrograms.{codes_free, entries_selected, globals_known, labels_known}
 use Rattle.sch_select.proofs.programs.CoveredPrograms.{covered_selected, texts_are, literals_are, literals_named}
-use Rattle.sch_select.proofs.programs.CoveredPrograms.{procedures_known}
+use Rattle.sch_select.proofs.programs.CoveredPrograms.{library_small, procedures_known}
 use Rattle.sch_select.proofs.programs.OwnWays.{takes_frames}
 use Rattle.sch_select.proofs.programs.JoinedProgram.{IsSelected, program_selected}
 use Rattle.sch_select_data.proofs.StartData.{words_end}
-use Rattle.sch_select_data.proofs.StaticSizes.{made_few, made_heap, names_below}
+use Rattle.sch_select_data.proofs.StaticSizes.{heap_low, made_heap, names_below}
 use Rattle.sch_select.proofs.items.ProgramFacts.{all_forward, bodies_count, data_end, program_own, statics_few}
 use Rattle.sch_select.proofs.items.ProgramFacts.{statics_small, symbols_few, whole_items, words_few}
 use Rattle.sch_select.proofs.items.ProgramKnown.{program_known}
@@ -39,10 +39,17 @@ use Rattle.sch_select.proofs.items.TextSize.{text_small}
 use Rattle.sch_select.proofs.items.ReachedCodes.{program_reached}
 use Rattle.sch_select.proofs.selecting.select.Goals as goal
 
-pub heap_behind-requires-clause-few : goal.heap_behind-requires-clause-few
-heap_behind-requires-clause-few c =
-    let s = statics_small c.args.p.now in
-    made_few (statics c.args.p.now.statics) s c.lay_out-places.result.unit _ c.in_ok-literals.ensures.objects _ c.len-2.ensures
+pub heap_behind-heap-requires : goal.heap_behind-heap-requires
+heap_behind-heap-requires c =
+    let p = c.args.p.now in
+    let s = statics p.statics in
+    let behind = made_heap s (length p.library) _ _ _ c.in_ok-literals.ensures.objects
+    (16 * c.lay_out-places.result.unit + 8 * c.len-2.result) c.len-2.ensures
+    (c.lay_out-places.ensures.unit ∙ ap (objects_unit (static_count s)) c.len.ensures) refl in
+    record {
+      low = subst (λ h. h ≤ max_heap_address) (sym behind) (heap_low s (length p.library) (statics_small p)
+          (library_small p c.requires.covered));
+    }
 
 pub words_of-requires-clause-names : goal.words_of-requires-clause-names
 words_of-requires-clause-names c = names_below c.args.p.now.statics _ _ c.lay_out-places.ensures.names c.lay_out-places.ensures.closures
@@ -74,15 +81,15 @@ few_bytes n m e le = omega (arith, e, le)
 stack_few : (c : goal.In_ok-words) → stack_bytes c.args.p.now.words c.args.limits.depth ≤ max_stack + 16384
 stack_few c = few_bytes _ _ c.stack_of.ensures.bytes c.stack_of.ensures.few
 
-heap_made : (c : goal.In_ok-words) → c.in_ok-heap.heap ≡ heap_of (source c.args.p.now)
+heap_made : (c : goal.In_ok-words) → c.heap_behind-heap.result ≡ heap_of (source c.args.p.now)
 heap_made c =
-    made_heap (statics c.args.p.now.statics) (length c.args.p.now.library) _ _ _ c.in_ok-literals.ensures.objects c.in_ok-heap.heap
+    made_heap (statics c.args.p.now.statics) (length c.args.p.now.library) _ _ _ c.in_ok-literals.ensures.objects c.heap_behind-heap.result
     c.len-2.ensures
     (c.lay_out-places.ensures.unit ∙ ap (objects_unit (static_count (statics c.args.p.now.statics))) c.len.ensures)
-    c.in_ok-heap.ensures.start
+    c.heap_behind-heap.ensures.start
 
 low : (c : goal.In_ok-words) → heap_of (source c.args.p.now) ≤ max_heap_address
-low c = subst (λ h. h ≤ max_heap_address) (heap_made c) c.in_ok-heap.ensures.low
+low c = subst (λ h. h ≤ max_heap_address) (heap_made c) c.heap_behind-heap.ensures.low
 
 items_made : (c : goal.In_ok-words) → program_code (source c.args.p.now) c.args.limits.heap c.args.limits.depth ≡
     c.in_ok-items.items
@@ -132,7 +139,7 @@ selected c =
     l.admitted.heap_high l.admitted.depth_high (stack_few c) (texts_are p) (covered_selected p free) (codes_free p free) (entries_selected p)
     (globals_known p) (literals_are p) (literals_named p))
 
-near_by : (heap limit : ℕ) → heap ≤ max_heap_address → limit ≤ 1073741824 → heap + limit < 2147483648
+near_by : (heap limit : ℕ) → heap ≤ max_heap_address → limit ≤ 1073741824 → heap + limit ≤ max_heap_end
 near_by heap limit h l = omega (arith, h, l)
 
 -- ---- the invariant of the answer, and its clauses

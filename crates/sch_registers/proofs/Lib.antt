@@ -1,0 +1,9 @@
+pub mod DensePlaces
+pub mod EachFramed
+pub mod FewRegions
+pub mod FewRegisters
+pub mod FormHeads
+pub mod FramedOne
+pub mod InOrder
+pub mod JoinedPasses
+mod RegistersExamples

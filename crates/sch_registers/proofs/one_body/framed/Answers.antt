@@ -1,0 +1,83 @@
+use Rattle.std.proofs.Common.{rules, arith, ◌∙◌, ap, sym, subst}
+use Rattle.std.proofs.lemmas.Grind.{common_steps}
+use Rattle.sch_control.specs.Meaning.{no_region}
+use Rattle.sch_control.specs.flow.LiveSets.{HasLiveSets}
+use Rattle.sch_control.specs.flow.Middle.{listed}
+use Rattle.sch_control.specs.flow.RestoredView.{restored}
+use Rattle.sch_regs.specs.PlaceChoice.{places}
+use Rattle.sch_restores.specs.Restores.{all_restored}
+use Rattle.sch_saves.specs.LazyRegions.{lazily_saved}
+use Rattle.sch_registers.proofs.JoinedPasses.{joined_body, soon_restored}
+use Rattle.sch_registers.proofs.one_body.framed.Goals as goal
+
+pub assign_places-requires : goal.assign_places-requires
+assign_places-requires g c = (
+  first_of (search rules, grind (arith, common_steps), omega arith),
+  (
+    first_of (search rules, grind (arith, common_steps), omega arith),
+    (c.requires.words, soon_restored (restored c.in_ok-restored.restored.exp) c.in_ok-restored.ensures.live),
+  ),
+)
+
+pub frame-requires : goal.frame-requires
+frame-requires g c = (
+  first_of (search rules, grind (arith, common_steps), omega arith),
+  soon_restored (restored c.in_ok-placed.placed.exp) (subst HasLiveSets (sym c.in_ok-placed.ensures.tree) c.in_ok-restored.ensures.live),
+)
+
+pub invariant_of-placed-2 : goal.invariant_of-placed-2
+invariant_of-placed-2 g c =
+    let p = c.in_ok-placed.placed in
+    record {
+      scoped = p.scoped;
+      numbered = p.numbered;
+      ended = p.ended;
+      shaped = p.shaped;
+      fields = p.fields;
+      fits = p.fits;
+      live = p.live;
+      apart = p.apart;
+      saved = p.saved;
+      whole = p.whole;
+      link = p.link;
+      closure = p.closure;
+      usual = p.usual;
+      formals = p.formals;
+      entered = p.entered;
+      alone = p.alone;
+      points = p.points;
+    }
+
+pub returns : goal.returns
+returns g c =
+    let b = c.args.b.now in
+    let l = c.in_ok-listed.ensures in
+    let s = c.in_ok-saved.ensures in
+    let r = c.in_ok-restored.ensures in
+    let p = c.in_ok-placed.ensures in
+    let saved = c.in_ok-saved.saved in
+    let saved_variables = s.variables ∙ l.variables in
+    let variables = r.variables ∙ saved_variables in
+    let entry = r.entry ∙ (s.entry ∙ l.entry) in
+    let tree = restored c.in_ok-placed.placed.exp in
+    joined_body b (listed c.in_ok-listed.listed.exp) saved c.in_ok-placed.placed
+    (record {
+      name = p.name ∙ (r.name ∙ (s.name ∙ l.name));
+      entry = p.entry ∙ entry;
+      variables = p.variables ∙ variables;
+      saved_variables = saved_variables;
+      bare = l.same;
+      made_live = l.made;
+      without_regions = s.same;
+      made_saved = s.made ∙ ap (λ n. lazily_saved n (listed c.in_ok-listed.listed.exp)) l.variables;
+      lazy = s.lazy;
+      stand = s.stand;
+      followed = s.followed;
+      made_restored = p.tree ∙ (r.made ∙ ap (λ n. all_restored n no_region (listed saved.exp)) saved_variables);
+      sets = subst HasLiveSets (sym p.tree) r.live;
+      made_places =
+          p.made
+          ∙ (ap (λ entry. places entry c.in_ok-restored.restored.variables (restored c.in_ok-restored.restored.exp)) entry
+          ∙ (ap (λ n. places b.entry n (restored c.in_ok-restored.restored.exp)) variables ∙ ap (places b.entry b.variables) (sym p.tree)));
+    })
+    _ c.in_ok-f.ensures.made

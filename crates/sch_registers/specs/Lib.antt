@@ -1,0 +1,3 @@
+pub mod FramedBodies
+pub mod OwnMarks
+pub mod Registers

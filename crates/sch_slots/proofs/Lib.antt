@@ -1,3 +1,0 @@
-mod AsideTurns
-mod FrameBodies
-mod WholeLayout

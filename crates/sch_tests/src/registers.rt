@@ -1,0 +1,162 @@
+//! What compiled bodies save, restore and spill, by the marks that are listed of them.
+
+use crate::straight::check_printed;
+use sch_asm::Mark;
+use sch_driver::{Compiled, MAX_SOURCE_SIZE, compile};
+use sch_word::{Bytes, Limits, MarkKind, Mem};
+use std::alloc::Global;
+use std::test::Fail;
+
+/// What a mark is: `s` a save, `r` a restore, `p` a spill, `t` an operand that is set aside, `a` one that is handed over, `c` a
+/// call, `j` a tail call, `.` a return; and the number of its variable.
+fn letter(kind: MarkKind) -> (u8, u32) {
+    match kind {
+        MarkKind::Enter(body) => (b'e', body),
+        MarkKind::Save(x) => (b's', x),
+        MarkKind::Restore(x) => (b'r', x),
+        MarkKind::Spill(x) => (b'p', x),
+        MarkKind::Temp => (b't', 0),
+        MarkKind::Argument => (b'a', 0),
+        MarkKind::Call(_) => (b'c', 0),
+        MarkKind::Tail(_) => (b'j', 0),
+        MarkKind::Return => (b'.', 0),
+    }
+}
+
+fn compiled(alloc: Global, text: &[u8]) -> Result<Compiled, Fail> {
+    if text.len() as u64 > MAX_SOURCE_SIZE {
+        return Err(Fail::from("a text that is too long"));
+    }
+    let Some(limits) = Limits::new(65_536, 100) else {
+        return Err(Fail::from("other limits"));
+    };
+    let Ok(made) = compile(alloc, text, limits) else {
+        return Err(Fail::from("not compiled"));
+    };
+    Ok(made)
+}
+
+// The number of the body of this name.
+fn body_of(bodies: &[Bytes], name: &[u8]) -> u32 {
+    let mut number = 0u32;
+    for body in bodies {
+        if body.as_slice() == name {
+            return number;
+        }
+        number = number.saturating_add(1);
+    }
+    number
+}
+
+// The marks of a body behind its entry.
+fn marks_of(alloc: Global, marks: &[Mark], body: u32) -> Result<Vec<(u8, u32)>, Fail> {
+    let mut all = Vec::new(alloc);
+    let mut inside = false;
+    for mark in marks {
+        if let MarkKind::Enter(other) = mark.kind {
+            inside = other == body;
+        } else if inside {
+            all.push(letter(mark.kind))?;
+        }
+    }
+    Ok(all)
+}
+
+fn body_marks(alloc: Global, text: &[u8], name: &[u8]) -> Result<Vec<(u8, u32)>, Fail> {
+    let made = compiled(alloc, text)?;
+    let body = body_of(made.listing.bodies.as_slice(), name);
+    marks_of(alloc, made.listing.marks.as_slice(), body)
+}
+
+// How many bytes lie between the first two saves of a body.
+fn gap(marks: &[Mark], body: u32) -> u64 {
+    let mut inside = false;
+    let mut first = None;
+    for mark in marks {
+        match mark.kind {
+            MarkKind::Enter(other) => inside = other == body,
+            MarkKind::Save(_) if inside => match first {
+                None => first = Some(mark.address),
+                Some(address) => return mark.address.saturating_sub(address),
+            },
+            _ => {}
+        }
+    }
+    0
+}
+
+// The return address is saved at the entry, as every way through has a call behind which it is wanted, and both operands in
+// the arm of the inner call, behind which they are.
+#[test]
+fn saves_in_an_arm(rt: HostRuntime) -> Result<(), Fail> {
+    let text =
+        b"(define (h z) z)(define (g x y) (if (and x (h y)) y (not (h x))))(display (g 1 7))(display (g #f 7))";
+    let marks = body_marks(rt.alloc(), text, b"g")?;
+    let wanted = [
+        (b's', 0),
+        (b's', 2),
+        (b's', 3),
+        (b't', 0),
+        (b'c', 0),
+        (b'r', 0),
+        (b'r', 2),
+        (b'r', 3),
+        (b'.', 0),
+        (b't', 0),
+        (b'c', 0),
+        (b'r', 0),
+        (b'.', 0),
+        (b'.', 0),
+    ];
+    assert_eq!(rt; marks.as_slice(), wanted.as_slice());
+    // The test of `x` lies between them.
+    let made = compiled(rt.alloc(), text)?;
+    let body = body_of(made.listing.bodies.as_slice(), b"g");
+    assert!(rt; gap(made.listing.marks.as_slice(), body) > 7);
+    Ok(())
+}
+
+// Of seven variables that live at once six have registers.
+#[test]
+fn spills_the_seventh(rt: HostRuntime) -> Result<(), Fail> {
+    let text =
+        b"(define (f v) (let ((a (vector-ref v 0)) (b (vector-ref v 1)) (c (vector-ref v 2)) (d (vector-ref v 3)) (e (vector-ref v 4)) (g (vector-ref v 5)) (h (vector-ref v 6))) (+ a (+ b (+ c (+ d (+ e (+ g h))))))))(display (f (make-vector 7 1)))";
+    let marks = body_marks(rt.alloc(), text, b"f")?;
+    let mut spills = 0u64;
+    for mark in marks.as_slice() {
+        if mark.0 == b'p' {
+            spills = spills.saturating_add(1);
+        }
+    }
+    assert_eq!(rt; spills, 1);
+    Ok(())
+}
+
+fn repeat(source: &mut Vec<u8>, part: &[u8], count: u32) -> Result<(), Mem> {
+    for _ in 0..count {
+        source.extend_from_slice(part)?;
+    }
+    Ok(())
+}
+
+// A procedure that binds this many variables, each inside the one before it, and calls another one inside them all.
+fn nest(alloc: Global, count: u32) -> Result<Vec<u8>, Mem> {
+    let mut source = Vec::new(alloc);
+    source.extend_from_slice(b"(define (g x) x)(define (f a) ")?;
+    repeat(&mut source, b"(let ((a (+ 1 a))) ", count)?;
+    source.extend_from_slice(b"(+ (g 0) a)")?;
+    repeat(&mut source, b")", count)?;
+    source.extend_from_slice(b")(display (f 0))")?;
+    Ok(source)
+}
+
+// Sets of variables have one, four and sixteen words.
+#[test]
+fn bodies_of_many_variables_run(rt: HostRuntime) -> Result<(), Fail> {
+    let rows: [(u32, &[u8]); 3] = [(50, b"50"), (70, b"70"), (300, b"300")];
+    for (count, printed) in rows {
+        let source = nest(rt.alloc(), count)?;
+        check_printed(rt.alloc(), source.as_slice(), printed)?;
+    }
+    Ok(())
+}
