@@ -1,5 +1,5 @@
 #!/usr/bin/env python3
-"""Compiles a generated text of 1,000 procedures, and one of about 1 MiB, and the first one by Chez Scheme too.
+"""Compiles a generated text of 1,000 procedures, and one of about 1 MiB, and the first one by Chez Scheme too, beside `schc gen 0`.
 
 Run by hand, after the program was built:  bench/generated.py [RUNS]
 The image of the first text is run, and must print what Chez Scheme prints. Without `scheme` on the PATH its part is left
@@ -55,6 +55,12 @@ def least(words, folder, runs):
     return min(m[0] for m in measured), max(m[1] for m in measured)
 
 
+def compile_alone(folder):
+    """The milliseconds of the processor that Chez Scheme says that its compiler took, without its start."""
+    done = subprocess.run(["scheme", "-q", "--script", "compile.ss"], cwd=folder, stdout=subprocess.PIPE, check=True)
+    return int(done.stdout.split()[-1])
+
+
 def main():
     runs = measure.runs_wanted()
     with tempfile.TemporaryDirectory() as folder:
@@ -74,8 +80,11 @@ def main():
         if not shutil.which("scheme"):
             return
         with open(os.path.join(folder, "compile.ss"), "w") as file:
-            file.write('(compile-file "small.scm" "small.so")\n')
+            file.write('(define t (cpu-time))(compile-file "small.scm" "small.so")(display (- (cpu-time) t))\n')
         other, _ = least(["scheme", "-q", "--script", "compile.ss"], folder, runs)
+        whole, _ = least([PROGRAM, "gen", "0"], folder, runs)
+        alone = min(compile_alone(folder) for _ in range(runs))
+        print(f"schc gen 0 takes {1000 * whole:.1f} ms, and Chez Scheme's compile-file alone {alone} ms, {alone / whole / 1000:.1f} times as long")
         wanted = subprocess.run(["scheme", "-q", "--script", "small.scm"], cwd=folder, stdout=subprocess.PIPE, check=True).stdout
         print(f"Chez Scheme compiles it in {1000 * other:.1f} ms, {other / seconds:.1f} times as long, "
               f"and prints {'the same' if printed == wanted else 'OTHER LINES'}")

@@ -1,16 +1,34 @@
 #!/usr/bin/env python3
 """Runs texts by `schc run`, their images by `schc step`, and the same images on the processor, and compares what they do.
 
-Run by hand, after the program was built:  bench/images.py
-Each text has the output and the status that are wanted of all three. The end is 1 where one does something else.
+Run by hand, after the program was built, on an x86-64 Linux with `objdump`:  bench/images.py
+Each text has the output and the status that are wanted of all three. The listing that is written with the image must be the one
+that `schc list` prints, and its marks must lie in order, with one entry for each body. The end is 1 where something is otherwise.
+
+What the listing says is compared with the instructions of the image, as `objdump` reads them, and with what a run passes that is
+made step by step:
+
+- An instruction that writes memory through rbp has exactly one mark of a store (save, spill, temp, argument), and any other has
+  none, but a temp where a word is set aside in a register. The list of a rest variable is written through rcx, and has no mark.
+- A restore stands at a move from memory through rbp.
+- In each activation that ended by a return or a tail call each save is followed by a call of its own, and each restore comes
+  after a call with only restores between.
+- The activations, leaves, saves and saves of leaves that were passed are those that `schc count` prints, body by body.
+
+Where a run takes more than 300,000 steps only the end of `schc count` is compared.
 """
+import dataclasses
 import os
+import random
 import subprocess
 import sys
 import tempfile
 
-TOP = os.path.dirname(os.path.dirname(os.path.abspath(__file__)))
-PROGRAM = os.path.join(TOP, "crates", "schc", "out", "schc")
+from listing import read_listing
+from trace import PROGRAM, Run, counted, loads, stores, text_of
+
+STEPS = 300_000
+STORES = {"save", "spill", "temp", "argument"}
 LOOP = "(define (loop i) (if (= i 0) (display %s) (loop (- i 1))))(loop 1000000)"
 PENDING = "(define (count n) (if (= n 0) 0 (+ 1 (count (- n 1)))))(display (count %d))"
 ORDER = "(define p (cons 1 2))(define x 10)(define (f a b) a)(display (f (+ x (car p)) (begin (set! x 20) (set-car! p 5) 0)))"
@@ -97,31 +115,177 @@ def variables(count):
     return texts
 
 
+def shown(value):
+    return {True: "#t", False: "#f"}[value] if isinstance(value, bool) else str(value)
+
+
+def moved(count, seed):
+    """Formals that a procedure hands on to itself in another order, some of them twice, some compared: in tail position and not."""
+    chance = random.Random(seed)
+    formals = [f"v{k}" for k in range(count)]
+    operands = [chance.choice([(k,), (k,), (k,), (k, chance.randrange(count))]) for k in (chance.randrange(count) for _ in formals)]
+    if seed % 2 == 0:
+        turn = chance.sample(range(count), count)
+        operands = [(k,) for k in turn]
+    handed = " ".join(formals[o[0]] if len(o) == 1 else f"(eq? {formals[o[0]]} {formals[o[1]]})" for o in operands)
+    values = list(range(count))
+    for _ in range(3):
+        values = [values[o[0]] if len(o) == 1 else values[o[0]] is values[o[1]] for o in operands]
+    listed = " ".join(map(shown, values))
+    names, start = " ".join(formals), " ".join(map(str, range(count)))
+    tail = f"(define (f n {names}) (if (= n 0) (list {names}) (f (- n 1) {handed})))(display (f 3 {start}))"
+    held = f"(define (f n {names}) (if (= n 0) (list {names}) (cons (f (- n 1) {handed}) (list {names}))))(display (car (car (car (f 3 {start})))))"
+    return [(tail, f"({listed})", 0, []), (held, f"({listed})", 0, [])]
+
+
 def ends(words, folder):
     done = subprocess.run(words, cwd=folder, stdout=subprocess.PIPE, stderr=subprocess.DEVNULL)
     return done.stdout.decode(), done.returncode
 
 
+def listing_of(options, folder):
+    """The listing's file, if it is what is printed, with its marks in order and an entry for each body."""
+    with open(os.path.join(folder, "listing")) as file:
+        text = file.read()
+    printed, status = ends([PROGRAM, "list", "source", *options], folder)
+    listing = read_listing(text)
+    entries = [mark.number for mark in listing.marks if mark.kind == "enter"]
+    places = [mark.address for mark in listing.marks]
+    well = (printed, status) == (text, 0) and entries == list(range(len(listing.bodies))) and places == sorted(places)
+    return listing if well else None
+
+
+def marks_at(listing):
+    """The marks of each address that has any, in their order."""
+    marks = {}
+    for mark in listing.marks:
+        marks.setdefault(mark.address, []).append(mark)
+    return marks
+
+
+def misplaced(text, marks):
+    """The first instruction that has other marks of stores, or a restore, than what it does admits."""
+    for address, name, operands in text:
+        kinds = [mark.kind for mark in marks.get(address, [])]
+        of_stores = [kind for kind in kinds if kind in STORES]
+        well = len(of_stores) == 1 if stores(name, operands) else of_stores in ([], ["temp"])
+        if not well or "restore" in kinds and not loads(name, operands):
+            return f"{address:08x} {name} {operands} has the marks {kinds}"
+    missing = marks.keys() - {address for address, _, _ in text}
+    return f"{min(missing):08x} has marks and no instruction" if missing else None
+
+
+@dataclasses.dataclass
+class Activation:
+    """What an activation has passed itself: how often it saved, called, and whether its last save waits for a call."""
+
+    body: int
+    saves: int = 0
+    calls: int = 0
+    waits: bool = False
+    restores: bool = False
+    ended: bool = False
+    wrong: bool = False
+
+    def passes(self, kind):
+        """Passes a mark of its own. A restore comes behind a call and other restores."""
+        self.wrong |= kind == "restore" and not self.restores
+        self.restores = kind == "call" or kind == "restore" and self.restores
+        self.saves += kind == "save"
+        self.calls += kind == "call"
+        self.waits = kind == "save" or self.waits and kind != "call"
+        self.ended = kind in ("return", "tail")
+
+
+def activations(marks):
+    """The activations of a run that passes these marks. An entry begins one, a call suspends it, a return ends it and goes on with
+    the one that was suspended last, and a tail call hands over to what is entered next."""
+    every, suspended, current, handed_over = [], [], None, False
+    for mark in marks:
+        if handed_over and mark.kind != "enter":
+            current = suspended.pop() if suspended else None
+        handed_over = mark.kind == "tail"
+        if mark.kind == "enter":
+            current = Activation(mark.number)
+            every.append(current)
+        if current:
+            current.passes(mark.kind)
+        if mark.kind == "call" and current:
+            suspended.append(current)
+        if mark.kind == "return":
+            current = suspended.pop() if suspended else None
+        elif mark.kind in ("call", "tail"):
+            current = None
+    return every
+
+
+def rows_of(bodies, every):
+    """The rows that `schc count` prints of these activations."""
+    sums = {}
+    for one in every:
+        leaf = one.ended and not one.calls
+        row = sums.setdefault(one.body, [0, 0, 0, 0])
+        sums[one.body] = [row[0] + 1, row[1] + leaf, row[2] + one.saves, row[3] + leaf * one.saves]
+    return [(bodies[body], *sums[body]) for body in sorted(sums)]
+
+
+def traced(image, marks):
+    """The marks that a run of an image passes, in their order, and its status; none where it takes too many steps."""
+    run, passed = Run(image), []
+    for k, address in enumerate(run):
+        if k == STEPS:
+            return None, None
+        passed += marks.get(address, [])
+    return passed, run.status
+
+
+def passes_well(listing, image, status, counts):
+    """What is wrong with what a run of the image passes, and whether it was traced to its end."""
+    rows, ended = counts
+    marks = marks_at(listing)
+    wrong = misplaced(text_of(image), marks)
+    if wrong or ended != status:
+        return wrong or f"ends with {ended} by count", False
+    passed, seen = traced(image, marks)
+    if passed is None:
+        return None, False
+    every = activations(passed)
+    if seen != status or rows_of(listing.bodies, every) != rows:
+        return f"{rows_of(listing.bodies, every)} and {seen} passed, and not {rows} and {status}", True
+    lazy = all(not one.wrong and not (one.ended and one.waits) for one in every)
+    return None if lazy else "a save without a call behind it, or a restore without one before it", True
+
+
 def agrees(text, printed, status, options, folder):
-    """Whether a text does what is wanted by all three ways; what it does otherwise is printed."""
+    """Whether a text does what is wanted by all three ways and by its listing, and whether its run was traced; what it does
+    otherwise is printed."""
     with open(os.path.join(folder, "source"), "w") as file:
         file.write(text)
     image = os.path.join(folder, "image")
-    subprocess.run([PROGRAM, "compile", "source", "image", *options], cwd=folder, check=True)
+    subprocess.run([PROGRAM, "compile", "source", "image", "--listing", "listing", *options], cwd=folder, check=True)
     os.chmod(image, 0o755)
     ways = {"run": [PROGRAM, "run", "source", *options], "step": [PROGRAM, "step", "image"], "processor": [image]}
-    wrong = {way: end for way, words in ways.items() if (end := ends(words, folder)) != (printed, status)}
-    for way, end in wrong.items():
-        print(f"{text[:60]}: {end} by {way}, and not {(printed, status)}")
-    return not wrong
+    wrong = [f"{end} by {way}, and not {(printed, status)}" for way, words in ways.items() if (end := ends(words, folder)) != (printed, status)]
+    listing = listing_of(options, folder)
+    if listing is None:
+        wrong, whole = [*wrong, "another listing"], False
+    else:
+        fault, whole = passes_well(listing, image, status, counted("source", folder, options))
+        wrong += [fault] if fault else []
+    for what in wrong:
+        print(f"{text[:60]}: {what}")
+    return not wrong, whole
 
 
 def main():
     texts = TEXTS + [text for count in (0, 6, 7, 200) for text in calls(count)]
     texts += [text for count in (2, 5, 6, 7, 8, 60, 199, 300) for text in variables(count)]
+    texts += [text for count in (2, 3, 4, 5, 6, 7, 9, 12, 30) for seed in range(4) for text in moved(count, seed)]
     with tempfile.TemporaryDirectory() as folder:
-        well = [agrees(*text, folder) for text in texts]
+        seen = [agrees(*text, folder) for text in texts]
+    well = [well for well, _ in seen]
     print(f"{well.count(True)} of {len(well)} texts end as is wanted, by run, by step and on the processor")
+    print(f"{[whole for _, whole in seen].count(True)} of them were traced to their ends")
     sys.exit(0 if all(well) else 1)
 
 

@@ -2,7 +2,6 @@
 import os
 import subprocess
 import sys
-import time
 
 SIZES = (64 << 10, 1 << 20)
 
@@ -12,14 +11,14 @@ ENVIRONMENT = {"GLIBC_TUNABLES": ":".join("glibc.malloc." + word for word in HEA
 
 
 def once(words, folder=None, wanted=0):
-    """Seconds and peak kilobytes of one run, which must end with the status that is wanted."""
-    begin = time.perf_counter()
-    child = subprocess.Popen(words, cwd=folder, env=ENVIRONMENT, stderr=subprocess.DEVNULL if wanted else None)
+    """Seconds and peak kilobytes of one run, which must end with the status that is wanted. The seconds are those of the processor, of
+    which other work on the machine changes least."""
+    said = subprocess.DEVNULL if wanted else None
+    child = subprocess.Popen(words, cwd=folder, env=ENVIRONMENT, stdout=subprocess.DEVNULL, stderr=said)
     _, status, usage = os.wait4(child.pid, 0)
-    seconds = time.perf_counter() - begin
     if os.waitstatus_to_exitcode(status) != wanted:
         sys.exit(f"{words[0]} ended with {os.waitstatus_to_exitcode(status)}")
-    return seconds, usage.ru_maxrss
+    return usage.ru_utime + usage.ru_stime, usage.ru_maxrss
 
 
 def runs_wanted():

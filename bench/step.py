@@ -2,7 +2,11 @@
 """Steps loops of 100,000,000 instructions with `schc step` and with a C interpreter, in turn.
 
 Prints instructions a second of processor time for each, and their ratio; and how long an image with
-256 MiB of zeros takes to load and an empty file to run. Run by hand, after the program was built:  bench/step.py [RUNS]
+256 MiB of zeros takes to load and an empty file to run.
+
+Run by hand, after the program was built:  bench/step.py [RUNS [INSTRUCTIONS PROGRAM ..]]
+With programs, which are builds of one kind, these step the loops in turn, of so many instructions, and nothing else is done. A loop that
+a program does not step is left out.
 """
 import os
 import resource
@@ -90,9 +94,9 @@ def image(text, data, zeros=0):
     return header.ljust(4096, b"\0") + text.ljust(4096, b"\0") + data
 
 
-def program(body):
+def program(body, instructions=INSTRUCTIONS):
     """The body round after round, until so many instructions are done, and an exit."""
-    rounds = INSTRUCTIONS // (len(body) + 2)
+    rounds = instructions // (len(body) + 2)
     setup = wide([0xC7], 0, RBP, register(0, RBP)) + i32(DATA) + wide([0xC7], 0, RCX, register(0, RCX)) + i32(rounds)
     loop = b"".join(body) + number(5, RCX, 1)
     back = b"\x0f\x85" + i32(-(len(loop) + 6))
@@ -110,6 +114,22 @@ def seconds(command):
     return after.ru_utime - before.ru_utime + after.ru_stime - before.ru_stime
 
 
+def beside(programs, instructions, runs):
+    """The speeds of several programs, in turn."""
+    with tempfile.TemporaryDirectory() as folder:
+        path = os.path.join(folder, "image")
+        for name, body in LOOPS.items():
+            with open(path, "wb") as file:
+                file.write(program(body, instructions))
+            able = [one for one in programs if subprocess.run([one, "step", path], stderr=subprocess.DEVNULL).returncode == 0]
+            seen = {one: [] for one in able}
+            for _ in range(runs):
+                for one in able:
+                    seen[one].append(seconds([one, "step", path]))
+            speeds = ", ".join(f"{os.path.basename(one)} {instructions / min(of) / 1e6:.2f} M/s" for one, of in seen.items())
+            print(f"{name:10} {speeds}", flush=True)
+
+
 def empty_text(folder, runs):
     """`run` of an empty file, and `step` of its image, whose time is that of loading the zeros of the default heap."""
     source, path = os.path.join(folder, "empty"), os.path.join(folder, "image")
@@ -125,6 +145,8 @@ def empty_text(folder, runs):
 def main():
     runs = int(sys.argv[1]) if len(sys.argv) > 1 else 3
     print(f"{os.cpu_count()} processors, least of {runs} runs in turn")
+    if len(sys.argv) > 3:
+        return beside(sys.argv[3:], int(sys.argv[2]), runs)
     with tempfile.TemporaryDirectory() as folder:
         reference, path = os.path.join(folder, "step"), os.path.join(folder, "image")
         subprocess.run(["gcc", "-O2", "-o", reference, os.path.join(TOP, "bench", "step.c")], check=True)

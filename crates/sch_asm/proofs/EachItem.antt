@@ -10,7 +10,7 @@ use Rattle.sch_insn.specs.declared.insn.Insn.TheVariants as insn
 use Rattle.sch_insn.specs.declared.state.StuckCause.{StuckCause}
 use Rattle.sch_insn.specs.Decode.{decode, when_some}
 use Rattle.sch_insn.specs.Machine.{holds, bytes_from, add64, word, condition, set_register, word_at, byte_at, stored, when_ok, or_access, with_segments, with_register, with_place, head_or_0}
-use Rattle.sch_insn.specs.Step.{Progress, Runs, fetch, fetched, perform, moved, step, jump_if}
+use Rattle.sch_insn.specs.Step.{Progress, Runs, done, fetch, fetched, perform, moved, step, jump_if}
 use Rattle.sch_insn.proofs.Paths.{leads_step}
 use Rattle.sch_asm.specs.declared.item.Item.{Item}
 use Rattle.sch_asm.specs.declared.item.Item.TheVariants.{Jump, JumpIf, LoadLabel, LoadWord, StoreWord}
@@ -34,12 +34,13 @@ fetched_first text gs a x e = by_holds (holds text a 1) text.executable (drop (a
 module _ (setting : Setting) where
   open setting use {text, place_of}
 
-  pub stepped : (x : View) (i : Insn) (n : ℕ) (p : Progress) → fetch (text ∷ []) x.place ≡ Some (i, n) → perform i (x.place + n) (full setting x) ≡ p → step (full setting x) ≡ p
-  stepped x i n p f e = ap (fetched (full setting x)) (fetched_first text (data_at x.bytes ∷ []) x.place (i, n) f) ∙ e
+  pub stepped : (x : View) (i : Insn) (n : ℕ) (waiting : List MarkKind) (p : Progress) → Found setting x.place i n waiting → perform i (x.place + n) (full setting x) ≡ p → step (full setting x) ≡ p
+  stepped x i n waiting p f e =
+      ap (fetched (full setting x)) (fetched_first text (data_at x.bytes ∷ []) x.place (f.0, n) f.1) ∙ ap (λ r. done r (x.place + n) (full setting x)) f.2 ∙ e
 
   -- Any instruction, by what it performs: a computation, where it touches no memory.
   pub goes : (x y : View) (i : Insn) (n : ℕ) (waiting : List MarkKind) → Found setting x.place i n waiting → perform i (x.place + n) (full setting x) ≡ Runs (full setting y) → Leads setting 1 1 waiting x y
-  goes x y i n waiting f e = leads_step setting.marks (full setting x) (full setting y) waiting (stepped x i n (Runs (full setting y)) f.0 e) f.1
+  goes x y i n waiting f e = leads_step setting.marks (full setting x) (full setting y) waiting (stepped x i n waiting (Runs (full setting y)) f e) f.3
 
   -- ---- memory
 

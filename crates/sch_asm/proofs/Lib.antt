@@ -10,3 +10,6 @@ pub mod EachItem
 pub mod Pieces
 pub mod Joined
 mod Examples
+mod NarrowExamples
+pub mod Shortest
+pub mod NarrowItems

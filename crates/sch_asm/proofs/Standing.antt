@@ -85,24 +85,24 @@ module _ (text : Segment) (place_of : ℕ → ℕ) (all : List mark.Mark) (apart
   stands (Plain i ∷ is) a waiting code marks w look h at =
       let has = subst (HasAt (text ∷ []) a) h.1 at in
       let long = spelling_some i in
-      (_, (has.0, here all place_of waiting a (length (spelling i)) is h.0 marks look long h.2), stands is (a + length (spelling i)) [] h.0 marks w (ahead all waiting a (length (spelling i)) marks look long) h.2 has.1)
+      (_, (i, has.0, refl, here all place_of waiting a (length (spelling i)) is h.0 marks look long h.2), stands is (a + length (spelling i)) [] h.0 marks w (ahead all waiting a (length (spelling i)) marks look long) h.2 has.1)
   stands (Jump l ∷ is) a waiting code marks w look h at =
       let has = subst (HasAt (text ∷ []) a) h.2 at in
       let long = spelling_some h.0 in
-      (_, h.0, (has.0, here all place_of waiting a (length (spelling h.0)) is h.1 marks look long h.4), h.3, stands is (a + length (spelling h.0)) [] h.1 marks w (ahead all waiting a (length (spelling h.0)) marks look long) h.4 has.1)
+      (_, h.0, (h.0, has.0, refl, here all place_of waiting a (length (spelling h.0)) is h.1 marks look long h.4), h.3, stands is (a + length (spelling h.0)) [] h.1 marks w (ahead all waiting a (length (spelling h.0)) marks look long) h.4 has.1)
   stands (JumpIf c l ∷ is) a waiting code marks w look h at =
       let has = subst (HasAt (text ∷ []) a) h.2 at in
       let long = spelling_some h.0 in
-      (_, h.0, (has.0, here all place_of waiting a (length (spelling h.0)) is h.1 marks look long h.4), h.3, stands is (a + length (spelling h.0)) [] h.1 marks w (ahead all waiting a (length (spelling h.0)) marks look long) h.4 has.1)
+      (_, h.0, (h.0, has.0, refl, here all place_of waiting a (length (spelling h.0)) is h.1 marks look long h.4), h.3, stands is (a + length (spelling h.0)) [] h.1 marks w (ahead all waiting a (length (spelling h.0)) marks look long) h.4 has.1)
   stands (LoadLabel r l ∷ is) a waiting code marks w look h at =
       let has = subst (HasAt (text ∷ []) a) h.2 at in
-      (_, h.0, (has.0, here all place_of waiting a 7 is h.1 marks look (omega arith) h.4), h.3, stands is (a + 7) [] h.1 marks w (ahead all waiting a 7 marks look (omega arith)) h.4 has.1)
+      (_, h.0, (_, has.0, refl, here all place_of waiting a 7 is h.1 marks look (omega arith) h.4), h.3, stands is (a + 7) [] h.1 marks w (ahead all waiting a 7 marks look (omega arith)) h.4 has.1)
   stands (LoadWord r l ∷ is) a waiting code marks w look h at =
       let has = subst (HasAt (text ∷ []) a) h.2 at in
-      (_, h.0, (has.0, here all place_of waiting a 7 is h.1 marks look (omega arith) h.4), h.3, stands is (a + 7) [] h.1 marks w (ahead all waiting a 7 marks look (omega arith)) h.4 has.1)
+      (_, h.0, (_, has.0, refl, here all place_of waiting a 7 is h.1 marks look (omega arith) h.4), h.3, stands is (a + 7) [] h.1 marks w (ahead all waiting a 7 marks look (omega arith)) h.4 has.1)
   stands (StoreWord l r ∷ is) a waiting code marks w look h at =
       let has = subst (HasAt (text ∷ []) a) h.2 at in
-      (_, h.0, (has.0, here all place_of waiting a 7 is h.1 marks look (omega arith) h.4), h.3, stands is (a + 7) [] h.1 marks w (ahead all waiting a 7 marks look (omega arith)) h.4 has.1)
+      (_, h.0, (_, has.0, refl, here all place_of waiting a 7 is h.1 marks look (omega arith) h.4), h.3, stands is (a + 7) [] h.1 marks w (ahead all waiting a 7 marks look (omega arith)) h.4 has.1)
 
   -- From the answer of `resolve`: the text begins with the spellings of the instructions.
   pub resolved_stands : (is : List Item) (code : List Insn) (rest : List ℕ) → text.executable ≡ true → text.bytes ≡ flat_map spelling code ++ rest → AllValid code → IsTrue (marks_arrive false is) → Codes place_of text.address is code all → Stands setting_of [] text.address is

@@ -3,6 +3,7 @@ pub mod Stands
 pub mod Codes
 pub mod Pieces
 pub mod Forms
+pub mod Narrow
 pub mod Layout
 pub mod Data
 pub mod Views

@@ -6,7 +6,7 @@ use Rattle.sch_insn.specs.declared.insn.Arg.TheVariants.{Rip}
 use Rattle.sch_insn.specs.declared.insn.Insn.{Insn}
 use Rattle.sch_insn.specs.declared.insn.Insn.TheVariants as insn
 use Rattle.sch_insn.specs.Machine.{add64, word}
-use Rattle.sch_insn.specs.Step.{fetch}
+use Rattle.sch_insn.specs.Step.{fetch, row}
 use Rattle.sch_asm.specs.declared.item.Item.{Item}
 use Rattle.sch_asm.specs.declared.item.Item.TheVariants.{Label, Plain, Jump, JumpIf, LoadLabel, LoadWord, StoreWord, Mark}
 use Rattle.sch_asm.specs.declared.item.Mark as mark
@@ -37,9 +37,9 @@ pub record Setting : Type 0 where
   pub apart : text.address + length text.bytes ≤ data_address
 
 module _ (setting : Setting) where
-  -- An instruction stands at an address, n bytes long, with these marks.
+  -- An instruction stands at an address, n bytes long, with these marks, or one that does the same, as another form of it.
   abbrev pub Found : ℕ → Insn → ℕ → List MarkKind → Type 0
-  Found a i n waiting = (fetch (setting.text ∷ []) a ≡ Some (i, n)) × (setting.marks a ≡ waiting)
+  Found a i n waiting = (there : Insn) × (fetch (setting.text ∷ []) a ≡ Some (there, n)) × (row there ≡ row i) × (setting.marks a ≡ waiting)
 
   -- The items stand from an address on, where these marks wait for the first instruction. What stands
   -- behind an instruction is found by its length.

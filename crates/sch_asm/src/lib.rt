@@ -5,11 +5,13 @@ mod assembly;
 mod error;
 mod item;
 mod layout;
+mod narrowing;
 mod resolving;
 mod routine;
 
 pub use assembly::{Asm, Word};
 pub use error::AsmError;
 pub use item::{Item, Mark};
+pub use narrowing::narrowed;
 pub use resolving::{Resolved, resolve};
 pub use routine::Routine;

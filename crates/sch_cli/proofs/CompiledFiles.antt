@@ -1,6 +1,7 @@
 -- What the driver compiles is a file of its text, and the image of such a file does what the text means.
-use Rattle.std.proofs.Common.{◌≤◌, ℕ, List, length, subst}
+use Rattle.std.proofs.Common.{◌≡◌, ◌≤◌, ℕ, List, length, subst, sym}
 use Rattle.sch_elf.specs.declared.image.Image.{Image}
+use Rattle.sch_elf.specs.Stands.{StandsFor}
 use Rattle.sch_elf.proofs.OneRefusal.{one_image}
 use Rattle.sch_prelude.specs.LibraryText.{library_text}
 use Rattle.sch_driver.specs.Causes.{max_source_size}
@@ -11,6 +12,12 @@ use Rattle.sch_cli.specs.Builds.{HasFile, IsFileOf}
 
 pub file_of : (text file : List ℕ) (listing : Listing) (heap depth : ℕ) → length text ≤ max_source_size → IsCompiled library_text text heap depth file listing → IsFileOf text heap depth file
 file_of text file listing heap depth short compiled = record { short = short; listing = listing; compiled = compiled }
+
+-- such a file stands for an image, that of its program
+pub has_image : (text file bytes : List ℕ) (listing : Listing) (heap depth : ℕ) → IsCompiled library_text text heap depth file listing → bytes ≡ file → (image : Image) × StandsFor bytes image
+has_image text file bytes listing heap depth compiled same =
+    let program = compiled.is_program in
+    (program.image, subst (λ bytes. StandsFor bytes program.image) (sym same) program.stands)
 
 -- a file stands for one image, which is that of its program
 pub does_text : (text : List ℕ) (heap depth : ℕ) (image : Image) (built : HasFile text heap depth image) → IsImageOf image built.made.compiled.program built.made.listing.orders heap depth

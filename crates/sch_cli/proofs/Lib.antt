@@ -1,12 +1,17 @@
+pub mod CommandCases
 pub mod CompiledFiles
-pub mod Digits
+pub mod CountedImages
 pub mod DiskSteps
+pub mod InTime
 pub mod LoneRuns
 pub mod MachineEnds
 pub mod NoImageStatus
 pub mod OneStatus
 pub mod SomeVerdict
+mod SourceExamples
+pub mod SourceStatus
+pub mod TextFailures
 pub mod ProgramRuns
 pub mod LineParts
-pub mod AdmittedWords
+pub mod ListedEntries
 pub mod UnreadWords

@@ -17,13 +17,18 @@ use Rattle.sch_driver.specs.Causes.{max_source_size}
 use Rattle.sch_driver.specs.Compiled.{IsCompiled}
 use Rattle.sch_driver.specs.Headline.{IsImageOf}
 use Rattle.sch_listing.specs.declared.listing.Listing.{Listing}
+use Rattle.sch_count.specs.CountsText.{counts_text}
+use Rattle.sch_count.specs.declared.counts.Counts.{Counts}
+use Rattle.sch_count.specs.declared.error.CountError.TheVariants as count_error
 use Rattle.sch_step.specs.declared.ends.RunEnd.{RunEnd}
 use Rattle.sch_step.specs.declared.ends.RunEnd.TheVariants as run_end
 use Rattle.sch_step.specs.declared.ends.Stuck as stuck_place
 use Rattle.sch_cli.specs.Builds.{IsFileOf}
-use Rattle.sch_cli.specs.Command.{default_depth, default_heap}
+use Rattle.sch_commands.specs.Command.{default_depth, default_heap}
 use Rattle.sch_cli.specs.Executes.{EndsAlone, EndsUnder, Executes, run_end_of, started}
-use Rattle.sch_cli.specs.Figures.{AreFiguresOf, HasNoFigures, RunsAlone, SpendsSteps}
+use Rattle.sch_cli.specs.Counts.{CountsImage, IsCountsText}
+use Rattle.sch_cli.specs.Figures.{AreFiguresOf}
+use Rattle.sch_cli.specs.LoneRuns.{ExitsAlone, HasNoExit, RunsAlone, SpendsSteps}
 use Rattle.sch_cli.specs.Refusals.{IsRefused}
 use Rattle.sch_cli.specs.Seen.{stream_change}
 use Rattle.sch_cli.specs.declared.failure.Failure.{Failure}
@@ -91,53 +96,89 @@ module _ (p : tree.Source) (table : List (List ℕ)) (heap depth : ℕ) (image :
 
 -- ---- a text that is compiled and run
 
-module _ (text file : List ℕ) (listing : Listing) (short : length text ≤ max_source_size) (compiled : IsCompiled library_text text default_heap default_depth file listing)
-    (image : Image) (stands : StandsFor file image) (steps : ℕ) (lone : LoneRun) (alone : EndsAlone image steps lone) where
-  made : IsFileOf text default_heap default_depth file
+module _ (text file : List ℕ) (listing : Listing) (heap depth : ℕ) (short : length text ≤ max_source_size) (compiled : IsCompiled library_text text heap depth file listing)
+    (image : Image) (stands : StandsFor file image) (steps : ℕ) (output : List ℕ) where
+  abbrev made : IsFileOf text heap depth file
   made = record { short = short; listing = listing; compiled = compiled }
 
-  does : IsImageOf image compiled.program listing.orders default_heap default_depth
-  unfolding made
-  does = does_text text default_heap default_depth image (record { file = file; made = made; stands = stands })
+  does : IsImageOf image compiled.program listing.orders heap depth
+  does = does_text text heap depth image (record { file = file; made = made; stands = stands })
 
-  runs_alone : (end : RunEnd) → lone.end ≡ end → RunsAlone text steps end alone.output
-  runs_alone end is = record { file = file; made = made; image = image; stands = stands; ends = subst (λ end. EndsUnder image steps [] end alone.output) is alone.ends }
+  abbrev runs_alone : (end : RunEnd) → EndsUnder image steps [] end output → RunsAlone text heap depth steps end output
+  runs_alone end ends = record { file = file; made = made; image = image; stands = stands; ends = ends }
+
+  abbrev exits_alone : (status : ℕ) → EndsUnder image steps [] (run_end.Exited status) output → ExitsAlone text heap depth steps status output
+  exits_alone status ends =
+      let same = ends_as compiled.program listing.orders heap depth image steps output does status ends in
+      record { runs = runs_alone (run_end.Exited status) ends; end = same.0; puts = same.1 }
+
+  pub no_stuck_end : (stuck : stuck_place.Stuck) → EndsUnder image steps [] (run_end.Stuck stuck) output → ⊥
+  no_stuck_end stuck ends = not_stuck compiled.program listing.orders heap depth image steps output does stuck ends
+
+-- ---- its figures
+
+module _ (text file : List ℕ) (listing : Listing) (short : length text ≤ max_source_size) (compiled : IsCompiled library_text text default_heap default_depth file listing)
+    (image : Image) (stands : StandsFor file image) (steps : ℕ) (lone : LoneRun) (alone : EndsAlone image steps lone) where
+  ends_so : (end : RunEnd) → lone.end ≡ end → EndsUnder image steps [] end alone.output
+  ends_so end is = subst (λ end. EndsUnder image steps [] end alone.output) is alone.ends
 
   pub are_figures : (figures : Figures) → lone.end ≡ run_end.Exited figures.status → figures.source ≡ length text → figures.image ≡ length file → figures.instructions ≡ listing.instructions
       → figures.output ≡ lone.output → AreFiguresOf text steps figures
-  unfolding runs_alone made
-  are_figures figures end source size instructions written =
-      let ends = ends_as compiled.program listing.orders default_heap default_depth image steps alone.output does figures.status (runs_alone (run_end.Exited figures.status) end).ends in
-      record {
-        output = alone.output;
-        runs = runs_alone (run_end.Exited figures.status) end;
-        end = ends.0;
-        puts = ends.1;
-        source_size = source;
-        image_size = size;
-        instructions = instructions;
-        output_size = written ∙ alone.size;
-      }
+  are_figures figures end source size instructions written = record {
+    output = alone.output;
+    exits = exits_alone text file listing default_heap default_depth short compiled image stands steps alone.output figures.status (ends_so (run_end.Exited figures.status) end);
+    source_size = source;
+    image_size = size;
+    instructions = instructions;
+    output_size = written ∙ alone.size;
+  }
 
-  pub spends_steps : lone.end ≡ run_end.Spent → SpendsSteps text steps
-  spends_steps end = record { output = alone.output; runs = runs_alone run_end.Spent end }
+  pub spends_steps : lone.end ≡ run_end.Spent → SpendsSteps text default_heap default_depth steps
+  spends_steps end = record {
+    output = alone.output;
+    runs = runs_alone text file listing default_heap default_depth short compiled image stands steps alone.output run_end.Spent (ends_so run_end.Spent end);
+  }
 
-  pub no_stuck_end : (stuck : stuck_place.Stuck) → lone.end ≡ run_end.Stuck stuck → ⊥
-  unfolding runs_alone made
-  no_stuck_end stuck end = not_stuck compiled.program listing.orders default_heap default_depth image steps alone.output does stuck (runs_alone (run_end.Stuck stuck) end).ends
+  pub never_stuck : (stuck : stuck_place.Stuck) → lone.end ≡ run_end.Stuck stuck → ⊥
+  never_stuck stuck end = no_stuck_end text file listing default_heap default_depth short compiled image stands steps alone.output stuck (ends_so (run_end.Stuck stuck) end)
+
+-- ---- its counts
+
+module _ (text file : List ℕ) (listing : Listing) (heap depth : ℕ) (short : length text ≤ max_source_size) (compiled : IsCompiled library_text text heap depth file listing)
+    (image : Image) (stands : StandsFor file image) (steps : ℕ) where
+  pub are_counts : (counts : Counts) (printed : List ℕ) → CountsImage image listing steps (Ok counts) → printed ≡ counts_text listing.bodies counts.rows counts.status
+      → IsCountsText text heap depth steps printed
+  are_counts counts printed counted is = record {
+    rows = counts.rows;
+    status = counts.status;
+    output = counted.output;
+    exits = exits_alone text file listing heap depth short compiled image stands steps counted.output counts.status counted.ends;
+    counted = counted.rows;
+    is = is;
+  }
+
+  pub counts_spent : CountsImage image listing steps (Err count_error.Spent) → SpendsSteps text heap depth steps
+  counts_spent counted = record {
+    output = counted.output;
+    runs = runs_alone text file listing heap depth short compiled image stands steps counted.output run_end.Spent counted.ends;
+  }
+
+  pub counts_never_stuck : (stuck : stuck_place.Stuck) → CountsImage image listing steps (Err (count_error.Stuck stuck)) → ⊥
+  counts_never_stuck stuck counted = no_stuck_end text file listing heap depth short compiled image stands steps counted.output stuck counted.ends
 
 -- what holds of a failure holds of the error that it is
 pub kept_failure : {A : Type 0} (answer : Result A Failure) (why : Failure) (P : Failure → Type 0) → IsErrAnd answer (λ e. e ≡ why) → P why → IfErr answer P
 kept_failure (Ok x) why P h p = absurd h
 kept_failure (Err e) why P h p = subst P (sym h) p
 
--- a text that is refused has no figures
-pub refused_figures : (text : List ℕ) (steps : ℕ) (why : Failure) → IsRefused text default_depth why → HasNoFigures text steps why
-refused_figures text steps failure.TooLong h = h
-refused_figures text steps (failure.Compile error) h = h
-refused_figures text steps failure.Memory h = h
-refused_figures text steps failure.ReadFailed h = absurd h
-refused_figures text steps failure.WriteFailed h = absurd h
-refused_figures text steps (failure.Image error) h = absurd h
-refused_figures text steps failure.StepsSpent h = absurd h
-refused_figures text steps failure.OutputFailed h = absurd h
+-- a text that is refused comes to no exit
+pub refused_exit : (text : List ℕ) (heap depth steps : ℕ) (why : Failure) → IsRefused text depth why → HasNoExit text heap depth steps why
+refused_exit text heap depth steps failure.TooLong h = h
+refused_exit text heap depth steps (failure.Compile error) h = h
+refused_exit text heap depth steps failure.Memory h = h
+refused_exit text heap depth steps failure.ReadFailed h = absurd h
+refused_exit text heap depth steps failure.WriteFailed h = absurd h
+refused_exit text heap depth steps failure.ListingFailed h = absurd h
+refused_exit text heap depth steps (failure.Image error) h = absurd h
+refused_exit text heap depth steps failure.StepsSpent h = absurd h
+refused_exit text heap depth steps failure.OutputFailed h = absurd h

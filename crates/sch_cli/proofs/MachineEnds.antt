@@ -33,7 +33,7 @@ output_same (run_end.Stuck stuck) core output answers = refl
 
 module _ (image : Image) (steps : ℕ) (old new : Machine) (end : RunEnd) (at : IsRunAt end (core_of new).place)
     (starts : (bytes : List ℕ) (answers : List Answer) → standing_of old bytes answers ≡ Runs (state_of (loaded image.entry (memory image.segments)) bytes answers)) where
-  comes_to : (answers left : List Answer) (output : List ℕ) → MachineRuns steps end old new [] answers output left → EndsUnder image steps answers end output
+  pub comes_to : (answers left : List Answer) (output : List ℕ) → MachineRuns steps end old new [] answers output left → EndsUnder image steps answers end output
   comes_to answers left output runs =
       let is : mach steps (started image answers) ≡ reached_by_run end (core_of new) output left = sym (ap (λ p. go_on p (mach steps)) (starts [] answers)) ∙ runs in
       record {

@@ -21,7 +21,9 @@ use Rattle.sch_lang.specs.Run.{outcome, run}
 use Rattle.sch_step.specs.declared.ends.RunEnd.{RunEnd}
 use Rattle.sch_generator.specs.GeneratedText.{generated_text}
 use Rattle.sch_cli.specs.Failures.{core_status, done_status, failure_status, read_status, refusal_status}
-use Rattle.sch_cli.specs.Figures.{HasNoFigures, figures_text}
+use Rattle.sch_commands.specs.Command.{default_depth, default_heap}
+use Rattle.sch_cli.specs.Figures.{figures_text}
+use Rattle.sch_cli.specs.LoneRuns.{HasNoExit}
 use Rattle.sch_cli.specs.Prints.{Generates, Prints, measured, not_measured, whole, in_part}
 use Rattle.sch_cli.specs.Refusals.{IsRefused}
 use Rattle.sch_cli.specs.Files.{IsUnread}
@@ -63,21 +65,24 @@ refused_is_other text depth (failure.Compile error) h e = refusal_is_other error
 refused_is_other text depth failure.Memory h e = cc
 refused_is_other text depth failure.ReadFailed h e = h
 refused_is_other text depth failure.WriteFailed h e = h
+refused_is_other text depth failure.ListingFailed h e = h
 refused_is_other text depth (failure.Image error) h e = h
 refused_is_other text depth failure.StepsSpent h e = h
 refused_is_other text depth failure.OutputFailed h e = h
 
-unmeasured_is_other : (text : List ℕ) (steps : ℕ) (why : Failure) → HasNoFigures text steps why → status_number (failure_status why) ≢ 8
-unmeasured_is_other text steps failure.StepsSpent h e = cc
-unmeasured_is_other text steps failure.TooLong h e = cc
-unmeasured_is_other text steps (failure.Compile error) h e = refusal_is_other error e
-unmeasured_is_other text steps failure.Memory h e = cc
-unmeasured_is_other text steps failure.ReadFailed h e = h
-unmeasured_is_other text steps failure.WriteFailed h e = h
-unmeasured_is_other text steps (failure.Image error) h e = h
-unmeasured_is_other text steps failure.OutputFailed h e = h
+-- a text that comes to no exit
+pub unended_is_other : (text : List ℕ) (heap depth steps : ℕ) (why : Failure) → HasNoExit text heap depth steps why → status_number (failure_status why) ≢ 8
+unended_is_other text heap depth steps failure.StepsSpent h e = cc
+unended_is_other text heap depth steps failure.TooLong h e = cc
+unended_is_other text heap depth steps (failure.Compile error) h e = refusal_is_other error e
+unended_is_other text heap depth steps failure.Memory h e = cc
+unended_is_other text heap depth steps failure.ReadFailed h e = h
+unended_is_other text heap depth steps failure.WriteFailed h e = h
+unended_is_other text heap depth steps failure.ListingFailed h e = h
+unended_is_other text heap depth steps (failure.Image error) h e = h
+unended_is_other text heap depth steps failure.OutputFailed h e = h
 
-printed_is_other : (text : List ℕ) (out : StreamChange) (answer : Result ⊤ Failure) → Prints text out answer → status_number (done_status answer) ≢ 8
+pub printed_is_other : (text : List ℕ) (out : StreamChange) (answer : Result ⊤ Failure) → Prints text out answer → status_number (done_status answer) ≢ 8
 printed_is_other text out _ (whole all) e = cc
 printed_is_other text out _ (in_part failed front) e = cc
 
@@ -126,6 +131,7 @@ unread_is_other name limit failure.ReadFailed disk h e = cc
 unread_is_other name limit failure.TooLong disk h e = cc
 unread_is_other name limit failure.Memory disk h e = cc
 unread_is_other name limit failure.WriteFailed disk h e = h
+unread_is_other name limit failure.ListingFailed disk h e = h
 unread_is_other name limit (failure.Compile error) disk h e = h
 unread_is_other name limit (failure.Image error) disk h e = h
 unread_is_other name limit failure.StepsSpent disk h e = h
@@ -135,4 +141,4 @@ unread_is_other name limit failure.OutputFailed disk h e = h
 
 pub generated_is_other : (number steps : ℕ) (out : StreamChange) (answer : Result ⊤ Failure) → Generates number steps out answer → status_number (done_status answer) ≢ 8
 generated_is_other number steps out answer (measured _ figures are prints) e = printed_is_other (figures_text figures) out answer prints e
-generated_is_other number steps out _ (not_measured why h nothing) e = unmeasured_is_other (generated_text number) steps why h e
+generated_is_other number steps out _ (not_measured why h nothing) e = unended_is_other (generated_text number) default_heap default_depth steps why h e

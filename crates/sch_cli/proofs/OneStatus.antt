@@ -5,18 +5,16 @@ use Rattle.std.proofs.lemmas.Bool.{lt-ltb, ltb-true}
 use Rattle.sch_word.specs.runs.ProgramLayout.{max_text_size}
 use Rattle.sch_lang.specs.Tree.{Source}
 use Rattle.sch_prelude.specs.LibraryText.{library_text}
-use Rattle.sch_read.specs.Fault.{Fault, Unclosed, StrayClose, DeepNesting, LiteralRange, Flawed}
-use Rattle.sch_read.specs.Grammar.{Data, bad_token, bad_number, bad_string}
-use Rattle.sch_read.specs.Text.{Spells, HasFault}
+use Rattle.sch_read.specs.Grammar.{Data}
+use Rattle.sch_read.specs.Text.{Spells}
 use Rattle.sch_read.specs.declared.error.ReadError.{ReadError}
-use Rattle.sch_read.specs.declared.error.ReadError.TheVariants as read
-use Rattle.sch_read.proofs.texts.TextAnswers.{spells_faultless, spells_one, fault_one}
+use Rattle.sch_read.proofs.texts.TextAnswers.{spells_one, fault_one}
 use Rattle.sch_core.specs.Answer as expanding
 use Rattle.sch_core.specs.declared.error.CoreError.{CoreError}
 use Rattle.sch_core.specs.declared.error.CoreError.TheVariants as core
 use Rattle.sch_core.specs.Libraries.{IsLibraryError}
 use Rattle.sch_core.specs.Programs.{IsProgramOf}
-use Rattle.sch_core.proofs.DataLaws.{never_both, one_error, one_program}
+use Rattle.sch_core.proofs.DataLaws.{one_error, one_program}
 use Rattle.sch_core.proofs.items.LibraryLaws as definitions
 use Rattle.sch_link_tables.specs.Programs.{Definition}
 use Rattle.sch_select.specs.Program.{frames_bytes, max_stack}
@@ -26,37 +24,13 @@ use Rattle.sch_driver.specs.declared.error.CompileError.TheVariants as compiling
 use Rattle.sch_driver.specs.declared.error.Part.TheVariants.{Library, User}
 use Rattle.sch_listing.specs.declared.listing.Listing.{Listing}
 use Rattle.sch_driver.proofs.Meanings.{same_library}
+use Rattle.sch_driver.proofs.SmallTexts.{error_of, expandable, definable, read_fault, readable}
 use Rattle.sch_driver.proofs.Sizes.{bytes_of, frame_is, stack_fits, text_fits}
 use Rattle.sch_cli.specs.declared.failure.Failure.{Failure}
 use Rattle.sch_cli.specs.declared.failure.Failure.TheVariants as failure
 use Rattle.sch_cli.specs.Laws.{IsVerdict, built, by_size, refused}
 
 -- ---- errors
-
--- the error of the reader that names a fault
-abbrev pub error_of : Fault → ReadError
-error_of (Unclosed at) = read.Unclosed at
-error_of (StrayClose at) = read.StrayClose at
-error_of (Flawed at bad_token) = read.BadToken at
-error_of (Flawed at bad_number) = read.BadNumber at
-error_of (Flawed at bad_string) = read.BadString at
-error_of (DeepNesting at) = read.DeepNesting at
-error_of (LiteralRange at) = read.LiteralRange at
-
--- the fault of an error that is not out of memory
-read_fault : (text : List ℕ) (e : ReadError) → IsReadErrorOf text e → (f : Fault) × HasFault text f × (e ≡ error_of f)
-read_fault text read.Memory h = absurd (h.0 refl)
-read_fault text (read.Unclosed at) h = (Unclosed at, h.1, refl)
-read_fault text (read.StrayClose at) h = (StrayClose at, h.1, refl)
-read_fault text (read.BadToken at) h = (Flawed at bad_token, h.1, refl)
-read_fault text (read.BadNumber at) h = (Flawed at bad_number, h.1, refl)
-read_fault text (read.BadString at) h = (Flawed at bad_string, h.1, refl)
-read_fault text (read.DeepNesting at) h = (DeepNesting at, h.1, refl)
-read_fault text (read.LiteralRange at) h = (LiteralRange at, h.1, refl)
-
--- a text that spells data has no error of the reader
-readable : (text : List ℕ) (items : Data) (e : ReadError) → Spells text items → IsReadErrorOf text e → ⊥
-readable text items e spells wrong = let f = read_fault text e wrong in spells_faultless text items f.0 spells f.1
 
 one_read : (text : List ℕ) (e e' : ReadError) → IsReadErrorOf text e → IsReadErrorOf text e' → e ≡ e'
 one_read text e e' h k =
@@ -81,9 +55,7 @@ one_in_library library _ _ (undefined e h) (undefined e' k) =
 
 no_library : (library : List ℕ) (ds : List Definition) (verdict : Result ⊤ Failure) → IsLibraryText library ds → InLibrary library verdict → ⊥
 no_library library ds _ l (unread e h) = readable library l.items e l.spells h
-no_library library ds _ l (undefined e h) =
-    h.known
-    (definitions.never_both l.items ds e l.stands (subst (λ items. IsLibraryError items e) (sym (spells_one library l.items h.items l.spells h.spells)) h.wrong))
+no_library library ds _ l (undefined e h) = definable library ds e l h
 
 -- ---- what is found in a text
 
@@ -92,12 +64,6 @@ data InUser (ds : List Definition) (text : List ℕ) (depth : ℕ) : Result ⊤ 
   faulty : (e : ReadError) → IsReadErrorOf text e → InUser ds text depth (Err (failure.Compile (compiling.Read User e)))
   wrong : (e : CoreError) → e ≢ core.Memory → (items : Data) → Spells text items → expanding.IsErrorIn ds items e → InUser ds text depth (Err (failure.Compile (compiling.Core User e)))
   right : (verdict : Result ⊤ Failure) (items : Data) → Spells text items → (p : Source) → IsProgramOf ds items p → verdict ≡ by_size p depth → InUser ds text depth verdict
-
--- data with a program have no error
-expandable : (ds : List Definition) (items xs : Data) (text : List ℕ) (e : CoreError) (p : Source)
-    → e ≢ core.Memory → Spells text items → expanding.IsErrorIn ds items e → Spells text xs → IsProgramOf ds xs p → ⊥
-expandable ds items xs text e p known a h b is =
-    known (never_both ds xs p e is (subst (λ zs. expanding.IsErrorIn ds zs e) (spells_one text items xs a b) h))
 
 one_in_user : (ds : List Definition) (text : List ℕ) (depth : ℕ) (one two : Result ⊤ Failure) → InUser ds text depth one → InUser ds text depth two → one ≡ two
 one_in_user ds text depth _ _ (faulty e h) (faulty e' k) = ap (λ x. Err (failure.Compile (compiling.Read User x))) (one_read text e e' h k)
@@ -121,7 +87,7 @@ data InTexts (library text : List ℕ) (depth : ℕ) : Result ⊤ Failure → Ty
   first : (verdict : Result ⊤ Failure) → length text ≤ max_source_size → InLibrary library verdict → InTexts library text depth verdict
   second : (verdict : Result ⊤ Failure) → length text ≤ max_source_size → (ds : List Definition) → IsLibraryText library ds → InUser ds text depth verdict → InTexts library text depth verdict
 
-both_lengths : (text : List ℕ) → max_source_size < length text → length text ≤ max_source_size → ⊥
+pub both_lengths : (text : List ℕ) → max_source_size < length text → length text ≤ max_source_size → ⊥
 both_lengths text g h = omega (arith, g, h)
 
 one_in_texts : (library text : List ℕ) (depth : ℕ) (one two : Result ⊤ Failure) → InTexts library text depth one → InTexts library text depth two → one ≡ two
@@ -197,6 +163,7 @@ found text depth _ (refused (failure.Compile compiling.Memory) h v) = absurd (v 
 found text depth _ (refused failure.Memory h v) = absurd (v refl)
 found text depth _ (refused failure.ReadFailed h v) = absurd h
 found text depth _ (refused failure.WriteFailed h v) = absurd h
+found text depth _ (refused failure.ListingFailed h v) = absurd h
 found text depth _ (refused (failure.Image error) h v) = absurd h
 found text depth _ (refused failure.StepsSpent h v) = absurd h
 found text depth _ (refused failure.OutputFailed h v) = absurd h

@@ -31,9 +31,9 @@ use Rattle.sch_cli.proofs.MachineEnds.{related}
 
 -- an exit with this status is named so: the program's status has the same number, and is not that of
 -- steps that were spent
-record IsNamed (status : ℕ) : Type 0 where
-  number : status_number (exit_status status) ≡ status
-  not_spent : (runs : List Answer → ℕ → Run) (steps : ℕ) (answers : List Answer) (output : List ℕ) →
+pub record IsNamed (status : ℕ) : Type 0 where
+  pub number : status_number (exit_status status) ≡ status
+  pub not_spent : (runs : List Answer → ℕ → Run) (steps : ℕ) (answers : List Answer) (output : List ℕ) →
       (runs answers steps).end ≡ ended (status_number (exit_status status)) → (runs answers steps).output ≡ output → EndsAs runs steps answers (exit_status status) output
 
 zero_named : IsNamed 0
@@ -61,7 +61,7 @@ seen_named answers entries (gives v s) status is = subst IsNamed (ap status_of_e
 seen_named answers entries (stops why s) status is = subst IsNamed (ap status_of_end is) (stop_named why)
 seen_named answers entries (spent s) status is = absurd cc
 
-run_named : (p : tree.Source) (table : List (List ℕ)) (heap depth : ℕ) (answers : List Answer) (entries status : ℕ) → (run p table heap depth answers entries).end ≡ ended status → IsNamed status
+pub run_named : (p : tree.Source) (table : List (List ℕ)) (heap depth : ℕ) (answers : List Answer) (entries status : ℕ) → (run p table heap depth answers entries).end ≡ ended status → IsNamed status
 run_named p table heap depth answers entries status is = seen_named answers entries (outcome p table heap depth answers entries) status is
 
 -- ---- an image that does what the program means

@@ -17,6 +17,7 @@ use Rattle.sch_core.proofs.DataLaws.{program_or_error}
 use Rattle.sch_core.proofs.items.LibraryLaws.{library_or_error}
 use Rattle.sch_link_tables.specs.Programs.{Definition}
 use Rattle.sch_driver.specs.Causes.{IsErrorOf, IsLibraryText, IsReadErrorOf, max_source_size}
+use Rattle.sch_driver.proofs.SmallTexts.{error_of}
 use Rattle.sch_driver.specs.declared.error.CompileError.TheVariants as compiling
 use Rattle.sch_driver.specs.declared.error.Part.{Part}
 use Rattle.sch_driver.specs.declared.error.Part.TheVariants.{Library, User}
@@ -25,7 +26,6 @@ use Rattle.sch_cli.specs.declared.failure.Failure.TheVariants as failure
 use Rattle.sch_cli.specs.declared.status.Status.TheVariants.{OutOfMemory}
 use Rattle.sch_cli.specs.Failures.{core_status, failure_status}
 use Rattle.sch_cli.specs.Laws.{IsVerdict, built, by_size, refused}
-use Rattle.sch_cli.proofs.OneStatus.{error_of}
 
 abbrev Verdict : List ℕ → (depth : ℕ) → Type 0
 Verdict text depth = (verdict : Result ⊤ Failure) × IsVerdict text depth verdict

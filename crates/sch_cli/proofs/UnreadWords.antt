@@ -2,9 +2,11 @@
 use Rattle.std.proofs.Common.{◌≡◌, ℕ, Option, Some, None, Err, refl, arith}
 use Rattle.sch_io.specs.Files.{Files}
 use Rattle.sch_io.specs.Told.{Tells}
-use Rattle.sch_cli.specs.Command.{Command, IfCompile, IfGen, IfList, IfRun, IfStep, compile, gen, list, run, step}
+use Rattle.sch_commands.specs.Command.{Command, IfCompile, IfCount, IfGen, IfList, IfRun, IfStep, compile, count, gen, list, run, step}
 use Rattle.sch_cli.specs.Compiles as compiles
 use Rattle.sch_cli.specs.Compiles.{EndsCompile}
+use Rattle.sch_cli.specs.Counts as counts
+use Rattle.sch_cli.specs.Counts.{EndsCount}
 use Rattle.sch_cli.specs.Lists as lists
 use Rattle.sch_cli.specs.Lists.{EndsList}
 use Rattle.sch_cli.specs.Messages.{Says, out_of_memory_line}
@@ -25,18 +27,19 @@ no_calls : (state : DiskState) → HadAtMostCalls 1 (untouched state)
 no_calls state few = (omega arith, omega arith)
 
 pub unread_compile : (command : Option Command) (status : ℕ) (disk : DiskState) (err : StreamChange) → status ≡ 10 → Says out_of_memory_line err
-    → IfCompile command (λ source target heap depth. EndsCompile source target heap depth status (untouched disk) err)
-unread_compile (Some (compile source target heap depth)) status disk err is says =
+    → IfCompile command (λ source target listing heap depth. EndsCompile source target listing heap depth status (untouched disk) err)
+unread_compile (Some (compile source target listing heap depth)) status disk err is says =
     record { answer = Err Memory; status_is = is; says = says; compiles = compiles.no_memory (same disk.files) (no_calls disk) }
 unread_compile (Some (run source heap depth steps)) status disk err is says = tt
 unread_compile (Some (step image steps)) status disk err is says = tt
 unread_compile (Some (gen number steps)) status disk err is says = tt
 unread_compile (Some (list source heap depth)) status disk err is says = tt
+unread_compile (Some (count source heap depth steps)) status disk err is says = tt
 unread_compile None status disk err is says = tt
 
 pub unread_run : (command : Option Command) (status : ℕ) (disk : DiskState) (err out : StreamChange) → status ≡ 10 → Says out_of_memory_line err → TookNothing out
     → IfRun command (λ source heap depth steps. EndsRun source status (untouched disk) err (RunsSource source heap depth steps (untouched disk) out))
-unread_run (Some (compile source target heap depth)) status disk err out is says nothing = tt
+unread_run (Some (compile source target listing heap depth)) status disk err out is says nothing = tt
 unread_run (Some (run source heap depth steps)) status disk err out is says nothing = record {
   answer = Err Memory;
   status_is = is;
@@ -49,11 +52,12 @@ unread_run (Some (run source heap depth steps)) status disk err out is says noth
 unread_run (Some (step image steps)) status disk err out is says nothing = tt
 unread_run (Some (gen number steps)) status disk err out is says nothing = tt
 unread_run (Some (list source heap depth)) status disk err out is says nothing = tt
+unread_run (Some (count source heap depth steps)) status disk err out is says nothing = tt
 unread_run None status disk err out is says nothing = tt
 
 pub unread_step : (command : Option Command) (status : ℕ) (disk : DiskState) (err out : StreamChange) → status ≡ 10 → Says out_of_memory_line err → TookNothing out
     → IfStep command (λ image steps. EndsRun image status (untouched disk) err (StepsImage image steps (untouched disk) out))
-unread_step (Some (compile source target heap depth)) status disk err out is says nothing = tt
+unread_step (Some (compile source target listing heap depth)) status disk err out is says nothing = tt
 unread_step (Some (run source heap depth steps)) status disk err out is says nothing = tt
 unread_step (Some (step image steps)) status disk err out is says nothing = record {
   answer = Err Memory;
@@ -66,16 +70,18 @@ unread_step (Some (step image steps)) status disk err out is says nothing = reco
 }
 unread_step (Some (gen number steps)) status disk err out is says nothing = tt
 unread_step (Some (list source heap depth)) status disk err out is says nothing = tt
+unread_step (Some (count source heap depth steps)) status disk err out is says nothing = tt
 unread_step None status disk err out is says nothing = tt
 
 pub unread_gen : (command : Option Command) (status : ℕ) (err out : StreamChange) → status ≡ 10 → Says out_of_memory_line err → TookNothing out
     → IfGen command (λ number steps. EndsGen number steps status err out)
 unread_gen (Some (gen number steps)) status err out is says nothing =
     record { answer = Err Memory; status_is = is; says = says; generates = not_measured Memory tt nothing }
-unread_gen (Some (compile source target heap depth)) status err out is says nothing = tt
+unread_gen (Some (compile source target listing heap depth)) status err out is says nothing = tt
 unread_gen (Some (run source heap depth steps)) status err out is says nothing = tt
 unread_gen (Some (step image steps)) status err out is says nothing = tt
 unread_gen (Some (list source heap depth)) status err out is says nothing = tt
+unread_gen (Some (count source heap depth steps)) status err out is says nothing = tt
 unread_gen None status err out is says nothing = tt
 
 pub unread_list : (command : Option Command) (status : ℕ) (disk : DiskState) (err out : StreamChange) → status ≡ 10 → Says out_of_memory_line err → TookNothing out
@@ -89,33 +95,27 @@ unread_list (Some (list source heap depth)) status disk err out is says nothing 
   few_calls = no_calls disk;
   lists = lists.no_memory nothing;
 }
-unread_list (Some (compile source target heap depth)) status disk err out is says nothing = tt
+unread_list (Some (compile source target listing heap depth)) status disk err out is says nothing = tt
 unread_list (Some (run source heap depth steps)) status disk err out is says nothing = tt
 unread_list (Some (step image steps)) status disk err out is says nothing = tt
 unread_list (Some (gen number steps)) status disk err out is says nothing = tt
+unread_list (Some (count source heap depth steps)) status disk err out is says nothing = tt
 unread_list None status disk err out is says nothing = tt
 
--- what holds of any command holds of this one
-pub any_compile : (command : Option Command) (P : Type 0) → P → IfCompile command (λ source target heap depth. P)
-any_compile (Some (compile source target heap depth)) P p = p
-any_compile (Some (run source heap depth steps)) P p = tt
-any_compile (Some (step image steps)) P p = tt
-any_compile (Some (gen number steps)) P p = tt
-any_compile (Some (list source heap depth)) P p = tt
-any_compile None P p = tt
-
-pub any_gen : (command : Option Command) (P : Type 0) → P → IfGen command (λ number steps. P)
-any_gen (Some (gen number steps)) P p = p
-any_gen (Some (compile source target heap depth)) P p = tt
-any_gen (Some (run source heap depth steps)) P p = tt
-any_gen (Some (step image steps)) P p = tt
-any_gen (Some (list source heap depth)) P p = tt
-any_gen None P p = tt
-
-pub any_run : (command : Option Command) (P : Type 0) → P → IfRun command (λ source heap depth steps. P)
-any_run (Some (run source heap depth steps)) P p = p
-any_run (Some (compile source target heap depth)) P p = tt
-any_run (Some (step image steps)) P p = tt
-any_run (Some (gen number steps)) P p = tt
-any_run (Some (list source heap depth)) P p = tt
-any_run None P p = tt
+pub unread_count : (command : Option Command) (status : ℕ) (disk : DiskState) (err out : StreamChange) → status ≡ 10 → Says out_of_memory_line err → TookNothing out
+    → IfCount command (λ source heap depth steps. EndsCount source heap depth steps status (untouched disk) err out)
+unread_count (Some (count source heap depth steps)) status disk err out is says nothing = record {
+  answer = Err Memory;
+  status_is = is;
+  says = says;
+  unchanged = same disk.files;
+  calls = λ other. absurd (other refl);
+  few_calls = no_calls disk;
+  counts = counts.no_memory nothing;
+}
+unread_count (Some (compile source target listing heap depth)) status disk err out is says nothing = tt
+unread_count (Some (run source heap depth steps)) status disk err out is says nothing = tt
+unread_count (Some (step image steps)) status disk err out is says nothing = tt
+unread_count (Some (gen number steps)) status disk err out is says nothing = tt
+unread_count (Some (list source heap depth)) status disk err out is says nothing = tt
+unread_count None status disk err out is says nothing = tt

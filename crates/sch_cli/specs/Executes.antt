@@ -35,8 +35,8 @@ pub record EndsAlone (image : Image) (steps : ℕ) (lone : LoneRun) : Type 0 whe
   pub ends : EndsUnder image steps [] lone.end output
   pub size : lone.output ≡ length output
 
--- The image was run over an outlet: under the answers that the outlet held ready, where it tells them,
--- and under the answers that it gave. It took the output. An answer took nothing only where it failed.
+-- The image was run over an outlet: under the answers that the outlet held ready, where it tells them, and under some answers,
+-- of which one takes nothing only where the outlet failed. The outlet took the output.
 pub record Executes (image : Image) (steps : ℕ) (end : RunEnd) (out : StreamChange) : Type 0 where
   pub output : List ℕ
   pub given : List Answer

@@ -48,6 +48,7 @@ image_status _ = BadImage
 abbrev pub failure_status : Failure → Status
 failure_status failure.ReadFailed = ReadFailed
 failure_status failure.WriteFailed = WriteFailed
+failure_status failure.ListingFailed = WriteFailed
 failure_status failure.TooLong = PastLimit
 failure_status (failure.Compile error) = refusal_status error
 failure_status (failure.Image error) = image_status error
@@ -108,6 +109,7 @@ image_line name image.Memory = out_of_memory_line
 abbrev pub failure_line : List ℕ → Failure → List ℕ
 failure_line name failure.ReadFailed = name ++ codes ": read failed\n"
 failure_line name failure.WriteFailed = name ++ codes ": write failed\n"
+failure_line name failure.ListingFailed = name ++ codes ": write failed\n"
 failure_line name failure.TooLong = name ++ codes ": limit file\n"
 failure_line name (failure.Compile error) = refusal_line name error
 failure_line name (failure.Image error) = image_line name error

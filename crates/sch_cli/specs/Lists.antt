@@ -5,7 +5,7 @@ use Rattle.sch_cli.specs.Builds.{IsFileOf}
 use Rattle.sch_cli.specs.Failures.{done_line, done_status}
 use Rattle.sch_cli.specs.Messages.{Says}
 use Rattle.sch_cli.specs.Prints.{Prints}
-use Rattle.sch_cli.specs.Refusals.{IsRefused}
+use Rattle.sch_cli.specs.Refusals.{IsOfText, IsRefused}
 use Rattle.sch_cli.specs.Seen.{DiskChange, StreamChange, SameFiles, FileIs, HadAtMostCalls, HadCalls, DiskFailed, TookNothing}
 use Rattle.sch_cli.specs.Statuses.{status_number}
 use Rattle.sch_cli.specs.declared.failure.Failure.{Failure}
@@ -16,7 +16,7 @@ use Rattle.sch_cli.specs.declared.failure.Failure.TheVariants.{ReadFailed, Memor
 pub data ListsSource (name : List ℕ) (heap depth : ℕ) (disk : DiskChange) (out : StreamChange) : Result ⊤ Failure → Type 0 where
   not_read : DiskFailed disk → TookNothing out → ListsSource name heap depth disk out (Err ReadFailed)
   no_memory : TookNothing out → ListsSource name heap depth disk out (Err Memory)
-  refused : (failure : Failure) → FileIs disk name (λ text. IsRefused text depth failure) → TookNothing out →
+  refused : (failure : Failure) → IsOfText failure → FileIs disk name (λ text. IsRefused text depth failure) → TookNothing out →
       ListsSource name heap depth disk out (Err failure)
   listed : (answer : Result ⊤ Failure) (text file : List ℕ) → FileIs disk name (λ found. found ≡ text) → (made : IsFileOf text heap depth file) →
       Prints (listing_text made.listing) out answer → ListsSource name heap depth disk out answer

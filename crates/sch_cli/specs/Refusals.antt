@@ -18,3 +18,10 @@ IsRefused text depth TooLong = max_source_size < length text
 IsRefused text depth (Compile error) = (length text ≤ max_source_size) × IsErrorOf library_text text depth error
 IsRefused text depth Memory = Unit {0}
 IsRefused text depth _ = ⊥
+
+-- The failures that a text can have, whatever it is.
+abbrev pub IsOfText : Failure → Type 0
+IsOfText TooLong = Unit {0}
+IsOfText (Compile error) = Unit {0}
+IsOfText Memory = Unit {0}
+IsOfText _ = ⊥

@@ -11,6 +11,7 @@ use Rattle.sch_elf.specs.Stands.{StandsFor}
 use Rattle.sch_insn.specs.Behaves.{IsPrefix}
 use Rattle.sch_lang.specs.Run.{run}
 use Rattle.sch_lang.specs.Tree as tree
+use Rattle.sch_driver.specs.Assembled.{steps_of}
 use Rattle.sch_step.specs.declared.ends.RunEnd.{RunEnd}
 use Rattle.sch_cli.specs.declared.failure.Failure.{Failure}
 use Rattle.sch_cli.specs.declared.failure.Failure.TheVariants.{ReadFailed, TooLong, Image as NoImage, Memory}
@@ -20,7 +21,7 @@ use Rattle.sch_cli.specs.Builds.{IsFileOf}
 use Rattle.sch_cli.specs.Executes.{Executes}
 use Rattle.sch_cli.specs.Failures.{failure_line, failure_status}
 use Rattle.sch_cli.specs.Messages.{Says, end_line}
-use Rattle.sch_cli.specs.Refusals.{IsRefused}
+use Rattle.sch_cli.specs.Refusals.{IsOfText, IsRefused}
 use Rattle.sch_cli.specs.Seen.{DiskChange, StreamChange, SameFiles, FileIs, HadAtMostCalls, HadCalls, DiskFailed, TookNothing, StreamFailed}
 use Rattle.sch_cli.specs.Statuses.{end_status, status_number}
 
@@ -60,20 +61,31 @@ pub record RunsProgram (p : tree.Source) (table : List (List ℕ)) (heap depth :
       (λ before after. EndsAs (run p table heap depth) steps before (end_status end) executed.output)
   pub output_failed : end_status end ≡ Stopped OutputFailed → StreamFailed out
 
+-- Where a run against these answers has ended, with whatever procedure entries, and the steps are no fewer than a machine with
+-- so many instructions takes for it at most, they were not spent, and the status is that of the run's end.
+abbrev pub EndsInTime : (List Answer → (entries : ℕ) → Run) → (instructions steps : ℕ) → List Answer → Status → Type 0
+EndsInTime runs instructions steps answers status =
+    (n end : ℕ) → (runs answers n).end ≡ ended end
+    → steps_of instructions (runs answers n).entries (runs answers n).answers (runs answers n).charged ≤ steps
+    → (status ≢ StepsSpent) × (status_number status ≡ end)
+
 -- A text was run, under these limits: the image of a file that is compiled of it was executed, and ended as its core
--- program means under the orders that are listed of this file.
+-- program means under the orders that are listed of this file; in time, by the instructions that are listed.
 pub record RunsText (text : List ℕ) (heap depth steps : ℕ) (end : RunEnd) (out : StreamChange) : Type 0 where
   pub file : List ℕ
   pub made : IsFileOf text heap depth file
   pub image : Image
   pub stands : StandsFor file image
   pub runs : RunsProgram made.compiled.program made.listing.orders heap depth image steps end out
+  pub in_time_given : EndsInTime (run made.compiled.program made.listing.orders heap depth) made.listing.instructions steps runs.executed.given (end_status end)
+  pub in_time_left : Tells out.before.left out.after.left
+      (λ before after. EndsInTime (run made.compiled.program made.listing.orders heap depth) made.listing.instructions steps before (end_status end))
 
 -- `run NAME`: the source was not read; or it is refused; or it is neither, and was run.
 pub data RunsSource (name : List ℕ) (heap depth steps : ℕ) (disk : DiskChange) (out : StreamChange) : Result RunEnd Failure → Type 0 where
   not_read : DiskFailed disk → TookNothing out → RunsSource name heap depth steps disk out (Err ReadFailed)
   no_memory : TookNothing out → RunsSource name heap depth steps disk out (Err Memory)
-  refused : (failure : Failure) → FileIs disk name (λ text. IsRefused text depth failure) → TookNothing out →
+  refused : (failure : Failure) → IsOfText failure → FileIs disk name (λ text. IsRefused text depth failure) → TookNothing out →
       RunsSource name heap depth steps disk out (Err failure)
   ran : (text : List ℕ) (end : RunEnd) → FileIs disk name (λ found. found ≡ text) → RunsText text heap depth steps end out →
       RunsSource name heap depth steps disk out (Ok end)

@@ -2,6 +2,7 @@
 
 ghost use Rattle.std.specs.Prelude.{◌≤◌, length, IfOk, IfErr};
 ghost use Rattle.sch_elf.specs.Stands.{StandsFor};
+ghost use Rattle.sch_elf.specs.declared.image.Image.{Image as TheImage};
 ghost use Rattle.sch_prelude.specs.LibraryText.{library_text};
 ghost use Rattle.sch_driver.specs.Causes.{max_source_size};
 ghost use Rattle.sch_driver.specs.Compiled.{IsCompiled};
@@ -11,7 +12,7 @@ ghost use Rattle.sch_cli.specs.Refusals.{IsRefused};
 
 use crate::failure::Failure;
 use sch_driver::{Compiled, compile};
-use sch_elf::{Image, read_image};
+use sch_elf::{Image, ImageError, read_image};
 use sch_word::{Bytes, Limits, Mem};
 use std::alloc::Global;
 
@@ -46,13 +47,15 @@ pub fn image_of(alloc: Global, text: &[u8], limits: Limits) -> Result<Image, Fai
     Ok(image)
 }
 
-/// The image that a compiled file stands for.
+/// The image that a file stands for. The only error is out of memory.
 pub fn image_in(alloc: Global, file: &[u8]) -> Result<Image, Mem>
+    requires { (image : TheImage) × StandsFor file.now image }
     ensures { IfOk result (StandsFor file.now) }
 {
-    // The file stands for an image, so that nothing but memory can be wanting.
     match read_image(alloc, file) {
         Ok(image) => Ok(image),
-        Err(_) => Err(Mem),
+        Err(ImageError::Memory) => Err(Mem),
+        // A file that stands for an image fails none of the tests.
+        Err(_) => unreachable!(),
     }
 }

@@ -21,15 +21,17 @@ use sch_word::Mem;
 pub enum Failure {
     /// The disk failed in the read of a file.
     ReadFailed,
-    /// The disk failed in the write of a file.
+    /// The disk failed in the write of an executable.
     WriteFailed,
+    /// The disk failed in the write of a listing.
+    ListingFailed,
     /// A file is longer than it may be.
     TooLong,
     /// The text is not compiled.
     Compile(CompileError),
     /// The file stands for no image.
     Image(ImageError),
-    /// The steps of a program that is made were spent.
+    /// The steps of a program that is compiled and run were spent.
     StepsSpent,
     /// The standard output did not take all that the command prints.
     OutputFailed,
@@ -70,6 +72,7 @@ impl Failure {
         match self {
             Failure::ReadFailed => Status::ReadFailed,
             Failure::WriteFailed => Status::WriteFailed,
+            Failure::ListingFailed => Status::WriteFailed,
             Failure::TooLong => Status::PastLimit,
             Failure::Compile(error) => refusal_status(error),
             Failure::Image(error) => image_status(*error),
@@ -132,7 +135,7 @@ pub fn say_failure<E: Outlet>(err: &mut E, name: &str, failure: &Failure)
 {
     match failure {
         Failure::ReadFailed => say(err, name, ": read failed\n"),
-        Failure::WriteFailed => say(err, name, ": write failed\n"),
+        Failure::WriteFailed | Failure::ListingFailed => say(err, name, ": write failed\n"),
         Failure::TooLong => say(err, name, ": limit file\n"),
         Failure::Compile(error) => say_refusal(err, name, error),
         Failure::Image(error) => say_image_error(err, name, *error),

@@ -1,8 +1,8 @@
-//! Reads the file that a command names, and writes its target.
+//! Reads the file that a command names, and writes its target and its listing.
 
 ghost use Rattle.std.specs.Prelude.{◌≡◌, ◌≤◌, IfErr, IfOk, OnErr, OnOk};
 ghost use Rattle.sch_io.specs.Files.{Replaces, Spoils};
-ghost use Rattle.sch_cli.specs.Files.{HasRead, IsUnread};
+ghost use Rattle.sch_cli.specs.Files.{HasRead, IsUnread, WritesBoth};
 ghost use Rattle.sch_cli.specs.Seen.{DiskFailed, FilesChange, HadAtMostCalls, HadCalls, SameFiles, disk_change};
 
 use crate::failure::Failure;
@@ -38,10 +38,28 @@ pub fn write_file<D: Disk>(disk: &mut D, name: &str, bytes: &[u8]) -> Result<(),
     ensures err { OnErr result (FilesChange (disk_change D.files D.faults D.calls disk.old disk.new) (Spoils name.now)) }
     ensures failed { OnErr result (DiskFailed (disk_change D.files D.faults D.calls disk.old disk.new)) }
     ensures only { IfErr result (λ failure. failure ≡ Failure.WriteFailed) }
+    ensures faults { D.faults disk.old ≤ D.faults disk.new }
     ensures calls { HadCalls 1 (disk_change D.files D.faults D.calls disk.old disk.new) }
 {
     match disk.write(name, bytes) {
         Ok(()) => Ok(()),
         Err(_) => Err(Failure::WriteFailed),
+    }
+}
+
+/// Replaces a target, and then the file of its listing by this text. Where the first fails the second is left alone.
+pub fn write_both<D: Disk>(
+    disk: &mut D,
+    target: &str,
+    file: &[u8],
+    listing: &str,
+    text: &[u8],
+) -> Result<(), Failure>
+    ensures { WritesBoth target.now file.now listing.now text.now (disk_change D.files D.faults D.calls disk.old disk.new) result }
+{
+    write_file(disk, target, file)?;
+    match disk.write(listing, text) {
+        Ok(()) => Ok(()),
+        Err(_) => Err(Failure::ListingFailed),
     }
 }

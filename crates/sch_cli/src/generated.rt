@@ -12,13 +12,13 @@ ghost use Rattle.sch_cli.specs.Seen.{stream_change};
 ghost use Rattle.sch_cli.specs.Statuses.{status_number};
 
 use crate::build::{build_listed, image_in};
-use crate::command::default_limits;
 use crate::execute::execute;
 use crate::failure::Failure;
 use crate::figures::{Figures, print_figures};
 use crate::print::{print, report_printed};
 use crate::status::Status;
 use itoa::Buffer;
+use sch_commands::default_limits;
 use sch_elf::Image;
 use sch_generator::generate;
 use sch_io::{MemOutlet, Outlet};

@@ -3,18 +3,20 @@
 
 ghost use Rattle.std.specs.Prelude.{◌≡◌, ◌≢◌, ◌⊎◌, None, Some, map, string_bytes, if◌then◌else◌, ◌==◌};
 ghost use Rattle.std.specs.IoError.{error_kind};
-ghost use Rattle.sch_cli.specs.Command.{IfCompile, IfGen, IfList, IfRun, IfStep, command};
-ghost use Rattle.sch_cli.specs.CommandView.{command_of};
+ghost use Rattle.sch_commands.specs.Command.{IfCompile, IfCount, IfGen, IfList, IfRun, IfStep, command};
+ghost use Rattle.sch_commands.specs.CommandView.{command_of};
 ghost use Rattle.sch_cli.specs.Compiles.{EndsCompile};
+ghost use Rattle.sch_cli.specs.Counts.{EndsCount};
 ghost use Rattle.sch_cli.specs.Lists.{EndsList};
 ghost use Rattle.sch_cli.specs.Prints.{EndsGen};
 ghost use Rattle.sch_cli.specs.Messages.{Says, out_of_memory_line, usage_line};
 ghost use Rattle.sch_cli.specs.Seen.{disk_change, stream_change};
+ghost use Rattle.sch_cli.specs.Sources.{CompletesCompile, CompletesRun, FollowsNumber, FollowsSource};
 ghost use Rattle.sch_cli.specs.Steps.{EndsRun, RunsSource, StepsImage};
 
 mod build;
-mod command;
 mod compile;
+mod counted;
 mod execute;
 mod failure;
 mod figures;
@@ -27,14 +29,15 @@ mod print;
 mod run;
 mod status;
 
-use command::{Command, read_command};
 use compile::{compile, report_compile};
+use counted::count_source;
 use generated::{generate_program, report_generated};
 pub use laws::a_source_has_one_status;
 use list::list_source;
 use message::{say, say_out_of_memory};
 use print::report_printed;
 use run::{report_run, run_source, step_image};
+use sch_commands::{Command, read_command};
 use sch_io::{Disk, Outlet};
 use sch_word::Mem;
 use status::Status;
@@ -47,16 +50,17 @@ const USAGE: &str =
 /// Does what the program does, on the words after its name, and answers its exit status.
 ///
 /// `compile NAME NAME2` reads the source NAME and writes NAME2, an executable that does what the source
-/// means: 0. `run NAME` compiles the source and runs its image, `step NAME` runs the image NAME, both of at
-/// most 1,000,000,000 steps or of those in `--steps N`; what the image writes goes to `out`. `gen N` makes a
+/// means, and then the text of its listing into the file F of `--listing F`: 0. `run NAME` compiles the source and runs its
+/// image, `step NAME` runs the image NAME, both of at most 1,000,000,000 steps or of those in `--steps N`; what the image writes
+/// goes to `out`. `list NAME` compiles the source NAME and prints its listing on `out`. `count NAME` compiles it and runs its
+/// image with as many steps, and prints on `out` the activations, leaves and saves of each body, and the status. `gen N` makes a
 /// text of the number N, compiles it and runs it with as many steps, and prints on `out` the bytes of the text, of its image
-/// and of its output, its instructions and its status. `list NAME` compiles the source
-/// NAME and prints its listing on `out`. A program that is compiled has a heap of 67,108,864 bytes or of those in `--heap N`, and a depth of 100,000 pending calls or of
-/// those in `--depth N`.
+/// and of its output, its instructions and its status. A program that is compiled has a heap of 67,108,864 bytes or of those in
+/// `--heap N`, and a depth of 100,000 pending calls or of those in `--depth N`.
 ///
 /// The other statuses, each with its line on `err`: 1 the words are no command, 2 NAME was not read,
-/// 3 NAME2 or what `gen` or `list` prints was not written, 4 NAME is not accepted by the reader, 5 it has a bad form or defines a
-/// keyword, 6 it has an unbound variable, 7 it passes a limit, as that of 1,048,576 bytes (an image:
+/// 3 NAME2 or F or what `list`, `count` or `gen` prints was not written, 4 NAME is not accepted by the reader, 5 it has a bad
+/// form or defines a keyword, 6 it has an unbound variable, 7 it passes a limit, as that of 1,048,576 bytes (an image:
 /// 134,217,728), that of the frames at its depth or that of the text of its image, 16,777,216 bytes, 8 NAME
 /// stands for no image, or its image got stuck or exited with a status of no stop, 9 the steps were spent,
 /// 10 there was no memory, 65 to 74 the image ended with this stop.
@@ -81,10 +85,10 @@ pub fn schc<D: Disk, O: Outlet, E: Outlet>(
     ensures out_at_none { command (map string_bytes words.now) ≡ None → out.new ≡ out.old }
 
     // Compiling ends by its causes, with the line that says the cause, and writes nothing on `out`.
-    ensures compile { IfCompile (command (map string_bytes words.now)) (λ source target heap depth.
-        EndsCompile source target heap depth result (disk_change D.files D.faults D.calls disk.old disk.new)
+    ensures compile { IfCompile (command (map string_bytes words.now)) (λ source target listing heap depth.
+        EndsCompile source target listing heap depth result (disk_change D.files D.faults D.calls disk.old disk.new)
         (stream_change E.bytes E.left E.faults err.old err.new)) }
-    ensures compile_out { IfCompile (command (map string_bytes words.now)) (λ source target heap depth. out.new ≡ out.old) }
+    ensures compile_out { IfCompile (command (map string_bytes words.now)) (λ source target listing heap depth. out.new ≡ out.old) }
 
     // A source that is run ends as it means, and an image as the machine does, with a line that says so. 8 comes of an image
     // alone that was read from a file.
@@ -108,6 +112,31 @@ pub fn schc<D: Disk, O: Outlet, E: Outlet>(
     ensures list { IfList (command (map string_bytes words.now)) (λ source heap depth. EndsList source heap depth result
         (disk_change D.files D.faults D.calls disk.old disk.new) (stream_change E.bytes E.left E.faults err.old err.new)
         (stream_change O.bytes O.left O.faults out.old out.new)) }
+
+    // The counts of a source that is compiled and run are printed, or there are none.
+    ensures count { IfCount (command (map string_bytes words.now)) (λ source heap depth steps. EndsCount source heap depth steps result
+        (disk_change D.files D.faults D.calls disk.old disk.new) (stream_change E.bytes E.left E.faults err.old err.new)
+        (stream_change O.bytes O.left O.faults out.old out.new)) }
+    ensures count_no_image { IfCount (command (map string_bytes words.now)) (λ source heap depth steps. result ≢ 8) }
+
+    // Of a verb on a source the statuses 4 to 7 come as what is said of the source has them.
+    ensures compile_verdict { IfCompile (command (map string_bytes words.now)) (λ source target listing heap depth.
+        FollowsSource source depth result (disk_change D.files D.faults D.calls disk.old disk.new)) }
+    ensures run_verdict { IfRun (command (map string_bytes words.now)) (λ source heap depth steps.
+        FollowsSource source depth result (disk_change D.files D.faults D.calls disk.old disk.new)) }
+    ensures list_verdict { IfList (command (map string_bytes words.now)) (λ source heap depth.
+        FollowsSource source depth result (disk_change D.files D.faults D.calls disk.old disk.new)) }
+    ensures count_verdict { IfCount (command (map string_bytes words.now)) (λ source heap depth steps.
+        FollowsSource source depth result (disk_change D.files D.faults D.calls disk.old disk.new)) }
+    ensures figures_verdict { IfGen (command (map string_bytes words.now)) (λ number steps.
+        FollowsNumber number result (disk_change D.files D.faults D.calls disk.old disk.new)) }
+
+    // A small source is compiled, and run, where the disk does not fail and there is memory.
+    ensures compile_complete { IfCompile (command (map string_bytes words.now)) (λ source target listing heap depth.
+        CompletesCompile source target listing heap depth result (disk_change D.files D.faults D.calls disk.old disk.new)) }
+    ensures run_complete { IfRun (command (map string_bytes words.now)) (λ source heap depth steps.
+        CompletesRun source heap depth steps result (disk_change D.files D.faults D.calls disk.old disk.new)
+        (stream_change O.bytes O.left O.faults out.old out.new)) }
 {
     match read_command(alloc, words) {
         Ok(Some(command)) => perform(alloc, command, disk, out, err),
@@ -125,10 +154,10 @@ fn perform<D: Disk, O: Outlet, E: Outlet>(
     err: &mut E,
 ) -> u8
     ensures no_usage { result ≢ 1 }
-    ensures compile { IfCompile (Some (command_of command.entry)) (λ source target heap depth.
-        EndsCompile source target heap depth result (disk_change D.files D.faults D.calls disk.old disk.new)
+    ensures compile { IfCompile (Some (command_of command.entry)) (λ source target listing heap depth.
+        EndsCompile source target listing heap depth result (disk_change D.files D.faults D.calls disk.old disk.new)
         (stream_change E.bytes E.left E.faults err.old err.new)) }
-    ensures compile_out { IfCompile (Some (command_of command.entry)) (λ source target heap depth. out.new ≡ out.old) }
+    ensures compile_out { IfCompile (Some (command_of command.entry)) (λ source target listing heap depth. out.new ≡ out.old) }
     ensures run { IfRun (Some (command_of command.entry)) (λ source heap depth steps. EndsRun source result
         (disk_change D.files D.faults D.calls disk.old disk.new) (stream_change E.bytes E.left E.faults err.old err.new)
         (RunsSource source heap depth steps (disk_change D.files D.faults D.calls disk.old disk.new)
@@ -145,15 +174,15 @@ fn perform<D: Disk, O: Outlet, E: Outlet>(
     ensures list { IfList (Some (command_of command.entry)) (λ source heap depth. EndsList source heap depth result
         (disk_change D.files D.faults D.calls disk.old disk.new) (stream_change E.bytes E.left E.faults err.old err.new)
         (stream_change O.bytes O.left O.faults out.old out.new)) }
+    ensures count { IfCount (Some (command_of command.entry)) (λ source heap depth steps. EndsCount source heap depth steps result
+        (disk_change D.files D.faults D.calls disk.old disk.new) (stream_change E.bytes E.left E.faults err.old err.new)
+        (stream_change O.bytes O.left O.faults out.old out.new)) }
+    ensures count_no_image { IfCount (Some (command_of command.entry)) (λ source heap depth steps. result ≢ 8) }
 {
     let status = match command {
-        Command::Compile {
-            source,
-            target,
-            limits,
-        } => {
-            let answer = compile(alloc, source, target, limits, disk);
-            report_compile(err, source, target, &answer)
+        Command::Compile(wanted) => {
+            let answer = compile(alloc, wanted, disk);
+            report_compile(err, wanted, &answer)
         }
         Command::Run(wanted) => {
             let answer = run_source(alloc, wanted, disk, out);
@@ -170,6 +199,10 @@ fn perform<D: Disk, O: Outlet, E: Outlet>(
         Command::List { source, limits } => {
             let answer = list_source(alloc, source, limits, disk, out);
             report_printed(err, source, &answer)
+        }
+        Command::Count(wanted) => {
+            let answer = count_source(alloc, wanted, disk, out);
+            report_printed(err, wanted.source, &answer)
         }
     };
     status.number()

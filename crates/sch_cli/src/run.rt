@@ -7,12 +7,12 @@ ghost use Rattle.sch_cli.specs.Statuses.{status_number};
 ghost use Rattle.sch_cli.specs.Steps.{RunsSource, StepsImage, run_line, run_status};
 
 use crate::build::image_of;
-use crate::command::SourceRun;
 use crate::execute::execute;
 use crate::failure::{Failure, say_failure};
 use crate::file::read_file;
 use crate::message::say_end;
 use crate::status::Status;
+use sch_commands::SourceRun;
 use sch_driver::MAX_SOURCE_SIZE;
 use sch_elf::read_image;
 use sch_io::{Disk, Outlet};

@@ -14,3 +14,4 @@ pub mod ExactPlaces
 pub mod ExactSets
 pub mod NumberLists
 pub mod ReadSteps
+pub mod SetTests

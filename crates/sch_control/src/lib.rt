@@ -21,11 +21,11 @@ mod tree;
 
 pub use body::{Body, Entry};
 pub use copies::{copy_application, copy_members, copy_operation};
-pub use known_values::known;
+pub use known_values::{after_operation, known};
 pub use live_body::LiveBody;
 pub use nodes::{
     boxed_bind, boxed_call, boxed_do, boxed_end, boxed_fix, boxed_if, boxed_return, boxed_save,
-    boxed_seq, boxed_tail_call,
+    boxed_seq, boxed_tail_call, copied_do, copied_fix, copied_save, copied_tail_call,
 };
 pub use operation::{Application, Atom, Closure, Member, Operand, Operation, Source};
 pub use placed_body::PlacedBody;

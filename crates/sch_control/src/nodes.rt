@@ -1,8 +1,9 @@
 //! Expressions on the heap, one function for each kind. A walk that makes a tree by these keeps no expression in its own
-//! part of the stack.
+//! part of the stack, nor a copy of what an expression is made of.
 
 ghost use Rattle.std.specs.Prelude.{◌≡◌, IfOk};
 
+use crate::copies::{copy_application, copy_members, copy_operation};
 use crate::operation::{Application, Member, Operation};
 use crate::tree::{Exp, boxed};
 use sch_word::{List, Mem};
@@ -104,4 +105,48 @@ pub fn boxed_save<C: Drop>(
     ensures { IfOk result (λ made. made.value ≡ Exp.Save saves e) }
 {
     boxed(alloc, Exp::Save(saves, e))
+}
+
+/// A copy of an operation as an expression.
+#[inline(never)]
+pub fn copied_do<C: Drop>(alloc: Global, o: &Operation<u32>) -> Result<Box<Exp<C>>, Mem>
+    ensures { IfOk result (λ made. made.value ≡ Exp.Do o.now) }
+{
+    let o = copy_operation(alloc, o)?;
+    boxed_do(alloc, o)
+}
+
+/// A copy of a group, and what follows.
+#[inline(never)]
+pub fn copied_fix<C: Drop>(
+    alloc: Global,
+    members: &List<Member<u32>>,
+    e: Box<Exp<C>>,
+) -> Result<Box<Exp<C>>, Mem>
+    ensures { IfOk result (λ made. made.value ≡ Exp.Fix members.now e) }
+{
+    let members = copy_members(alloc, members)?;
+    boxed_fix(alloc, members, e)
+}
+
+/// A copy of a call in tail position.
+#[inline(never)]
+pub fn copied_tail_call<C: Drop>(alloc: Global, a: &Application<u32>) -> Result<Box<Exp<C>>, Mem>
+    ensures { IfOk result (λ made. made.value ≡ Exp.TailCall a.now) }
+{
+    let a = copy_application(alloc, a)?;
+    boxed_tail_call(alloc, a)
+}
+
+/// A region that saves a copy of these variables.
+#[inline(never)]
+pub fn copied_save<C: Drop>(
+    alloc: Global,
+    saves: &List<u32>,
+    e: Box<Exp<C>>,
+) -> Result<Box<Exp<C>>, Mem>
+    ensures { IfOk result (λ made. made.value ≡ Exp.Save saves.now e) }
+{
+    let saves = List::from_slice(alloc, saves.as_slice())?;
+    boxed_save(alloc, saves, e)
 }

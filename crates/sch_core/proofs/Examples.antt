@@ -1,5 +1,5 @@
 -- Worked rows of the limits on variables: 1,000 of a body, and the first form that has more.
-use Rattle.std.proofs.Common.{◌≡◌, ℕ, [], ◌∷◌, Option, Some, None, false, refl}
+use Rattle.std.proofs.Common.{◌≡◌, ℕ, [], ◌∷◌, Option, Some, None, true, false, refl}
 use Rattle.sch_word.specs.declared.constant.Const.TheVariants.{Nil}
 use Rattle.sch_lang.specs.Tree.{constant, lambda, no_expressions, and_expression}
 use Rattle.sch_core.specs.declared.error.Kind.{Kind}
@@ -8,6 +8,7 @@ use Rattle.sch_sketch.specs.Draft as draft
 use Rattle.sch_link_tables.specs.Programs.{Definition}
 use Rattle.sch_core.specs.Excess.{first_definition_excess}
 use Rattle.sch_core.specs.Excess.{excess, first_excess}
+use Rattle.sch_core.specs.SmallDefinitions.{is_small}
 
 most_variables : excess 1000 (constant Nil) ≡ None
 most_variables = refl
@@ -29,3 +30,12 @@ constant_of n = record { name = []; formals = n; rest = false; body = draft.cons
 second_definition : ◌≡◌ {A = Option (Kind × ℕ)} (first_definition_excess (3 ∷ 7 ∷ 9 ∷ []) (constant_of 1000 ∷ constant_of 1001 ∷ constant_of 1002 ∷ [])) (Some (Variables, 7))
 unfolding constant_of
 second_definition = refl
+
+-- with the procedure and its body a small definition has 333 nodes and bound variables at most
+most_small : is_small (constant_of 331) ≡ true
+unfolding constant_of
+most_small = refl
+
+one_more_small : is_small (constant_of 332) ≡ false
+unfolding constant_of
+one_more_small = refl

@@ -251,9 +251,9 @@ module _ (own globals symbols own' globals' symbols' : List (List ℕ)) where
         blank_grouped (is_group g es e) s s' _ _ _ _ (alike_each vs es (s + n) l (s' + n) l')
         (alike None e (s + n + length (widths_of_each es)) (l + length (quotes_in_each es)) (s' + n + length (widths_of_each es)) (l' + length (quotes_in_each es)))
     alike v (draft.lambda n r e) s l s' l' = ap (lambda (body_name v) n r) (alike None e s l s' l')
-    alike v (draft.call f es) s l s' l' =
+    alike v (draft.call vs f es) s l s' l' =
         let i = alike None f (s + 1) l (s' + 1) l' in
-        let j = alike_each [] es (s + 1 + length (widths f)) (l + length (quotes_in f)) (s' + 1 + length (widths f)) (l' + length (quotes_in f)) in
+        let j = alike_each vs es (s + 1 + length (widths f)) (l + length (quotes_in f)) (s' + 1 + length (widths f)) (l' + length (quotes_in f)) in
         λ p. call 0 (i p) (j p)
     alike v (draft.operation q es) s l s' l' = ap (operation 0 q) (alike_each [] es (s + 1) l (s' + 1) l')
 

@@ -54,7 +54,7 @@ formals = (tt, omega arith, omega arith)
 too_many_formals : IsSound 0 (lambda 201 false (constant Nil)) → ⊥
 too_many_formals h = absurd (omega (arith, h.1))
 
-too_many_operands : IsSound 0 (call (constant Nil) (many 201)) → ⊥
+too_many_operands : IsSound 0 (call [] (constant Nil) (many 201)) → ⊥
 unfolding many
 too_many_operands h = absurd (omega (arith, h.0))
 
@@ -92,7 +92,7 @@ no_group h = h.1.0
 group_levels : levels (letrec (None ∷ []) true (and_draft (lambda 0 false (constant Nil)) no_drafts) (local 0)) ≡ 3
 group_levels = refl
 
-call_levels : levels (call (local 0) (and_draft (define (codes "x") (constant Nil)) no_drafts)) ≡ 3
+call_levels : levels (call [] (local 0) (and_draft (define (codes "x") (constant Nil)) no_drafts)) ≡ 3
 call_levels = refl
 
 -- ## Sizes
@@ -105,7 +105,7 @@ some_nodes = refl
 quoted : Datum
 quoted = list 0 (cons (atom 1 (symbol_atom (codes "a"))) (cons (atom 3 (text (codes "bc"))) none))
 
-some_statics : statics_in (call (global (codes "f")) (and_draft (literal quoted) (and_draft (symbol (codes "xyz")) no_drafts))) ≡ 13
+some_statics : statics_in (call [] (global (codes "f")) (and_draft (literal quoted) (and_draft (symbol (codes "xyz")) no_drafts))) ≡ 13
 unfolding quoted
 some_statics = refl
 
@@ -174,7 +174,7 @@ first : Definition
 first = record { name = codes "f"; formals = 1; rest = false; body = operation Car (and_draft (local 0) no_drafts) }
 
 second : Definition
-second = record { name = codes "g"; formals = 1; rest = false; body = call (global (codes "f")) (and_draft (local 0) no_drafts) }
+second = record { name = codes "g"; formals = 1; rest = false; body = call [] (global (codes "f")) (and_draft (local 0) no_drafts) }
 
 in_order : AreOrdered [] (first ∷ second ∷ [])
 unfolding first second
@@ -187,8 +187,8 @@ not_in_order h = cc
 -- `(define x (letrec ((h (lambda () (h)))) h))` and `(g x)`, where h is a group, or is assigned
 own_form : Draft → Drafts
 own_form e =
-    and_draft (define (codes "x") (letrec (Some (codes "h") ∷ []) true (and_draft (lambda 0 false (call (local 0) no_drafts)) no_drafts) e))
-    (and_draft (call (global (codes "g")) (and_draft (global (codes "x")) no_drafts)) no_drafts)
+    and_draft (define (codes "x") (letrec (Some (codes "h") ∷ []) true (and_draft (lambda 0 false (call [] (local 0) no_drafts)) no_drafts) e))
+    (and_draft (call [] (global (codes "g")) (and_draft (global (codes "x")) no_drafts)) no_drafts)
 
 names_known : AreKnown (first ∷ second ∷ []) (codes "x" ∷ []) (own_form (local 0))
 unfolding first second own_form

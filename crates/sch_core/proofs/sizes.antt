@@ -4,3 +4,4 @@ pub mod StaticsOfDrafts
 pub mod StaticsOfRows
 pub mod StaticsOfSketches
 pub mod ReadDepths
+pub mod SmallBodies

@@ -6,6 +6,7 @@ pub mod LibraryDefinitions
 pub mod Programs
 pub mod Quotable
 pub mod SizesOfStatics
+pub mod SmallDefinitions
 pub mod SoundDrafts
 pub mod TextForms
 pub mod ValidityLaws

@@ -41,7 +41,7 @@ abbrev mutual
   IsSound bound (letrec vs p es e) =
       (count es ≤ max_operands) × AreProceduresIf p es × AreSound (bound + count es) es × IsSound (bound + count es) e
   IsSound bound (lambda n r e) = HasRest r n × (n ≤ max_operands) × IsSound (bound + n) e
-  IsSound bound (call f es) = (count es ≤ max_operands) × IsSound bound f × AreSound bound es
+  IsSound bound (call vs f es) = (count es ≤ max_operands) × IsSound bound f × AreSound bound es
   IsSound bound (operation p es) = (count es ≡ operands_of p) × AreSound bound es
 
   pub AreSound : (bound : ℕ) → Drafts → Type 0
@@ -63,7 +63,7 @@ abbrev mutual
   levels (bind vs es e) = 1 + max (levels_each es) (levels e)
   levels (letrec vs p es e) = 1 + max (levels_each es) (levels e)
   levels (lambda n r e) = 1 + levels e
-  levels (call f es) = 1 + max (levels f) (levels_each es)
+  levels (call vs f es) = 1 + max (levels f) (levels_each es)
   levels (operation p es) = 1 + levels_each es
 
   pub levels_each : Drafts → ℕ

@@ -18,6 +18,7 @@ use crate::error::{CoreError, Kind, error_of};
 use crate::libraries::Library;
 use crate::limits::excess;
 use crate::quotable::are_quotable;
+use crate::small::is_small;
 use sch_link_drafts::{Numbers, number};
 use sch_link_program::Definition;
 use sch_link_tables::{Output, number_of_32};
@@ -74,10 +75,14 @@ fn definitions<'a>(
     Err(Mem)
 }
 
-/// What the procedure of a definition has too much of. Its globals, symbols, sites and literals are all one.
+/// What the procedure of a definition has too much of. A small one has too much of nothing; any other is numbered to be
+/// counted, where the numbers of globals, symbols, sites and literals are all one.
 fn definition_excess(alloc: Global, d: &Definition<'_>) -> Result<Option<Kind>, Mem>
     ensures { IfOk result (λ kind. kind ≡ definition_excess (definition_of d.now)) }
 {
+    if is_small(d) {
+        return Ok(None);
+    }
     let none = Names::new(alloc);
     let numbers = Numbers {
         own: &none,

@@ -9,6 +9,7 @@ mod libraries;
 mod library_laws;
 mod limits;
 mod quotable;
+mod small;
 mod validity;
 
 pub use definitions::library;

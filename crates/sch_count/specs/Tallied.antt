@@ -3,10 +3,10 @@ use Rattle.std.specs.Prelude.{◌≡◌, ℕ, ◌+◌, ◌-◌, ◌<◌, ◌^◌
 use Rattle.std.specs.List.{list_any, sum_by}
 use Rattle.sch_word.specs.declared.mark.MarkKind.{MarkKind}
 use Rattle.sch_word.specs.declared.mark.MarkKind.TheVariants.{Enter}
-use Rattle.sch_word.specs.runs.Activations.{Activations, activations, none_yet}
+use Rattle.sch_word.specs.runs.Activations.{Activations, activations, none_yet, pass}
 use Rattle.sch_count.specs.declared.tally.Open.{Open}
 use Rattle.sch_count.specs.declared.tally.Tally.{Tally}
-use Rattle.sch_count.specs.ActivationCounts.{is_of, is_call, saves_of, replaced, row_over, unended}
+use Rattle.sch_count.specs.ActivationCounts.{is_of, is_call, saves_of, replaced, replaced_by, row_over, unended}
 
 -- Of an activation that has not ended: its body, which is one of these, its saves, and whether it has called.
 pub record IsOpen (bodies : ℕ) (own : List MarkKind) (o : Open) : Type 0 where
@@ -40,6 +40,11 @@ pub record Tallies (t : Tally) (a : Activations) (over : List (List MarkKind)) :
   pub handed_over : t.handed_over ≡ a.handed_over
   pub handing_over : IsHandedOver a.handed_over a.current
   pub rows : (body : ℕ) → body < length t.rows.items → slice_get t.rows.items body ≡ Some (row_over a.ended (over ++ unended a) body)
+
+-- Where no tail call is just over, the one tally has this mark besides those of the other.
+abbrev pub TalliesNext : MarkKind → (old new : Tally) → Type 0
+TalliesNext m old new = (a : Activations) (over : List (List MarkKind)) → a.handed_over ≡ false → Tallies old a over
+    → Tallies new (pass m a) (over ++ replaced_by m a)
 
 -- how many marks activations have
 abbrev pub marks_in : List (List MarkKind) → ℕ

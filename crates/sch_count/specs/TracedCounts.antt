@@ -3,6 +3,8 @@ use Rattle.std.specs.Prelude.{◌≡◌, ℕ, ◌≤◌, List, [], Option, Some,
 use Rattle.std.specs.List.{flat_map}
 use Rattle.sch_word.specs.declared.answer.Answer.{Answer}
 use Rattle.sch_word.specs.declared.mark.MarkKind.{MarkKind}
+use Rattle.sch_asm.specs.declared.item.Mark.{Mark}
+use Rattle.sch_asm.specs.Stands.{marks_at}
 use Rattle.sch_insn.specs.Step.{Progress, Runs, Exited, Stuck}
 use Rattle.sch_insn.specs.Path.{Traced, traced}
 use Rattle.sch_step.specs.declared.ends.RunEnd.{RunEnd}
@@ -13,7 +15,12 @@ use Rattle.sch_step.specs.Machine.{core_of, standing_of, MachineComes, MachineRu
 use Rattle.sch_count.specs.declared.counts.Counts.{Counts}
 use Rattle.sch_count.specs.declared.error.CountError.{CountError}
 use Rattle.sch_count.specs.declared.error.CountError.TheVariants as count_error
+use Rattle.sch_count.specs.declared.extent.Extent.{Extent}
+use Rattle.sch_count.specs.declared.mark_table.MarkTable.{MarkTable}
+use Rattle.sch_count.specs.declared.tally.Tally.{Tally}
 use Rattle.sch_count.specs.ActivationCounts.{AreRows}
+use Rattle.sch_count.specs.MarkTables.{table_marks}
+use Rattle.sch_count.specs.Tallied.{TalliesMarks}
 
 -- At most n steps from where a machine stands. One that has ended begins no instruction.
 abbrev pub traced_from : ℕ → Progress → Traced
@@ -50,6 +57,14 @@ Follows n marks_at are_counted (Err count_error.Memory) old new = λ bytes answe
 abbrev pub AreCounted : (bodies : ℕ) → Result Counts CountError → List MarkKind → Type 0
 AreCounted bodies (Ok counts) marks = AreRows bodies marks counts.rows
 AreCounted bodies (Err error) marks = Unit {0}
+
+-- A tally is followed by the marks of a table, until the machine ends so.
+abbrev pub TalliesTo : (steps : ℕ) → MarkTable → Tally → Result ℕ CountError → Machine → Machine → (List ℕ → List Answer → List ℕ → List Answer → Type 0)
+TalliesTo steps table tally result old new = Follows steps (table_marks table) (TalliesMarks tally) result old new
+
+-- A count of these marks comes to this in the steps of an extent.
+abbrev pub CountsTo : Extent → List Mark → Result Counts CountError → Machine → Machine → (List ℕ → List Answer → List ℕ → List Answer → Type 0)
+CountsTo extent marks result old new = Follows extent.steps (marks_at marks) (AreCounted extent.bodies result) (status_of result) old new
 
 -- the machine has not ended
 abbrev pub RunsOn : Machine → Type 0

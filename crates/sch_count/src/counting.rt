@@ -3,16 +3,16 @@
 ghost use Rattle.std.specs.Prelude.{◌≡◌, ℕ, List, [], Some, All, IfSome, length};
 ghost use Rattle.sch_word.specs.declared.answer.Answer.{Answer};
 ghost use Rattle.sch_word.specs.declared.mark.MarkKind.{MarkKind};
-ghost use Rattle.sch_asm.specs.Stands.{marks_at};
 ghost use Rattle.sch_step.specs.Machine.{core_of, left_by_run, standing_of};
 ghost use Rattle.sch_step.specs.Run.{Does, IsRunAt};
 ghost use Rattle.sch_count.specs.ActivationCounts.{AreRows};
-ghost use Rattle.sch_count.specs.MarkTables.{AreKnown, table_marks};
+ghost use Rattle.sch_count.specs.MarkTables.{AreKnown};
 ghost use Rattle.sch_count.specs.Tallied.{IsKnown, TalliesMarks};
-ghost use Rattle.sch_count.specs.TracedCounts.{AreCounted, Follows, RunsOn, run_end_of, status_of};
+ghost use Rattle.sch_count.specs.TracedCounts.{CountsTo, RunsOn, TalliesTo, run_end_of, status_of};
 
 use crate::counts::Counts;
 use crate::error::CountError;
+use crate::extent::Extent;
 use crate::mark_table::MarkTable;
 use crate::tally::Tally;
 use sch_asm::Mark;
@@ -60,7 +60,7 @@ impl Tally {
         ensures rows { length self.new.rows.items ≡ length self.old.rows.items }
         ensures at { IfSome (run_end_of result) (λ end. IsRunAt end (core_of m.new).place) }
         ensures stands { IfSome (run_end_of result) (λ end. (bytes : List ℕ) (answers : List Answer) → standing_of m.new bytes answers ≡ left_by_run end (core_of m.new) bytes answers) }
-        ensures did { Does (Follows steps (table_marks table.now) (TalliesMarks self.new) result m.old m.new) (O.bytes out.old) (O.bytes out.new) (O.left out.old) (O.left out.new) (O.faults out.old) (O.faults out.new) }
+        ensures did { Does (TalliesTo steps table.now self.new result m.old m.new) (O.bytes out.old) (O.bytes out.new) (O.left out.old) (O.left out.new) (O.faults out.old) (O.faults out.new) }
     {
         for i in 0..steps {
             let address = m.at();
@@ -76,29 +76,28 @@ impl Tally {
     }
 }
 
-/// Counts the activations of each of this many bodies in at most this number of steps, until the machine exits. The
-/// marks of an address are passed as its instruction begins. After an error the machine and the outlet are as the
-/// steps that were done have left them.
+/// Counts the activations of each body in the steps of this extent, until the machine exits. The marks of an address
+/// are passed as its instruction begins. After an error the machine and the outlet are as the steps that were done have
+/// left them.
 pub fn count<O: Outlet>(
     alloc: Global,
     m: &mut Machine,
     out: &mut O,
     marks: &[Mark],
-    bodies: u32,
-    steps: u64,
+    extent: Extent,
 ) -> Result<Counts, CountError>
-    requires { All (λ mark. IsKnown bodies mark.kind) marks.now }
+    requires { All (λ mark. IsKnown extent.bodies mark.kind) marks.now }
     ensures at { IfSome (run_end_of (status_of result)) (λ end. IsRunAt end (core_of m.new).place) }
     ensures stands { IfSome (run_end_of (status_of result)) (λ end. (bytes : List ℕ) (answers : List Answer) → standing_of m.new bytes answers ≡ left_by_run end (core_of m.new) bytes answers) }
-    ensures did { Does (Follows steps (marks_at marks.now) (AreCounted bodies result) (status_of result) m.old m.new) (O.bytes out.old) (O.bytes out.new) (O.left out.old) (O.left out.new) (O.faults out.old) (O.faults out.new) }
+    ensures did { Does (CountsTo extent marks.now result m.old m.new) (O.bytes out.old) (O.bytes out.new) (O.left out.old) (O.left out.new) (O.faults out.old) (O.faults out.new) }
 {
     let table = MarkTable::new(alloc, marks)?;
-    let mut tally = Tally::new(alloc, bodies)?;
+    let mut tally = Tally::new(alloc, extent.bodies)?;
     match run(m, out, 0) {
         RunEnd::Spent => {}
         RunEnd::Exited(status) => return Ok(tally.into_counts(status)),
         RunEnd::Stuck(stuck) => return Err(CountError::Stuck(stuck)),
     }
-    let status = tally.follow(&table, m, out, steps)?;
+    let status = tally.follow(&table, m, out, extent.steps)?;
     Ok(tally.into_counts(status))
 }

@@ -4,6 +4,7 @@
 mod counting;
 mod counts;
 mod error;
+mod extent;
 mod mark_table;
 mod row;
 mod tally;
@@ -12,5 +13,6 @@ mod text;
 pub use counting::count;
 pub use counts::Counts;
 pub use error::CountError;
+pub use extent::Extent;
 pub use row::Row;
 pub use text::print_counts;

@@ -5,7 +5,7 @@ ghost use Rattle.sch_word.specs.declared.mark.MarkKind.{MarkKind};
 ghost use Rattle.sch_word.specs.declared.mark.MarkKind.TheVariants.{Enter, Call, Save};
 ghost use Rattle.sch_word.specs.runs.Activations.{Activations, is_enter, pass, resumed, settled, with_mark};
 ghost use Rattle.sch_count.specs.ActivationCounts.{is_call, is_save, replaced_by};
-ghost use Rattle.sch_count.specs.Tallied.{HasRoom, HasRoomFor, IsKnown, Tallies, TalliesMarks};
+ghost use Rattle.sch_count.specs.Tallied.{HasRoom, HasRoomFor, IsKnown, Tallies, TalliesMarks, TalliesNext};
 
 use crate::row::Row;
 use sch_word::{List, MarkKind, Mem};
@@ -78,7 +78,7 @@ impl Tally {
     fn enter(&mut self, body: u32)
         requires known { body < length self.old.rows.items }
         requires room { HasRoom self.old }
-        ensures tallies { (a : Activations) (over : List (List MarkKind)) → a.handed_over ≡ false → Tallies self.old a over → Tallies self.new (pass (Enter body) a) (over ++ replaced_by (Enter body) a) }
+        ensures tallies { TalliesNext (Enter body) self.old self.new }
         ensures rows { length self.new.rows.items ≡ length self.old.rows.items }
     {
         let row = self.rows[body as usize];

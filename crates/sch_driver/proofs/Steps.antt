@@ -11,7 +11,7 @@ use Rattle.sch_insn.proofs.OutputGrows.{stays}
 use Rattle.sch_select.specs.Ends.{EndsWithin}
 use Rattle.sch_driver.specs.Assembled.{steps_of}
 
-exit_stays : (m n : ℕ) (s : State) (r : ℕ × List ℕ) → m ≤ n → exit_of (mach m s) ≡ Some r → exit_of (mach n s) ≡ Some r
+pub exit_stays : (m n : ℕ) (s : State) (r : ℕ × List ℕ) → m ≤ n → exit_of (mach m s) ≡ Some r → exit_of (mach n s) ≡ Some r
 exit_stays m n s r le = by (mach m s) refl
   where
     by : (o : Progress) → mach m s ≡ o → exit_of o ≡ Some r → exit_of (mach n s) ≡ Some r

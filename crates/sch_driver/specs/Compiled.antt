@@ -1,5 +1,5 @@
 -- What is compiled of a text.
-use Rattle.std.specs.Prelude.{◌≡◌, ◌<◌, ◌≤◌, ◌+◌, ◌^◌, IsTrue, ℕ, List, [], length, map}
+use Rattle.std.specs.Prelude.{◌≡◌, ◌<◌, ◌≤◌, ◌+◌, ◌^◌, IsTrue, ℕ, List, length, map}
 use Rattle.std.specs.List.{flat_map}
 use Rattle.sch_word.specs.runs.ProgramLayout.{data_address, text_address}
 use Rattle.sch_insn.specs.Spelling.{spelling}
@@ -11,8 +11,8 @@ use Rattle.sch_lang.specs.Tree as tree
 use Rattle.sch_control.specs.Tree as control
 use Rattle.sch_frames.specs.Standing.{all_marks_stand}
 use Rattle.sch_frames.specs.Valid.{max_words}
-use Rattle.sch_registers.specs.Registers.{registers_code, registers_words}
-use Rattle.sch_control.specs.OrderTable.{given_table}
+use Rattle.sch_registers.specs.MadeFrom.{AreMadeFrom}
+use Rattle.sch_registers.specs.Registers.{all_calls, registers_code, registers_orders, registers_words}
 use Rattle.sch_select_data.specs.Data.{heap_of}
 use Rattle.sch_select.specs.Ends.{EndsWithin}
 use Rattle.sch_select.specs.Program.{frames_bytes, max_stack, stack_bytes}
@@ -24,21 +24,24 @@ use Rattle.sch_driver.specs.Framed.{IsMarked, framed, framed_size}
 use Rattle.sch_listing.specs.declared.listing.Listing.{Listing}
 use Rattle.sch_driver.specs.Headline.{IsProgram}
 use Rattle.sch_driver.specs.LazySaves.{SavesLazily}
+use Rattle.sch_driver.specs.ListedCycles.{listed_cycles}
 use Rattle.sch_driver.specs.StoreMarks.{StoresMarked}
 
--- What is listed is of one control program that fits the core program: the orders are those given for it, and of its
--- bodies, laid out by registers, are the words of the largest frame and the marks, in their order, each of which stands at
--- an instruction of its kind. A number of 32 bits counts the bodies. No values go round as operands are moved, since each
--- operand is first put into a slot of its own.
+-- What is listed is of one control program that fits the core program. At the site of each call the order has what is bound, and
+-- then the other parts in the order in which they are moved, and at each other site the one given for it; the cycles are those
+-- of the moves of its calls. Of its bodies, laid out by registers, are the words of the largest frame and the marks, in their
+-- order, each of which stands at an instruction of its kind. Each body that is laid out is made from its own: this speaks of paths,
+-- places and moves, and not of the passes. A number of 32 bits counts the bodies.
 pub record AreListed (p : tree.Source) (listing : Listing) : Type 0 where
   pub program : control.Source
   pub fits_program : FitsProgram p program
-  pub given : listing.orders ≡ given_table program
-  pub cycles : listing.cycles ≡ []
+  pub orders : listing.orders ≡ registers_orders program
+  pub cycles : listing.cycles ≡ listed_cycles (all_calls program.bodies)
   pub words : listing.frame_words ≡ registers_words program.bodies
   pub few : length program.bodies < 2 ^ 32
   pub marks : map (λ m. m.kind) listing.marks ≡ kinds_of 0 (map registers_code program.bodies)
   pub stand : IsTrue (all_marks_stand (map registers_code program.bodies))
+  pub made : AreMadeFrom program.bodies (map registers_code program.bodies)
 
 -- The file is a program for the core program of a text with a library's, under these limits and the orders that are
 -- listed, with bodies of the names that are listed and as many instructions. Its text is as long as that of the control

@@ -1,4 +1,5 @@
 pub mod Assembled
+pub mod Bounds
 pub mod Causes
 pub mod Compiled
 pub mod FitsProgram
@@ -6,5 +7,6 @@ pub mod FitsUnder
 pub mod Framed
 pub mod Headline
 pub mod LazySaves
+pub mod ListedCycles
 pub mod PartErrors
 pub mod StoreMarks

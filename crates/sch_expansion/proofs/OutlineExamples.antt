@@ -41,16 +41,16 @@ car_row : outline_datum plain [] (named 1 car (cons (number 5) none)) ≡ node (
 unfolding plain named car number keyword_of operation_of
 car_row = refl
 
-own_car_row : outline_datum assigned [] (named 1 car (cons (number 5) none)) ≡ node calling 1 (two (text (atom 2 (symbol car))) (text (number 5)))
+own_car_row : outline_datum assigned [] (named 1 car (cons (number 5) none)) ≡ node (calling []) 1 (two (text (atom 2 (symbol car))) (text (number 5)))
 unfolding assigned named car number keyword_of
 own_car_row = refl
 
-local_car_row : outline_datum plain (Some car ∷ []) (named 1 car (cons (number 5) none)) ≡ node calling 1 (two (text (atom 2 (symbol car))) (text (number 5)))
+local_car_row : outline_datum plain (Some car ∷ []) (named 1 car (cons (number 5) none)) ≡ node (calling []) 1 (two (text (atom 2 (symbol car))) (text (number 5)))
 unfolding plain named car number
 local_car_row = refl
 
 -- with another number of operands it is a call
-car_of_none_row : outline_datum plain [] (named 1 car none) ≡ node calling 1 (one (text (atom 2 (symbol car))))
+car_of_none_row : outline_datum plain [] (named 1 car none) ≡ node (calling []) 1 (one (text (atom 2 (symbol car))))
 unfolding plain named car keyword_of operation_of
 car_of_none_row = refl
 
@@ -58,11 +58,11 @@ car_of_none_row = refl
 operator : ℕ → List ℕ → Datum
 operator at x = atom at (symbol x)
 
-minus_row : outline_datum plain [] (named 1 (codes "-") none) ≡ node calling 1 (one (text (operator 2 (codes "-"))))
+minus_row : outline_datum plain [] (named 1 (codes "-") none) ≡ node (calling []) 1 (one (text (operator 2 (codes "-"))))
 unfolding plain named operator keyword_of operation_of
 minus_row = refl
 
-compared_row : outline_datum plain [] (named 1 (codes "<") (cons (number 5) none)) ≡ node calling 1 (two (text (operator 2 (codes "<"))) (text (number 5)))
+compared_row : outline_datum plain [] (named 1 (codes "<") (cons (number 5) none)) ≡ node (calling []) 1 (two (text (operator 2 (codes "<"))) (text (number 5)))
 unfolding plain named number operator keyword_of operation_of
 compared_row = refl
 
@@ -76,7 +76,7 @@ unfolding plain named number keyword_of operation_of
 negative_row = refl
 
 -- `(display 5)` is a call: the name is that of no operation
-display_row : outline_datum plain [] (named 1 (codes "display") (cons (number 5) none)) ≡ node calling 1 (two (text (operator 2 (codes "display"))) (text (number 5)))
+display_row : outline_datum plain [] (named 1 (codes "display") (cons (number 5) none)) ≡ node (calling []) 1 (two (text (operator 2 (codes "display"))) (text (number 5)))
 unfolding plain named number operator car keyword_of operation_of
 display_row = refl
 
@@ -86,13 +86,13 @@ unfolding library named number keyword_of operation_of
 put_row = refl
 
 outside_put_row : outline_datum plain [] (named 1 (codes "%put") (cons (number 5) none)) ≡
-    node calling 1 (two (text (atom 2 (symbol (codes "%put")))) (text (number 5)))
+    node (calling []) 1 (two (text (atom 2 (symbol (codes "%put")))) (text (number 5)))
 unfolding plain named number keyword_of operation_of
 outside_put_row = refl
 
 -- a local `if` is called
 local_if_row : outline_datum plain (Some (codes "if") ∷ []) (named 1 (codes "if") (cons (number 5) none)) ≡
-    node calling 1 (two (text (atom 2 (symbol (codes "if")))) (text (number 5)))
+    node (calling []) 1 (two (text (atom 2 (symbol (codes "if")))) (text (number 5)))
 unfolding plain named number
 local_if_row = refl
 
@@ -117,7 +117,7 @@ keyword_row : outline_datum plain [] (atom 3 (symbol (codes "if"))) ≡ wrong (B
 unfolding plain keyword_of
 keyword_row = refl
 
-number_called_row : outline_datum plain [] (list 1 (cons (number 5) none)) ≡ node calling 1 (one (text (number 5)))
+number_called_row : outline_datum plain [] (list 1 (cons (number 5) none)) ≡ node (calling []) 1 (one (text (number 5)))
 unfolding plain number
 number_called_row = refl
 

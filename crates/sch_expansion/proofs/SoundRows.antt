@@ -1,5 +1,5 @@
 -- Each row of the table makes a sound sketch.
-use Rattle.std.proofs.Common.{◌≡◌, ℕ, Bool, true, false, List, Option, Some, None, refl, arith}
+use Rattle.std.proofs.Common.{◌≡◌, ℕ, Bool, true, false, List, [], Option, Some, None, refl, arith}
 use Rattle.sch_read.specs.Grammar.{Datum, Data, atom, list, dotted, vector, none, cons, boolean, integer, character, symbol}
 use Rattle.sch_read.specs.Grammar as grammar
 use Rattle.sch_read.specs.Parts.{how_many}
@@ -30,7 +30,7 @@ name_sound s None None true at x e = tt
 name_sound s None None false at x e = tt
 
 call_sound : (s : Scope) (at : ℕ) (f : Datum) (xs : Data) → IsSound s (call_of at f xs)
-call_sound s at f xs = (omega arith, (tt, (tt, texts_sound calling false s xs no_sketch (λ b. tt))))
+call_sound s at f xs = (omega arith, (tt, (tt, texts_sound (calling []) false s xs no_sketch (λ b. tt))))
 
 module _ (globals : Globals) where
   head_sound : (s : Scope) (x : List ℕ) (h : Head) (at q : ℕ) (xs : Data) → head_of globals s x (how_many xs) ≡ h → IsSound s (outline_head h at (atom q (symbol x)) xs)

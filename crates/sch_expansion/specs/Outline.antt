@@ -1,5 +1,5 @@
 -- The table of forms (R5RS 4, 5.2.2 and 7.3): which sketch stands for a datum, and for the rest of a form.
-use Rattle.std.specs.Prelude.{ℕ, Bool, true, false, List, Option, Some, None}
+use Rattle.std.specs.Prelude.{ℕ, Bool, true, false, List, [], Option, Some, None}
 use Rattle.sch_read.specs.Grammar.{Datum, Data, atom, list, dotted, vector, none, cons, symbol}
 use Rattle.sch_read.specs.Parts.{how_many}
 use Rattle.sch_names.specs.declared.keyword.Keyword.{Keyword}
@@ -62,7 +62,7 @@ outline_name None None false at x = wrong (Unbound at x)
 
 -- a call, by its operator and its operands; that of `apply` is to be told from the others here
 abbrev pub call_of : ℕ → Datum → Data → Sketch
-call_of at f xs = node calling at (and_sketch (text f) (texts xs no_sketch))
+call_of at f xs = node (calling []) at (and_sketch (text f) (texts xs no_sketch))
 
 -- a combination, by its head
 abbrev pub outline_head : Head → (at : ℕ) → Datum → Data → Sketch

@@ -39,7 +39,7 @@ pub fn width(kind: &Kind<'_>, parts: usize) -> usize
         Kind::Let(_) => parts.saturating_sub(1),
         Kind::Letrec(_, _) => parts.saturating_sub(1),
         Kind::Lambda(names, _) => names.len(),
-        Kind::Call => parts.saturating_sub(1),
+        Kind::Call(_) => parts.saturating_sub(1),
         Kind::Prim(_) => parts,
         _ => 0,
     }
@@ -124,10 +124,10 @@ pub fn assemble<'a>(
         Kind::If => assemble_if(alloc, drafts),
         Kind::Seq => Ok(Draft::Seq(drafts)),
         Kind::Prim(p) => Ok(Draft::Prim(p, drafts)),
-        Kind::Call => {
+        Kind::Call(names) => {
             let (f, operands) = split_first(drafts);
             let f = Box::new(alloc, f)?;
-            Ok(Draft::Call(f, operands))
+            Ok(Draft::Call(names, f, operands))
         }
         Kind::Let(names) => {
             let mut inits = drafts;

@@ -22,7 +22,7 @@ use sch_form_choices::{
 use sch_names::{Globals, Head, Keyword, Scope, head_of, keyword_of};
 use sch_read::Datum;
 use sch_sketch::{
-    Kind, Leaf, Position, Row, Sketch, Wrong, alone, and_texts, bad, local, quoted, text,
+    Leaf, Position, Row, Sketch, Wrong, alone, and_texts, bad, local, plain_call, quoted, text,
 };
 use sch_word::Mem;
 use std::alloc::Global;
@@ -58,7 +58,7 @@ fn call<'a>(
 ) -> Result<Sketch<'a>, Mem>
     ensures { IfOk result (λ k. sketch_of k ≡ table.call_of at (tree_of operator.now) (data_of items.now)) }
 {
-    let made = and_texts(alloc, Kind::Call, at, text(operator), items)?;
+    let made = and_texts(alloc, plain_call(alloc), at, text(operator), items)?;
     Ok(made)
 }
 

@@ -79,7 +79,7 @@ letrec_of_lambda_row = refl
 
 -- `(let x ((y 5)) 9)` is `((letrec ((x (lambda (y) 9))) x) 5)`
 named_row : row_let [] 1 (cons (named 2 x) (cons (list 3 (cons (list 4 (cons (named 4 y) (cons (number 5) none))) none)) (cons (number 9) none))) ≡
-    node calling 1 (two (node (recurring (Some x ∷ []) true) 1
+    node (calling (Some y ∷ [])) 1 (two (node (recurring (Some x ∷ []) true) 1
     (two (node (abstracting (Some y ∷ []) false) 1 (one (rest Body 1 (cons (number 9) none) none))) (leaf 1 (local 0)))) (text (number 5)))
 unfolding named number x y
 named_row = refl

@@ -27,26 +27,26 @@ binding_of n v = list n (cons (named n v) (cons (number n) none))
 -- `(do ((x 5 7) (y 6)) (8) 9)`: x becomes 7 and y stays
 do_row : row_do 1 (cons (list 2 (cons (list 3 (cons (named 4 x) (cons (number 5) (cons (number 7) none)))) (cons (list 5 (cons (named 6 y) (cons (number 6) none))) none)))
     (cons (list 8 (cons (number 8) none)) (cons (number 9) none))) ≡
-    node calling 1 (three (node (recurring (None ∷ []) true) 1
+    node (calling (Some x ∷ Some y ∷ [])) 1 (three (node (recurring (None ∷ []) true) 1
     (two (node (abstracting (Some x ∷ Some y ∷ []) false) 1 (one (node choosing 1 (three (text (number 8)) (leaf 1 nothing)
-    (node sequencing 1 (two (text (number 9)) (node calling 1 (three (leaf 1 (local 2)) (text (number 7)) (leaf 1 (local 0))))))))))
+    (node sequencing 1 (two (text (number 9)) (node (calling []) 1 (three (leaf 1 (local 2)) (text (number 7)) (leaf 1 (local 0))))))))))
     (leaf 1 (local 0)))) (text (number 5)) (text (number 6)))
 unfolding named number x y
 do_row = refl
 
 -- `(do ((x 5)) (8))` has no commands: x is passed on, and the value is unspecified
 idle_row : row_do 1 (cons (list 2 (cons (binding_of 5 x) none)) (cons (list 8 (cons (number 8) none)) none)) ≡
-    node calling 1 (two (node (recurring (None ∷ []) true) 1
+    node (calling (Some x ∷ [])) 1 (two (node (recurring (None ∷ []) true) 1
     (two (node (abstracting (Some x ∷ []) false) 1 (one (node choosing 1 (three (text (number 8)) (leaf 1 nothing)
-    (node calling 1 (two (leaf 1 (local 1)) (leaf 1 (local 0)))))))) (leaf 1 (local 0)))) (text (number 5)))
+    (node (calling []) 1 (two (leaf 1 (local 1)) (leaf 1 (local 0)))))))) (leaf 1 (local 0)))) (text (number 5)))
 unfolding binding_of named number x
 idle_row = refl
 
 -- `(do ((x 5)) (8 9))` ends with 9
 result_row : row_do 1 (cons (list 2 (cons (binding_of 5 x) none)) (cons (list 8 (cons (number 8) (cons (number 9) none))) none)) ≡
-    node calling 1 (two (node (recurring (None ∷ []) true) 1
+    node (calling (Some x ∷ [])) 1 (two (node (recurring (None ∷ []) true) 1
     (two (node (abstracting (Some x ∷ []) false) 1 (one (node choosing 1 (three (text (number 8)) (rest (Form Begin) 1 (cons (number 9) none) none)
-    (node calling 1 (two (leaf 1 (local 1)) (leaf 1 (local 0)))))))) (leaf 1 (local 0)))) (text (number 5)))
+    (node (calling []) 1 (two (leaf 1 (local 1)) (leaf 1 (local 0)))))))) (leaf 1 (local 0)))) (text (number 5)))
 unfolding binding_of named number x
 result_row = refl
 

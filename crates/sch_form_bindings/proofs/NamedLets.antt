@@ -15,6 +15,6 @@ pub looping_made : (at : ℕ) (f : Bor (List ℕ)) (vs : Names) (es : Data) (own
     r ≡ rest Body at es none → p ≡ node (abstracting vs false) at (one r) → q ≡ leaf at (local 0) → k ≡ node (recurring (given_names own) true) at (two p q) → k ≡ looping at f.now vs es
 looping_made at f vs es own own0 k p q r z o e g h m = m ∙ rw (o, z, g, e, h) refl
 
-pub named_made : (s : Scope) (at : ℕ) (f : List ℕ) {xs es bs : Data} {b : Datum} {q : ℕ} {vs : Names} {k p : Sketch} → xs ≡ cons b es → b ≡ list q bs →
-    is_binding_form (Some f ∷ s) bs es ≡ true → vs ≡ bound bs → p ≡ looping at f vs es → k ≡ node calling at (and_sketch p (inits bs no_sketch)) → k ≡ row_named s at f xs
-named_made s at f {xs} {es} {bs} {b} {q} e h t v o m = m ∙ rw (o, v, e ∙ ap (λ d. cons d es) h, t) refl
+pub named_made : (s : Scope) (at : ℕ) (f : List ℕ) {xs es bs : Data} {b : Datum} {q : ℕ} {vs ws : Names} {k p : Sketch} → xs ≡ cons b es → b ≡ list q bs →
+    is_binding_form (Some f ∷ s) bs es ≡ true → vs ≡ bound bs → ws ≡ vs → p ≡ looping at f vs es → k ≡ node (calling ws) at (and_sketch p (inits bs no_sketch)) → k ≡ row_named s at f xs
+named_made s at f {xs} {es} {bs} {b} {q} e h t v w o m = m ∙ rw (o, w, v, e ∙ ap (λ d. cons d es) h, t) refl

@@ -39,7 +39,7 @@ all_in k first s (and_sketch p ps) h = (h.0 _, all_in k false s ps h.1)
 
 named_sound : (s : Scope) (at : ℕ) (f : List ℕ) (xs : Data) → IsSound s (row_named s at f xs)
 named_sound s at f (cons (list q bs) es) =
-    choice s (is_binding_form (Some f ∷ s) bs es) _ _ (call_sound s at (looping at f (bound bs) es) (inits bs no_sketch) (looping_sound s at f (bound bs) es) (all_in calling false s (inits bs no_sketch) (inits_all bs))) tt
+    choice s (is_binding_form (Some f ∷ s) bs es) _ _ (call_sound (bound bs) s at (looping at f (bound bs) es) (inits bs no_sketch) (looping_sound s at f (bound bs) es) (all_in (calling (bound bs)) false s (inits bs no_sketch) (inits_all bs))) tt
 named_sound s at f _ = tt
 
 let_form_sound : (s : Scope) (at : ℕ) (bs es : Data) → IsSound s (node (binding (bound bs)) at (inits bs (body at es)))

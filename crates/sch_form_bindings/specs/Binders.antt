@@ -23,7 +23,7 @@ looping at f vs es = node (recurring (Some f ∷ []) true) at (two (node (abstra
 
 abbrev pub row_named : Scope → ℕ → List ℕ → Data → Sketch
 row_named s at f (cons (list q bs) es) =
-    cond (is_binding_form (Some f ∷ s) bs es) (node calling at (and_sketch (looping at f (bound bs) es) (inits bs no_sketch)))
+    cond (is_binding_form (Some f ∷ s) bs es) (node (calling (bound bs)) at (and_sketch (looping at f (bound bs) es) (inits bs no_sketch)))
     (wrong (BadForm at))
 row_named s at f _ = wrong (BadForm at)
 

@@ -49,7 +49,7 @@ steps at _ ks = ks
 
 -- it is called again with the steps
 abbrev pub again : ℕ → Data → Sketch
-again at bs = node calling at (and_sketch (leaf at (local (how_many bs))) (steps at bs no_sketch))
+again at bs = node (calling []) at (and_sketch (leaf at (local (how_many bs))) (steps at bs no_sketch))
 
 abbrev pub next_round : ℕ → Data → Data → Sketch
 next_round at bs none = again at bs
@@ -71,7 +71,7 @@ are_rounds bs = are_steps bs && are_distinct (stepped bs)
 
 abbrev pub do_form : ℕ → Data → Datum → Data → Data → Sketch
 do_form at bs a rs es =
-    cond (are_rounds bs) (node calling at (and_sketch (rounds at bs a rs es) (starts bs no_sketch)))
+    cond (are_rounds bs) (node (calling (stepped bs)) at (and_sketch (rounds at bs a rs es) (starts bs no_sketch)))
     (wrong (BadForm at))
 
 abbrev pub row_do : ℕ → Data → Sketch

@@ -123,7 +123,8 @@ fn inits_and<'a>(
     Ok(made)
 }
 
-/// A `let` with a name: `(let f ((v i) ..) e ..)` -> `((letrec ((f (lambda (v ..) e ..))) f) i ..)`.
+/// A `let` with a name: `(let f ((v i) ..) e ..)` -> `((letrec ((f (lambda (v ..) e ..))) f) i ..)`, where each `i` is
+/// the init of its `v`.
 fn row_named<'a>(
     alloc: Global,
     scope: &mut Scope,
@@ -143,8 +144,9 @@ fn row_named<'a>(
     let Some(names) = binding_form_inside(alloc, scope, f, bound, body)? else {
         return Ok(bad(at));
     };
+    let variables = List::from_slice(alloc, names.as_slice())?;
     let operator = looping(alloc, at, f, names, body)?;
-    let made = and_inits(alloc, Kind::Call, at, operator, bound)?;
+    let made = and_inits(alloc, Kind::Call(variables), at, operator, bound)?;
     Ok(made)
 }
 

@@ -16,8 +16,8 @@ ghost use Rattle.sch_form_bindings.specs.Loops.{IsNoStart};
 use sch_names::{Keyword, Name};
 use sch_read::Datum;
 use sch_sketch::{
-    Kind, Row, Sketch, alone, are_distinct, bad, choice, local, node, one, text, texts_and, two,
-    unspecified,
+    Kind, Row, Sketch, alone, are_distinct, bad, choice, local, node, one, plain_call, text,
+    texts_and, two, unspecified,
 };
 use sch_word::{List, Mem};
 use std::alloc::Global;
@@ -138,7 +138,7 @@ fn again<'a>(alloc: Global, at: u32, bindings: &'a [Datum]) -> Result<Sketch<'a>
     let operator = variable(at, Datum::count(bindings))?;
     parts.push(operator)?;
     add_steps(at, &mut parts, bindings)?;
-    Ok(node(Kind::Call, at, parts))
+    Ok(node(plain_call(alloc), at, parts))
 }
 
 /// What is done where the test is false.
@@ -205,11 +205,12 @@ fn do_form<'a>(alloc: Global, at: u32, parts: &Parts<'a>) -> Result<Sketch<'a>, 
     let Some(names) = loop_names(alloc, parts.bindings)? else {
         return Ok(bad(at));
     };
+    let variables = List::from_slice(alloc, names.as_slice())?;
     let operator = rounds(alloc, at, names, parts)?;
     let mut all = List::new(alloc);
     all.push(operator)?;
     add_starts(&mut all, parts.bindings)?;
-    Ok(node(Kind::Call, at, all))
+    Ok(node(Kind::Call(variables), at, all))
 }
 
 /// `(do ((v i s) ..) (a r ..) e ..)`.

@@ -185,7 +185,7 @@ arrow = atom 6 (symbol_atom (codes "=>"))
 
 receiving_row : row_clauses [] Value 1 (cons (list 4 (cons (number 5) (cons arrow (cons (name 8) none)))) none) ≡
     node (binding (None ∷ [])) 1 (two (text (number 5))
-    (node choosing 1 (three (leaf 1 (local 0)) (node calling 1 (two (text (name 8)) (leaf 1 (local 0)))) (rest Clauses 1 none none))))
+    (node choosing 1 (three (leaf 1 (local 0)) (node (calling []) 1 (two (text (name 8)) (leaf 1 (local 0)))) (rest Clauses 1 none none))))
 unfolding arrow name number keyword_of
 receiving_row = refl
 

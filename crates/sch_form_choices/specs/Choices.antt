@@ -1,7 +1,7 @@
 -- The rows of choices (R5RS 4.1.5 and 4.2.1), of quotations and of sequences (R5RS 4.1.2 and 4.2.3). A
 -- chain stands at the form for its first element, and from then on at the element with which the rest
 -- begins.
-use Rattle.std.specs.Prelude.{ℕ, Bool, true, false, cond, ◌&&◌, not, Option, Some, None}
+use Rattle.std.specs.Prelude.{ℕ, Bool, true, false, cond, ◌&&◌, not, [], Option, Some, None}
 use Rattle.sch_read.specs.Grammar.{Datum, Data, list, none, cons}
 use Rattle.sch_read.specs.Parts.{offset}
 use Rattle.sch_names.specs.declared.keyword.Keyword.{Keyword}
@@ -89,7 +89,7 @@ receiver s _ = None
 abbrev pub receiving : ℕ → Datum → Datum → Data → Sketch
 receiving at a f cs =
     node (binding fresh) at (two (text a)
-    (node choosing at (three (leaf at (local 0)) (node calling at (two (text f) (leaf at (local 0)))) (remaining at cs))))
+    (node choosing at (three (leaf at (local 0)) (node (calling []) at (two (text f) (leaf at (local 0)))) (remaining at cs))))
 
 abbrev pub other_clause : Position → ℕ → Datum → Option Datum → Data → Data → Sketch
 other_clause t at a (Some f) es cs = receiving at a f cs

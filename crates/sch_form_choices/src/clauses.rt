@@ -9,8 +9,8 @@ ghost use Rattle.sch_sketch.specs.SketchView.{sketch_of};
 use sch_names::{Keyword, Scope};
 use sch_read::Datum;
 use sch_sketch::{
-    Kind, Position, Row, Sketch, alone, bad, bind_fresh, choice, either_of, local, place_of, text,
-    two, unspecified, word,
+    Position, Row, Sketch, alone, bad, bind_fresh, choice, either_of, local, place_of, plain_call,
+    text, two, unspecified, word,
 };
 use sch_word::Mem;
 use std::alloc::Global;
@@ -133,7 +133,7 @@ fn receiving<'a>(
 ) -> Result<Sketch<'a>, Mem>
     ensures { IfOk result (λ k. sketch_of k ≡ table.receiving at (tree_of a.now) (tree_of f.now) (data_of items.now)) }
 {
-    let call = two(alloc, Kind::Call, at, text(f), local(at, 0))?;
+    let call = two(alloc, plain_call(alloc), at, text(f), local(at, 0))?;
     let inner = choice(alloc, at, local(at, 0), call, remaining(at, items))?;
     let made = bind_fresh(alloc, at, text(a), inner)?;
     Ok(made)

@@ -1,8 +1,10 @@
 -- The moves of a call do no more than bring each argument into its place, by way of another at most.
-use Rattle.std.proofs.Common.{◌≡◌, ℕ, zero, suc, ◌+◌, ◌*◌, ◌≤◌, List, [], ◌∷◌, ◌++◌, length, Option, Some, None, Bool, true, false, cond, refl, sym, ap, subst, arith}
+use Rattle.std.proofs.Common.{◌≡◌, ℕ, suc, ◌+◌, ◌*◌, ◌≤◌, List, [], ◌∷◌, ◌++◌, length, map, Option, Some, None, Bool, true, false, cond, refl, sym, ap, ◌∙◌, subst, arith}
+use Rattle.std.proofs.lemmas.List.{length-map, map-append}
 use Rattle.sch_word.specs.declared.mark.MarkKind.{MarkKind}
 use Rattle.sch_word.specs.declared.place.Place.{Place}
-use Rattle.sch_word.specs.declared.place.Place.TheVariants.{Slot}
+use Rattle.sch_word.specs.trees.Bindings.{numbers}
+use Rattle.sch_word.proofs.facts.NumberSets.{numbers_length}
 use Rattle.sch_control.specs.declared.body.Entry.{Entry}
 use Rattle.sch_control.specs.declared.operation.Application.{Application}
 use Rattle.sch_control.specs.declared.operation.Atom.TheVariants.{Constant, Literal, Variable}
@@ -15,12 +17,23 @@ use Rattle.sch_frames.specs.declared.instruction.Instruction.{Instruction}
 use Rattle.sch_frames.specs.declared.instruction.Instruction.TheVariants.{Do, Copy}
 use Rattle.sch_frames.specs.Meaning.{same_place}
 use Rattle.sch_frames.specs.Sizes.{copies_of, grouped, instructions_size}
-use Rattle.sch_layout.specs.BodyLayout.{is_direct, move_all, move_into, move_mark, operand_at, operands_at, target, under, writing}
+use Rattle.sch_layout.specs.BodyLayout.{arguments_at, is_direct, move_all, move_into, move_mark, operand_at, operands_at, under, writing}
 use Rattle.sch_layout.specs.FewCopies.{MovesFew, work_in}
 use Rattle.sch_layout.specs.Moves.{Move}
 use Rattle.sch_layout.proofs.layouts.LayoutSize.{given, operand_kept}
 use Rattle.sch_layout.proofs.layouts.MovesSize.{writing_as}
-use Rattle.sch_homes.specs.Homes.{hand_over, homes_plan, late_slots, moves_aside, next_frame, place, set_aside}
+use Rattle.sch_shuffle.specs.declared.choice.Choice.{Choice}
+use Rattle.sch_shuffle.specs.declared.choice.Choice.TheVariants.{Direct, Aside}
+use Rattle.sch_shuffle.specs.Assignment.{place_at}
+use Rattle.sch_shuffle.specs.Greedy.{acts, all_choices, evaluations, onwards, uses_target}
+use Rattle.sch_shuffle.specs.Plans.{Act, direct, aside, onward}
+use Rattle.sch_shuffle.specs.Tree.{Tree}
+use Rattle.sch_shuffle.proofs.SetAside.{all_asides_less, asides_in, sum_chosen, sum_of}
+use Rattle.sch_shuffle.proofs.WaitingArguments.{length_choices, members}
+use Rattle.sch_homes.specs.CallMoves.{argument_of, call_arguments, call_free, call_moves, call_targets, next_frame, operand_tree}
+use Rattle.sch_homes.specs.Homes.{homes_end, homes_plan, place}
+use Rattle.sch_homes.proofs.CallLists.{trees_length}
+use Rattle.sch_homes.proofs.ShuffledMoves.{act_move, moves_back}
 
 -- how much there is more to do and to copy than in what follows
 record Adds (done copies : ℕ) (more rest : List Instruction) : Type 0 where
@@ -72,48 +85,94 @@ given_work lives (o ∷ operands) =
     let k = operand_kept lives o in
     omega (arith, h, k)
 
-module _ (late : ℕ) where
-  aside_adds : (lives : ℕ → Place) (os : List (Operand ℕ)) (k : ℕ) (rest : List Instruction)
-      → Adds (given_each (operands_at lives os)) (length os) (move_all next_frame (set_aside late k (operands_at lives os)) rest) rest
-  aside_adds lives [] k rest = record { done_less = omega arith; copies_less = omega arith }
-  aside_adds lives (o ∷ os) k rest =
-      let a = one_move next_frame (Slot (late + k)) (move_mark (record { argument = suc k; from = operand_at lives o; to = Slot (late + k); temp = true })) (operand_at lives o)
-      (move_all next_frame (set_aside late (suc k) (operands_at lives os)) rest) in
-      let b = aside_adds lives os (suc k) rest in
+module _ (os : List (Operand Place)) (targets free : List Place) where
+  abbrev cost : ℕ → ℕ
+  cost k = given (argument_of os k)
+
+  abbrev laid : List Act → List Instruction → List Instruction
+  laid list rest = move_all next_frame (map (act_move os targets) list) rest
+
+  -- each argument goes to its target or is set aside
+  evaluations_add : (W : ℕ → ℕ → Bool) (cs : List Choice) (u : ℕ) (rest : List Instruction) → Adds (sum_of W cost (members cs)) (length cs) (laid (evaluations free u cs) rest) rest
+  evaluations_add W [] u rest = record { done_less = omega arith; copies_less = omega arith }
+  evaluations_add W (Direct k ∷ cs) u rest =
+      let more = laid (evaluations free u cs) rest in
+      let a = one_move next_frame (place_at targets k) (move_mark (act_move os targets (direct k))) (argument_of os k) more in
+      let b = evaluations_add W cs u rest in
+      let ad = a.done_less in let ac = a.copies_less in let bd = b.done_less in let bc = b.copies_less in
+      record { done_less = omega (arith, ad, bd); copies_less = omega (arith, ac, bc) }
+  evaluations_add W (Aside k ∷ cs) u rest =
+      let more = laid (evaluations free (suc u) cs) rest in
+      let a = one_move next_frame (place_at free u) (move_mark (act_move os targets (aside k (place_at free u)))) (argument_of os k) more in
+      let b = evaluations_add W cs (suc u) rest in
       let ad = a.done_less in let ac = a.copies_less in let bd = b.done_less in let bc = b.copies_less in
       record { done_less = omega (arith, ad, bd); copies_less = omega (arith, ac, bc) }
 
-  over_adds : (tail : Bool) (count k : ℕ) (rest : List Instruction) → Adds (2 * count) count (move_all next_frame (hand_over late tail k count) rest) rest
-  over_adds tail zero k rest = record { done_less = omega arith; copies_less = omega arith }
-  over_adds tail (suc count) k rest =
-      let a = one_move next_frame (target tail next_frame (suc k))
-      (move_mark (record { argument = suc k; from = operand.Atom (Variable (Slot (late + k))); to = target tail next_frame (suc k); temp = false }))
-      (operand.Atom (Variable (Slot (late + k)))) (move_all next_frame (hand_over late tail (suc k) count) rest) in
-      let b = over_adds tail count (suc k) rest in
+  -- and what is set aside goes on
+  onwards_add : (cs : List Choice) (u : ℕ) (rest : List Instruction) → Adds (2 * length (asides_in cs)) (length (asides_in cs)) (laid (onwards free u cs) rest) rest
+  onwards_add [] u rest = record { done_less = omega arith; copies_less = omega arith }
+  onwards_add (Direct k ∷ cs) u rest = onwards_add cs u rest
+  onwards_add (Aside k ∷ cs) u rest =
+      let more = laid (onwards free (suc u) cs) rest in
+      let a = one_move next_frame (place_at targets k) (move_mark (act_move os targets (onward k (place_at free u)))) (operand.Atom (Variable (place_at free u))) more in
+      let b = onwards_add cs (suc u) rest in
       let ad = a.done_less in let ac = a.copies_less in let bd = b.done_less in let bc = b.copies_less in
       record { done_less = omega (arith, ad, bd); copies_less = omega (arith, ac, bc) }
 
-  moves_add : (lives : ℕ → Place) (tail : Bool) (a : Application ℕ) (rest : List Instruction)
-      → Adds (given (operand_at lives a.operator) + operands_work a.operands) (suc (2 * length a.operands)) (move_all next_frame (moves_aside late lives tail a) rest) rest
-  moves_add lives tail a rest =
-      subst (λ is. Adds (given (operand_at lives a.operator) + operands_work a.operands) (suc (2 * length a.operands)) is rest)
-      (sym (joined next_frame (set_aside late 0 (operands_at lives a.operands)) _ rest))
-      (let over = move_all next_frame (hand_over late tail 0 (length a.operands)) rest in
-      let c = over_adds tail (length a.operands) 0 rest in
-      let b = one_move next_frame (target tail next_frame 0) (move_mark (record { argument = 0; from = operand_at lives a.operator; to = target tail next_frame 0; temp = false })) (operand_at lives a.operator) over in
-      let s = aside_adds lives a.operands 0
-      (move_into next_frame (target tail next_frame 0) (move_mark (record { argument = 0; from = operand_at lives a.operator; to = target tail next_frame 0; temp = false })) (operand_at lives a.operator) over) in
+  -- what all arguments give, by their numbers and one after the other
+  sum_listed : (W : ℕ → ℕ → Bool) (xs : List (Operand Place)) (from : ℕ) → ((k : ℕ) → argument_of os (from + k) ≡ argument_of xs k) → sum_of W cost (numbers from (length xs)) ≡ given_each xs
+  sum_listed W [] from h = refl
+  sum_listed W (x ∷ xs) from h =
+      let z : from + 0 ≡ from = omega arith in
+      let here : cost from ≡ given x = ap given (ap (argument_of os) (sym z) ∙ h 0) in
+      let more = sum_listed W xs (suc from) (λ k. let s : suc from + k ≡ from + suc k = omega arith in ap (argument_of os) s ∙ h (suc k)) in
+      omega (arith, here, more)
+
+module _ (used : ℕ) (lives : ℕ → Place) (tail : Bool) (a : Application ℕ) (rest : List Instruction) where
+  abbrev arguments : List (Operand Place)
+  arguments = arguments_at lives a
+
+  abbrev trees : List Tree
+  trees = call_arguments lives a
+
+  abbrev to : List Place
+  to = call_targets tail a
+
+  abbrev free : List Place
+  free = call_free used lives tail a
+
+  abbrev cs : List Choice
+  cs = all_choices trees to
+
+  laid_both : move_all next_frame (call_moves used lives tail a) rest ≡ laid arguments to free (evaluations free 0 cs) (laid arguments to free (onwards free 0 cs) rest)
+  laid_both =
+      ap (λ ms. move_all next_frame ms rest) (moves_back arguments to (acts free cs) ∙ map-append (act_move arguments to) (evaluations free 0 cs) (onwards free 0 cs))
+      ∙ joined next_frame (map (act_move arguments to) (evaluations free 0 cs)) (map (act_move arguments to) (onwards free 0 cs)) rest
+
+  moves_add : Adds (given (operand_at lives a.operator) + operands_work a.operands) (suc (2 * length a.operands)) (move_all next_frame (call_moves used lives tail a) rest) rest
+  moves_add =
+      subst (λ is. Adds (given (operand_at lives a.operator) + operands_work a.operands) (suc (2 * length a.operands)) is rest) (sym laid_both)
+      (let W = uses_target trees to in
+      let many = trees_length lives a in
+      let first = evaluations_add arguments to free W cs 0 (laid arguments to free (onwards free 0 cs) rest) in
+      let second = onwards_add arguments to free cs 0 rest in
+      let chosen = sum_chosen W (cost arguments to free) (length trees) (numbers 0 (length trees)) (numbers_length 0 (length trees)) in
+      let same = length-map arguments operand_tree in
+      let listed = sum_listed arguments to free W arguments 0 (λ k. let z : 0 + k ≡ k = omega arith in ap (argument_of arguments) z) in
+      let all : sum_of W (cost arguments to free) (members cs) ≡ given_each arguments = chosen ∙ (ap (λ n. sum_of W (cost arguments to free) (numbers 0 n)) same ∙ listed) in
+      let each = length_choices W (length trees) (numbers 0 (length trees)) in
+      let few = all_asides_less trees to (length a.operands) many in
       let w = given_work lives a.operands in
-      let cd = c.done_less in let cc' = c.copies_less in let bd = b.done_less in let bc = b.copies_less in let sd = s.done_less in let sc = s.copies_less in
-      record { done_less = omega (arith, cd, bd, sd, w); copies_less = omega (arith, cc', bc, sc) })
+      let fd = first.done_less in let fc = first.copies_less in let sd = second.done_less in let sc = second.copies_less in
+      record { done_less = omega (arith, fd, sd, all, few, w); copies_less = omega (arith, fc, sc, each, many, few) })
 
 pub moves_few : (entry : Option Entry) (e : Expression) (places : List Place) (tail : Bool) (a : Application ℕ) → MovesFew (homes_plan entry e places) tail a
 moves_few entry e places tail a = record {
   done = λ rest. (
-      let m = moves_add (late_slots entry) (place entry e places) tail a rest in
+      let m = moves_add (homes_end entry e places) (place entry e places) tail a rest in
       let d = m.done_less in
       let k = operand_kept (place entry e places) a.operator in
       omega (arith, d, k)
       );
-  copies = λ rest. (let m = moves_add (late_slots entry) (place entry e places) tail a rest in let c = m.copies_less in omega (arith, c));
+  copies = λ rest. (let m = moves_add (homes_end entry e places) (place entry e places) tail a rest in let c = m.copies_less in omega (arith, c));
 }

@@ -1,7 +1,6 @@
 -- The layout of a placed body does what the body does, and names what it names.
-use Rattle.std.proofs.Common.{◌≡◌, ◌+◌, List, [], length, suc, Option, None, refl, sym, ap, ◌∙◌, subst, arith, inl, inr}
+use Rattle.std.proofs.Common.{◌≡◌, List, [], ◌∷◌, Option, None, refl, sym, ap, ◌∙◌, subst, arith, inl, inr}
 use Rattle.sch_word.specs.declared.place.Place.{Place}
-use Rattle.sch_word.specs.declared.place.Place.TheVariants.{Slot}
 use Rattle.sch_control.specs.declared.body.Entry.{Entry}
 use Rattle.sch_control.specs.Meaning.{do_body, no_region, plain}
 use Rattle.sch_control.specs.Run as control_run
@@ -13,9 +12,9 @@ use Rattle.sch_control.specs.flow.Middle.{silent}
 use Rattle.sch_frames.specs.Does.{EndsAs, FrameOf, world}
 use Rattle.sch_frames.specs.Meaning.{beginning, execute_each, is_slot}
 use Rattle.sch_frames.specs.Valid.{instruction_known}
-use Rattle.sch_layout.specs.BodyLayout.{arguments_at, entering, lay, operands_at}
+use Rattle.sch_layout.specs.BodyLayout.{arguments_at, entering, lay}
 use Rattle.sch_layout.specs.Laws.{Behind, Uses}
-use Rattle.sch_layout.proofs.OwnPlaced.{each_append}
+use Rattle.sch_layout.specs.Moves.{EachMove}
 use Rattle.sch_layout.proofs.does.PlacedBodies.{body_does}
 use Rattle.sch_layout.proofs.layouts.InstructionTests.{Taken, Takes, entering_passes, known_steers, lay_passes, parts_named, unplaced_carries, unplaced_known}
 use Rattle.sch_layout.proofs.layouts.VariablesUsed.{code_uses, numbered_is}
@@ -23,12 +22,16 @@ use Rattle.sch_paths.specs.Conditions.{Fresh}
 use Rattle.sch_control.specs.flow.Live.{nothing_later}
 use Rattle.sch_paths.proofs.runs.RestoresAreEnough.{valid_fresh}
 use Rattle.sch_paths.proofs.runs.SameWithoutMarks.{silently}
-use Rattle.sch_homes.specs.Homes.{homes_code, homes_plan, late_slots, place}
+use Rattle.sch_shuffle.specs.Greedy.{acts, all_choices}
+use Rattle.sch_shuffle.proofs.SetAside.{acts_used}
+use Rattle.sch_homes.specs.CallMoves.{call_arguments, call_free, call_targets}
+use Rattle.sch_homes.specs.Homes.{homes_code, homes_end, homes_plan, place}
 use Rattle.sch_homes.specs.Laws.{IsPlaced}
-use Rattle.sch_homes.specs.SoonRestored.{EachSoonRestored}
+use Rattle.sch_paths.specs.EachSoonRestored.{EachSoonRestored}
+use Rattle.sch_homes.proofs.CallLists.{at_length, trees_length}
 use Rattle.sch_homes.proofs.FrameRoom.{uses_erased}
 use Rattle.sch_homes.proofs.HomesPlaced.{homes_placed}
-use Rattle.sch_homes.proofs.OperandsAside.{aside_have, over_have}
+use Rattle.sch_homes.proofs.ShuffledMoves.{argument_there, each_act, moves_back}
 use Rattle.sch_homes.proofs.SoonSaved.{soon_restored, soon_saved}
 
 -- parts are tested alike without regions and restores
@@ -44,12 +47,19 @@ each_erased tests (return e) = each_erased tests e
 each_erased tests (end e) = each_erased tests e
 each_erased tests (save saves e) = each_erased tests e
 
--- each move takes an argument of its call, or a slot
+-- each move takes an argument of its call, or what a place holds
 pub homes_takes : (entry : Option Entry) (e : Expression) (places : List Place) → Takes (homes_plan entry e places)
 homes_takes entry e places tail a =
-    each_append (λ m. Taken (arguments_at (place entry e places) a) m.from) _ _
-    (aside_have (λ m. Taken (arguments_at (place entry e places) a) m.from) (late_slots entry) (operands_at (place entry e places) a.operands) 0 (λ i o h. inl (suc i, h)))
-    (inl (0, refl), over_have (λ m. Taken (arguments_at (place entry e places) a) m.from) (late_slots entry) tail (length a.operands) (λ i lt. inr (Slot (late_slots entry + i), refl)) (length a.operands) 0 (omega arith))
+    let os = arguments_at (place entry e places) a in
+    let args = call_arguments (place entry e places) a in
+    let to = call_targets tail a in
+    let free = call_free (homes_end entry e places) (place entry e places) tail a in
+    let many = trees_length (place entry e places) a in
+    let l = at_length (place entry e places) (a.operator ∷ a.operands) in
+    subst (EachMove (λ m. Taken (arguments_at (place entry e places) a) m.from)) (sym (moves_back os to (acts free (all_choices args to))))
+    (each_act os to (λ m. Taken (arguments_at (place entry e places) a) m.from) (λ p. Unit {0})
+    (λ k lt. inl (k, argument_there os k (omega (arith, lt, many, l)))) (λ k p lt t. inl (k, argument_there os k (omega (arith, lt, many, l)))) (λ k p q lt t s. inr (p, refl)) (λ k p lt t. inr (p, refl))
+    (acts free (all_choices args to)) (acts_used args to free (λ p. Unit {0}) (λ v lt. tt)))
 
 pub frame_does : (c : control.Code) (e : Expression) (places : List Place) → IsPlaced c e places → EachSoonRestored e → FrameOf c (homes_code c.entry e places)
 frame_does c e places p soon = record {

@@ -1,4 +1,4 @@
--- How large a frame is: what is set aside, the slots of variables, and a home for no more variables than live in registers.
+-- How large a frame is: the slots of variables, a home for no more variables than live in registers, and what calls set aside.
 use Rattle.std.proofs.Common.{◌≡◌, ℕ, zero, suc, ◌+◌, ◌*◌, ◌<◌, ◌≤◌, List, [], ◌∷◌, length, Option, Some, None, Bool, true, false, cond, refl, sym, ap, ◌∙◌, subst, arith}
 use Rattle.std.specs.Prelude.{nat_lt, slice_get}
 use Rattle.std.proofs.Math.Nat.{max-le}
@@ -11,28 +11,18 @@ use Rattle.sch_control.specs.Tree as control
 use Rattle.sch_control.specs.Tree.{Expression, perform, bind, sequence, branch, fix, call, tail_call, return, end, save}
 use Rattle.sch_control.specs.Valid.{entry_shaped, first_bound}
 use Rattle.sch_control.specs.flow.Bare.{erased}
-use Rattle.sch_control.specs.flow.Places.{arrival, count_slots, in_slot, is_usual, place_of, stays}
+use Rattle.sch_control.specs.flow.Places.{arrival, count_slots, in_slot, is_usual, link_place, place_of, stays}
 use Rattle.sch_frames.specs.Valid.{formals_of, max_words}
 use Rattle.sch_layout.specs.Laws.{Uses}
-use Rattle.sch_layout.specs.OwnSlots.{most_operands}
-use Rattle.sch_layout.proofs.layouts.SlotsFrame.{operands_most}
+use Rattle.sch_layout.proofs.EachCall.{EachCall, call_erased, each_call, operands_few}
 use Rattle.sch_layout.proofs.layouts.VariablesUsed.{code_uses, numbered_is}
-use Rattle.sch_homes.specs.Homes.{count_below, has_home, homes_words, in_register, is_saved, late_slots, next_frame, slots_end}
+use Rattle.sch_homes.specs.CallMoves.{call_end}
+use Rattle.sch_homes.specs.Homes.{count_below, first_home, has_home, homes_end, homes_words, in_register, is_saved, late_slots, place, slots_end}
 use Rattle.sch_homes.specs.Laws.{AreDense, IsPlaced}
+use Rattle.sch_homes.proofs.CallEnds.{call_within, calls_within, used_before}
+use Rattle.sch_homes.proofs.SlotsApart.{HasRoom}
 
 -- ## What regions and restores leave
-
-pub operands_erased : (e : Expression) → most_operands (erased e) ≡ most_operands e
-operands_erased (perform o) = refl
-operands_erased (bind x a b) = rw (operands_erased a, operands_erased b) refl
-operands_erased (sequence a b) = rw (operands_erased a, operands_erased b) refl
-operands_erased (branch a b c) = rw (operands_erased a, operands_erased b, operands_erased c) refl
-operands_erased (fix members e) = operands_erased e
-operands_erased (call a restores) = refl
-operands_erased (tail_call a) = refl
-operands_erased (return e) = operands_erased e
-operands_erased (end e) = operands_erased e
-operands_erased (save saves e) = operands_erased e
 
 pub uses_erased : (P : ℕ → Type 0) (e : Expression) → Uses P (erased e) → Uses P e
 uses_erased P (perform o) u = u
@@ -136,11 +126,11 @@ is_there (q ∷ places) zero p h = omega arith
 is_there (q ∷ places) (suc x) p h = let lt = is_there places x p h in omega (arith, lt)
 
 module _ (c : control.Code) (e : Expression) (places : List Place) (p : IsPlaced c e places) where
-  pub operands_few : most_operands e ≤ max_operands
-  operands_few =
-      let most : most_operands c.expression ≤ max_operands = operands_most c.expression (and_parts (entry_shaped c.entry) _ p.shaped).1 in
-      let same = sym (operands_erased e) ∙ ap most_operands p.body in
-      omega (arith, most, same)
+  -- no call has more operands than it may have
+  pub calls_few : EachCall (λ tail a. length a.operands ≤ max_operands) e
+  calls_few =
+      let shape = (and_parts (entry_shaped c.entry) _ p.shaped).1 in
+      call_erased (λ tail a. length a.operands ≤ max_operands) e (subst (EachCall (λ tail a. length a.operands ≤ max_operands)) (sym p.body) (operands_few c.expression shape))
 
   pub formals_few : formals_of c.entry ≤ max_operands
   formals_few = by c.entry (and_parts (entry_shaped c.entry) _ p.shaped).0 where
@@ -162,15 +152,6 @@ module _ (c : control.Code) (e : Expression) (places : List Place) (p : IsPlaced
       let lt = is_there places (suc (suc x)) (Slot j) h in
       ltb-true j _ (ap (is_usual (count_slots places)) (sym (the_place places (suc (suc x)) (Slot j) h)) ∙ p.usual (suc (suc x)) (omega arith) (omega (arith, w, lt)))
 
-  -- beside the operands of a call and as many slots, a frame has at most a word for each variable
-  pub words_few : homes_words c.entry e places ≤ 2 * max_operands + length places
-  words_few =
-      let few = operands_few in
-      let formals = formals_few in
-      let homes = homes_few c.entry e places in
-      let slots = slots_end_below (late_slots c.entry) (max_operands + count_slots places) (omega (arith, formals)) places slot_few in
-      omega (arith, few, homes, slots)
-
   -- the formals that arrive in slots live there
   late_few : late_slots c.entry ≤ count_slots places
   late_few = by (nat_lt 6 (formals_of c.entry)) refl where
@@ -188,25 +169,65 @@ module _ (c : control.Code) (e : Expression) (places : List Place) (p : IsPlaced
         slots_from 8 places (late_slots c.entry) (omega (arith, first, more)) late
     by false h = let few : formals_of c.entry ≤ 6 = ltb-false 6 (formals_of c.entry) h in omega (arith, few)
 
-  -- where each slot is below the number of variables that have one, it has at most a word for each variable and each operand of a call
-  pub dense_few : AreDense places → homes_words c.entry e places ≤ max_operands + length places
-  dense_few dense =
-      let few = operands_few in
-      let homes = homes_few c.entry e places in
-      let slots = slots_end_below (late_slots c.entry) (count_slots places) late_few places dense in
-      omega (arith, few, homes, slots)
+  -- the return address lives in a register
+  one_more : suc (count_slots places) ≤ length places
+  one_more = by places p.link first_there where
+    all_slots : (ps : List Place) → count_slots ps ≤ length ps
+    all_slots [] = omega arith
+    all_slots (q ∷ ps) = one (in_slot q) (all_slots ps) where
+      one : (t : Bool) → count_slots ps ≤ length ps → cond t (suc (count_slots ps)) (count_slots ps) ≤ suc (length ps)
+      one true h = omega (arith, h)
+      one false h = omega (arith, h)
+
+    by : (ps : List Place) → place_of ps 0 ≡ link_place → 2 + formals_of c.entry ≤ length ps → suc (count_slots ps) ≤ length ps
+    by [] h le = absurd (omega (arith, le))
+    by (Reg r ∷ ps) h le = let all = all_slots ps in omega (arith, all)
+    by (Slot j ∷ ps) h le = absurd (cc)
+
+  slots_few : first_home c.entry e places ≤ max_operands + count_slots places
+  slots_few = let formals = formals_few in slots_end_below (late_slots c.entry) (max_operands + count_slots places) (omega (arith, formals)) places slot_few
 
   variables_few : length places ≤ 1002
   variables_few = let most = (numbered_is c p.numbers).most in let w = p.whole in omega (arith, most, w)
 
-  pub words_fit : homes_words c.entry e places ≤ max_words
-  words_fit = let few = words_few in let v = variables_few in omega (arith, few, v)
-
-  pub frame_few : homes_words c.entry e places + length places ≤ next_frame
-  frame_few = let few = words_few in let v = variables_few in omega (arith, few, v)
+  pub has_room : HasRoom c.entry e places
+  has_room =
+      let homes = homes_few c.entry e places in
+      let slots = slots_few in
+      let v = variables_few in
+      record { ends_low = omega (arith, homes, slots, v); many = omega (arith, v) }
 
   pub uses_low : Uses (λ x. x < length places) e
   uses_low =
       let w = p.whole in
       uses_erased (λ x. x < length places) e (subst (Uses (λ x. x < length places)) (sym p.body)
       (code_uses (λ x. x < length places) c (λ x h. let lt = h.1 in omega (arith, w, lt)) p.scoped (numbered_is c p.numbers)))
+
+  -- each call needs no more slots than this
+  ends_within : (bound : ℕ) → homes_end c.entry e places + max_operands ≤ bound → suc (max_operands + first_home c.entry e places) ≤ bound → homes_words c.entry e places ≤ bound
+  ends_within bound homes slots =
+      calls_within (homes_end c.entry e places) (place c.entry e places) bound (omega (arith, homes)) e
+      (each_call (λ x. x < length places) (λ tail a. length a.operands ≤ max_operands) (λ tail a. call_end (homes_end c.entry e places) (place c.entry e places) tail a ≤ bound)
+      (λ tail a reads few. call_within c.entry e places has_room tail a few reads bound homes slots) e uses_low calls_few)
+
+  -- beside the operands of a call and as many slots, a frame has at most a word for each variable
+  pub words_few : homes_words c.entry e places ≤ 2 * max_operands + length places
+  words_few =
+      let homes = homes_few c.entry e places in
+      let slots = slots_few in
+      let one = one_more in
+      ends_within (2 * max_operands + length places) (omega (arith, homes, slots)) (omega (arith, slots, one))
+
+  -- where each slot is below the number of variables that have one, it has at most a word for each variable and each operand of a call
+  pub dense_few : AreDense places → homes_words c.entry e places ≤ max_operands + length places
+  dense_few dense =
+      let homes = homes_few c.entry e places in
+      let one = one_more in
+      let slots : first_home c.entry e places ≤ count_slots places = slots_end_below (late_slots c.entry) (count_slots places) late_few places dense in
+      ends_within (max_operands + length places) (omega (arith, homes, slots)) (omega (arith, slots, one))
+
+  pub words_fit : homes_words c.entry e places ≤ max_words
+  words_fit = let few = words_few in let v = variables_few in omega (arith, few, v)
+
+  pub homes_before : homes_end c.entry e places ≤ homes_words c.entry e places
+  homes_before = used_before (homes_end c.entry e places) (place c.entry e places) e

@@ -1,8 +1,10 @@
 -- The layout of a placed body is a valid frame body, and its marks stand where something is written, called or left.
-use Rattle.std.proofs.Common.{◌≡◌, ℕ, zero, suc, ◌+◌, ◌<◌, ◌≤◌, List, [], ◌∷◌, length, Option, Some, None, Bool, true, false, refl, sym, ap, ◌∙◌, subst, arith}
-use Rattle.std.specs.Prelude.{nat_eq, nat_lt, not, slice_get, ◌++◌, ◌&&◌, ◌||◌}
-use Rattle.std.specs.List.{list_all}
+use Rattle.std.proofs.Common.{◌≡◌, ℕ, zero, suc, ◌+◌, ◌-◌, ◌<◌, ◌≤◌, List, [], ◌∷◌, length, map, Option, Some, None, Bool, true, false, refl, sym, ap, ◌∙◌, subst, arith}
+use Rattle.std.specs.Prelude.{nat_eq, nat_lt, not, ◌++◌, ◌&&◌, ◌||◌}
+use Rattle.std.specs.List.{AllByRecursion, list_all}
+use Rattle.std.proofs.Math.Nat.{le-max_right}
 use Rattle.std.proofs.lemmas.Bool.{and_from, and_parts, le-leb, lt-ltb}
+use Rattle.sch_word.specs.trees.Shape.{max_operands}
 use Rattle.sch_word.specs.declared.place.Place.{Place}
 use Rattle.sch_word.specs.declared.place.Place.TheVariants.{Reg, Slot}
 use Rattle.sch_word.specs.trees.NumberSets.{has}
@@ -13,39 +15,46 @@ use Rattle.sch_control.specs.declared.operation.Operand.{Operand}
 use Rattle.sch_control.specs.AtomsAndSites.{application_atoms, operand_atoms, operands_atoms}
 use Rattle.sch_control.specs.Meaning.{no_region}
 use Rattle.sch_control.specs.Tree as control
-use Rattle.sch_control.specs.Tree.{Expression, perform, bind, sequence, branch, fix, call, tail_call, return, end, save}
+use Rattle.sch_control.specs.Tree.{Expression}
 use Rattle.sch_control.specs.Valid.{entry_shaped, is_bare, last_position, positioned, shaped as expression_shaped, without_repeats}
 use Rattle.sch_control.specs.flow.Places.{count_slots, is_usual, place_of}
-use Rattle.sch_frames.specs.declared.instruction.Instruction.{Instruction}
 use Rattle.sch_frames.specs.declared.instruction.Instruction.TheVariants.{Copy}
 use Rattle.sch_frames.specs.Meaning.{is_slot, same_place}
 use Rattle.sch_frames.specs.Standing.{code_marks_stand}
 use Rattle.sch_frames.specs.Valid.{formals_of, forward, instruction_placed, instruction_shaped, is_atom, is_place, jumps_ahead, labels_in, placed, shaped}
-use Rattle.sch_layout.specs.BodyLayout.{Plan, arrived, labels, lay, operand_at, operands_at, under}
+use Rattle.sch_layout.specs.BodyLayout.{Plan, arguments_at, arrived, labels, lay, operands_at, under}
 use Rattle.sch_layout.specs.Laws.{AtomsHave, Laid}
-use Rattle.sch_layout.specs.Moves.{EachMove, Move}
-use Rattle.sch_layout.specs.OwnSlots.{most_operands}
+use Rattle.sch_layout.specs.Moves.{EachMove}
 use Rattle.sch_layout.specs.SharedPlaces.{entered_with}
+use Rattle.sch_layout.proofs.EachCall.{EachCall, both_calls, each_call}
 use Rattle.sch_layout.proofs.EntryCopies.{entering_has, spill_has}
 use Rattle.sch_layout.proofs.MovesHave.{Fits, is_target}
-use Rattle.sch_layout.proofs.OwnPlaced.{each_append}
 use Rattle.sch_layout.proofs.does.OperationsFollow.{have_left, have_right}
-use Rattle.sch_layout.proofs.layouts.InstructionTests.{Passes, Steers, entering_passes, lay_passes, not_both, operand_placed, parts_shaped, placed_steers, shaped_steers, slot_target, target_fits, unplaced_carries, unplaced_shaped, uses_placed}
+use Rattle.sch_layout.proofs.layouts.InstructionTests.{CallFits, Passes, calls_placed, entering_passes, lay_passes, not_both, operand_placed, parts_shaped, placed_steers, shaped_steers, slot_target, target_fits, unplaced_carries, unplaced_shaped}
 use Rattle.sch_layout.proofs.layouts.LabelsOnce.{Right, lay_below, right}
 use Rattle.sch_layout.proofs.marks.MarksStand.{laid_stands}
 use Rattle.sch_paths.proofs.paths.UnlistedPaths.{positioned_erased}
-use Rattle.sch_homes.specs.Homes.{home, homes_code, homes_plan, homes_words, in_register, is_saved, late_slots, lives_in, moves_aside, next_frame, place}
+use Rattle.sch_shuffle.specs.Assignment.{IsAmong, place_at}
+use Rattle.sch_shuffle.specs.Greedy.{acts, all_choices}
+use Rattle.sch_shuffle.specs.Plans.{Act, IsAct}
+use Rattle.sch_shuffle.specs.Tree.{Tree}
+use Rattle.sch_shuffle.proofs.SetAside.{acts_used, asides_in}
+use Rattle.sch_homes.specs.CallMoves.{argument_of, call_arguments, call_end, call_free, call_moves, call_targets, first_temporary, next_frame, slot_end}
+use Rattle.sch_homes.specs.Homes.{first_home, home, homes_code, homes_end, homes_plan, homes_words, in_register, is_saved, late_slots, lives_in, place}
 use Rattle.sch_homes.specs.Laws.{HomesFramed, IsPlaced}
 use Rattle.sch_homes.proofs.BodyPlaces.{from_register, listed_at}
-use Rattle.sch_homes.proofs.CallsAside.{aside_low, at_length, index_less}
+use Rattle.sch_homes.proofs.CallEnds.{within_calls}
+use Rattle.sch_homes.proofs.CallSpare as spare
+use Rattle.sch_homes.proofs.CallsBring.{first_low, free_has}
 use Rattle.sch_homes.proofs.CoveredHomes.{homes_begin, homes_covered}
 use Rattle.sch_homes.proofs.FrameDoes.{each_erased, frame_does, homes_takes}
-use Rattle.sch_homes.proofs.FrameRoom.{dense_few, first_there, frame_few, uses_low, words_few, words_fit}
+use Rattle.sch_homes.proofs.FrameRoom.{calls_few, dense_few, first_there, has_room, homes_before, uses_low, words_few, words_fit}
 use Rattle.sch_homes.proofs.HomesPlaced.{homes_placed}
 use Rattle.sch_homes.proofs.KeptCopies as kept
 use Rattle.sch_homes.proofs.KeptCopies.{kept_in}
-use Rattle.sch_homes.proofs.OperandsAside.{aside_have, over_have}
-use Rattle.sch_homes.proofs.SlotsApart.{home_inside, in_table, late_before_end, slot_before, there}
+use Rattle.sch_homes.proofs.MovesEnd.{IsAsideBefore, end_least, free_within, within_end}
+use Rattle.sch_homes.proofs.ShuffledMoves.{act_move, each_act, moves_back}
+use Rattle.sch_homes.proofs.SlotsApart.{home_inside, in_table, late_before_end, lives_before, slot_before, there}
 
 -- a register of an argument is one of a body
 has_more : (r : ℕ) (xs ys : List ℕ) → has r xs ≡ true → has r (xs ++ ys) ≡ true
@@ -58,20 +67,13 @@ has_more r (x ∷ xs) ys h = by (nat_eq r x) h (has_more r xs ys) where
 argument_is : (r : ℕ) → has r argument_registers ≡ true → has r body_registers ≡ true
 argument_is r h = has_more r argument_registers (14 ∷ 15 ∷ []) h
 
--- what passes does not depend on homes
-other_homes : (place home home' : ℕ → Place) (limit : ℕ) (moves : Bool → Application ℕ → List Move) (test : Instruction → Bool) (steers : Steers test) (e : Expression)
-    → Passes (record { place = place; home = home; limit = limit; moves = moves }) test steers e → Passes (record { place = place; home = home'; limit = limit; moves = moves }) test steers e
-other_homes place home home' limit moves test steers (perform o) p = p
-other_homes place home home' limit moves test steers (bind x a b) p = (p.0, (other_homes place home home' limit moves test steers a p.1.0, other_homes place home home' limit moves test steers b p.1.1))
-other_homes place home home' limit moves test steers (sequence a b) p = (other_homes place home home' limit moves test steers a p.0, other_homes place home home' limit moves test steers b p.1)
-other_homes place home home' limit moves test steers (branch a b c) p =
-    (other_homes place home home' limit moves test steers a p.0, (other_homes place home home' limit moves test steers b p.1.0, other_homes place home home' limit moves test steers c p.1.1))
-other_homes place home home' limit moves test steers (fix members e) p = (p.0, other_homes place home home' limit moves test steers e p.1)
-other_homes place home home' limit moves test steers (call a restores) p = p
-other_homes place home home' limit moves test steers (tail_call a) p = p
-other_homes place home home' limit moves test steers (return e) p = other_homes place home home' limit moves test steers e p
-other_homes place home home' limit moves test steers (end e) p = (p.0, other_homes place home home' limit moves test steers e p.1)
-other_homes place home home' limit moves test steers (save saves e) p = other_homes place home home' limit moves test steers e p
+-- each argument of a call reads the frame
+argument_placed : (lives : ℕ → Place) (words : ℕ) (P : ℕ → Type 0) → ((x : ℕ) → P x → is_place words (lives x) ≡ true) → (operands : List (Operand ℕ)) → AtomsHave P (operands_atoms operands) → (k : ℕ)
+    → list_all (is_atom words) (operand_atoms (argument_of (operands_at lives operands) k)) ≡ true
+argument_placed lives words P there [] h zero = refl
+argument_placed lives words P there [] h (suc k) = refl
+argument_placed lives words P there (o ∷ operands) h zero = operand_placed lives words P there o (have_left P (operand_atoms o) _ h)
+argument_placed lives words P there (o ∷ operands) h (suc k) = argument_placed lives words P there operands (have_right P (operand_atoms o) _ h) k
 
 -- what arrives in a register is in one that there is
 arrived_placed : (words x : ℕ) → is_slot (arrived x) ≡ false → is_place words (arrived x) ≡ true
@@ -97,72 +99,111 @@ module _ (c : control.Code) (e : Expression) (places : List Place) (p : IsPlaced
 
   -- each variable lives in the frame or in a register
   lives_there : (x : ℕ) → Low x → is_place words (place c.entry e places x) ≡ true
-  lives_there x lt = ap (λ o. is_place words (lives_in (late_slots c.entry) (most_operands e) o)) (listed_at places x lt) ∙ by x (place_of places x) refl lt where
-    by : (x : ℕ) (q : Place) → place_of places x ≡ q → x < length places → is_place words (lives_in (late_slots c.entry) (most_operands e) (Some q)) ≡ true
-    by zero q i lt = ap (λ q. is_place words (lives_in (late_slots c.entry) (most_operands e) (Some q))) (sym i ∙ p.link)
-    by (suc zero) q i lt = ap (λ q. is_place words (lives_in (late_slots c.entry) (most_operands e) (Some q))) (sym i ∙ p.closure)
+  lives_there x lt = ap (λ o. is_place words (lives_in o)) (listed_at places x lt) ∙ by x (place_of places x) refl lt where
+    by : (x : ℕ) (q : Place) → place_of places x ≡ q → x < length places → is_place words (lives_in (Some q)) ≡ true
+    by zero q i lt = ap (λ q. is_place words (lives_in (Some q))) (sym i ∙ p.link)
+    by (suc zero) q i lt = ap (λ q. is_place words (lives_in (Some q))) (sym i ∙ p.closure)
     by (suc (suc x)) (Reg r) i lt =
         let w = p.whole in
         argument_is r (ap (is_usual (count_slots places)) (sym i) ∙ p.usual (suc (suc x)) (omega arith) (omega (arith, w, lt)))
     by (suc (suc x)) (Slot j) i lt =
         let less = slot_before c.entry e places (suc (suc x)) j (listed_at places (suc (suc x)) lt ∙ ap Some i) in
-        lt-ltb _ words (omega (arith, less))
+        let most = homes_before c e places p in
+        lt-ltb j words (omega (arith, less, most))
 
   -- what lives in a register is a variable of the body
   in_register_low : (x : ℕ) → is_slot (place c.entry e places x) ≡ false → Low x
   in_register_low x s = let t = in_table c.entry e places x s in there places x (Reg t.0) t.1
 
-  operands_there : (operands : List (Operand ℕ)) → AtomsHave Low (operands_atoms operands) → (i : ℕ) (o : Operand Place) → slice_get (operands_at (place c.entry e places) operands) i ≡ Some o
-      → list_all (is_atom words) (operand_atoms o) ≡ true
-  operands_there [] h i o s = absurd (cc)
-  operands_there (x ∷ operands) h zero o s = by s where
-    by : Some (operand_at (place c.entry e places) x) ≡ Some o → list_all (is_atom words) (operand_atoms o) ≡ true
-    by s =
-        let same : operand_at (place c.entry e places) x ≡ o = cc in
-        subst (λ o. list_all (is_atom words) (operand_atoms o) ≡ true) same (operand_placed (place c.entry e places) words Low lives_there x (have_left Low (operand_atoms x) _ h))
-  operands_there (x ∷ operands) h (suc i) o s = operands_there operands (have_right Low (operand_atoms x) _ h) i o s
+  -- the moves of a call, and its operands, where the frame has the slots that it needs
+  module _ (tail : Bool) (a : Application ℕ) (few : length a.operands ≤ max_operands) (low : AtomsHave Low (application_atoms a))
+      (within : call_end (homes_end c.entry e places) (place c.entry e places) tail a ≤ homes_words c.entry e places) where
+    abbrev lives : ℕ → Place
+    lives = place c.entry e places
 
-  -- the moves of a call
-  moves_fit : (tail : Bool) (a : Application ℕ) → AtomsHave Low (application_atoms a) → length a.operands ≤ most_operands e → EachMove (λ m. Fits next_frame words m.from m.to) (plan.moves tail a)
-  moves_fit tail a low few =
-      each_append (λ m. Fits next_frame words m.from m.to) _ _
-      (aside_have (λ m. Fits next_frame words m.from m.to) (late_slots c.entry) (operands_at (place c.entry e places) a.operands) 0
-      (λ i o h. (operands_there a.operands (have_right Low (operand_atoms a.operator) _ low) i o h, aside i (index_less (operands_at (place c.entry e places) a.operands) i o h)))) (
-        (operand_placed (place c.entry e places) words Low lives_there a.operator (have_left Low (operand_atoms a.operator) _ low), refl),
-        over_have (λ m. Fits next_frame words m.from m.to) (late_slots c.entry) tail (length a.operands)
-            (λ i lt. (and_from _ _ (lt-ltb (late_slots c.entry + i) words (low_slot i lt)) refl, target_fits next_frame words limit_more tail (suc i) (let less = low_slot i lt in omega (arith, less))))
-            (length a.operands) 0 (omega arith),
-      ) where
-        limit_more : words ≤ next_frame
-        limit_more = let limit = frame_few c e places p in omega (arith, limit)
+    abbrev os : List (Operand Place)
+    os = arguments_at lives a
 
-        low_slot : (i : ℕ) → i < length a.operands → late_slots c.entry + i < words
-        low_slot i lt = aside_low c.entry e places (frame_few c e places p) i (omega (arith, lt, few))
+    abbrev args : List Tree
+    args = call_arguments lives a
 
-        aside : (i : ℕ) → i < length (operands_at (place c.entry e places) a.operands) → is_target next_frame words (Slot (late_slots c.entry + (0 + i))) ≡ true
-        aside i lt =
-            let l = at_length (place c.entry e places) a.operands in
-            let less = low_slot i (omega (arith, lt, l)) in
-            slot_target next_frame words (late_slots c.entry + (0 + i)) limit_more (omega (arith, less))
+    abbrev to : List Place
+    to = call_targets tail a
+
+    abbrev free : List Place
+    free = call_free (homes_end c.entry e places) lives tail a
+
+    abbrev list : List Act
+    list = acts free (all_choices args to)
+
+    -- a temporary that is used lives in the frame
+    abbrev Is : Place → Type 0
+    Is q = (is_place words q ≡ true) × (is_target next_frame words q ≡ true)
+
+    limit_more : words ≤ next_frame
+    limit_more = let fit = words_fit c e places p in omega (arith, fit)
+
+    handed : length a.operands ≤ 6 + words
+    handed =
+        let l = le-max_right (homes_end c.entry e places) (length a.operands - 6) in
+        let m = end_least (first_temporary (homes_end c.entry e places) (length a.operands)) (call_moves (homes_end c.entry e places) lives tail a) in
+        omega (arith, l, m, within)
+
+    used_is : (q : Place) → IsAmong free q → slot_end q ≤ words → Is q
+    used_is = free_has c.entry e places (has_room c e places p) tail a few low (λ q. slot_end q ≤ words → Is q)
+        (λ r h l. (argument_is r h, argument_is r h)) (λ m b n l. (lt-ltb m words (omega (arith, l)), slot_target next_frame words m limit_more (omega (arith, l))))
+
+    each : AllByRecursion (IsAct args Is) list
+    each = acts_used args to free Is (λ v lt. used_is (place_at free v) (v, in_free v lt, refl) (free_within os to free words (all_choices args to) aside v lt)) where
+      aside : EachMove (IsAsideBefore words) (map (act_move os to) list)
+      aside =
+          subst (EachMove (IsAsideBefore words)) (moves_back os to list)
+          (within_end words (first_temporary (homes_end c.entry e places) (length a.operands)) (call_moves (homes_end c.entry e places) lives tail a) within)
+
+      in_free : (v : ℕ) → v < length (asides_in (all_choices args to)) → v < length free
+      in_free v lt =
+          let n = spare.free_many (homes_end c.entry e places) (first_home c.entry e places) lives Low (lives_before c.entry e places) (first_low c.entry e places (has_room c e places p)) tail a low in
+          let m = spare.args_count (homes_end c.entry e places) (first_home c.entry e places) lives Low (lives_before c.entry e places) (first_low c.entry e places (has_room c e places p)) tail a low in
+          let f = spare.asides_few (homes_end c.entry e places) (first_home c.entry e places) lives Low (lives_before c.entry e places) (first_low c.entry e places (has_room c e places p)) tail a low in
+          omega (arith, lt, n, m, f)
+
+    to_fits : (k : ℕ) → k < length args → is_target next_frame words (place_at to k) ≡ true
+    to_fits k lt =
+        let m = spare.args_count (homes_end c.entry e places) (first_home c.entry e places) lives Low (lives_before c.entry e places) (first_low c.entry e places (has_room c e places p)) tail a low in
+        let h = handed in
+        ap (is_target next_frame words) (spare.target_at tail (suc (length a.operands)) k (omega (arith, lt, m)))
+        ∙ target_fits next_frame words limit_more tail k (omega (arith, lt, m, h))
+
+    from_fits : (k : ℕ) → list_all (is_atom words) (operand_atoms (argument_of os k)) ≡ true
+    from_fits = argument_placed lives words Low lives_there (a.operator ∷ a.operands) low
+
+    pub call_fits : CallFits (homes_plan c.entry e places) (homes_words c.entry e places) tail a
+    call_fits = record {
+      moves = subst (EachMove (λ m. Fits next_frame words m.from m.to)) (sym (moves_back os to list))
+          (each_act os to (λ m. Fits next_frame words m.from m.to) Is
+          (λ k lt. (from_fits k, to_fits k lt)) (λ k q lt t. (from_fits k, t.1)) (λ k q r lt t s. (and_from _ _ t.0 refl, s.1)) (λ k q lt t. (and_from _ _ t.0 refl, to_fits k lt)) list each);
+      handed = handed;
+    }
+
+  calls_fit : EachCall (CallFits plan words) e
+  calls_fit =
+      each_call Low (λ tail a. (length a.operands ≤ max_operands) × (call_end (homes_end c.entry e places) (place c.entry e places) tail a ≤ words)) (CallFits plan words)
+      (λ tail a low h. call_fits tail a h.0 low h.1) e (uses_low c e places p)
+      (both_calls (λ tail a. length a.operands ≤ max_operands) (λ tail a. call_end (homes_end c.entry e places) (place c.entry e places) tail a ≤ words) e (calls_few c e places p)
+      (within_calls (homes_end c.entry e places) (place c.entry e places) words e (omega arith)))
 
   kept_saves : kept.KeptIn (is_saved e) e
   kept_saves = kept_in (is_saved e) e no_region (λ x s. s) (λ x i. absurd (cc)) p.saved
 
   passes_placed : Passes plan (instruction_placed words) (placed_steers words) e
-  passes_placed =
-      other_homes (place c.entry e places) (λ x. Reg 3) (home c.entry e places) next_frame (moves_aside (late_slots c.entry) (place c.entry e places)) (instruction_placed words) (placed_steers words) e
-      (uses_placed (record { place = place c.entry e places; home = λ x. Reg 3; limit = next_frame; moves = moves_aside (late_slots c.entry) (place c.entry e places) }) words (most_operands e) Low lives_there
-      (record {
-        lives = λ x s. lives_there x (in_register_low x s);
-        home = λ x s. refl;
-        moves = moves_fit;
-        handed = omega arith;
-      }) e (omega arith) (uses_low c e places p))
+  passes_placed = calls_placed plan words Low lives_there e calls_fit (uses_low c e places p)
 
   home_placed : (x : ℕ) → is_saved e x ≡ true → is_slot (place c.entry e places x) ≡ false → is_place words (home c.entry e places x) ≡ true
   home_placed x k s =
       let t = in_table c.entry e places x s in
-      lt-ltb _ words (home_inside c.entry e places x (ap (λ o. in_register o && is_saved e x) t.1 ∙ k) (there places x (Reg t.0) t.1))
+      let less = home_inside c.entry e places x (ap (λ o. in_register o && is_saved e x) t.1 ∙ k) (there places x (Reg t.0) t.1) in
+      let most = homes_before c e places p in
+      lt-ltb _ words (omega (arith, less, most))
 
   not_both_left : (a b : Bool) → a ≡ false → not (a && b) ≡ true
   not_both_left a b h = ap (λ t. not (t && b)) h
@@ -190,8 +231,9 @@ module _ (c : control.Code) (e : Expression) (places : List Place) (p : IsPlaced
   code_placed =
       let fit = words_fit c e places p in
       let end = late_before_end (late_slots c.entry) places in
+      let most = homes_before c e places p in
       and_from _ _ (le-leb words 2048 (omega (arith, fit)))
-      (and_from _ _ (le-leb (formals_of c.entry) (6 + words) (omega (arith, end)))
+      (and_from _ _ (le-leb (formals_of c.entry) (6 + words) (omega (arith, end, most)))
       (entering_passes plan (instruction_placed words) (placed_steers words) c.entry copies _ laid_placed))
 
   pub code_forward : forward (labels e) (homes_code c.entry e places).instructions ≡ true

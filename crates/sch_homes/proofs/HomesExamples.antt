@@ -1,20 +1,17 @@
 -- Worked rows: what lies where in the frame of a body, and its layout.
-use Rattle.std.proofs.Common.{◌≡◌, ℕ, refl, false, true, List, [], ◌∷◌, Option, None, Some, ◌-◌, arith}
+use Rattle.std.proofs.Common.{◌≡◌, refl, false, List, [], ◌∷◌, Option, None, Some, arith}
 use Rattle.std.specs.Prelude.{◌&&◌, slice_get}
 use Rattle.sch_word.specs.declared.mark.MarkKind.TheVariants as mark
 use Rattle.sch_word.specs.declared.place.Place.{Place}
 use Rattle.sch_word.specs.declared.place.Place.TheVariants.{Reg, Slot}
 use Rattle.sch_word.specs.declared.primitive.Primitive.TheVariants.{Subtract}
 use Rattle.sch_control.specs.declared.body.Entry.{Entry}
-use Rattle.sch_control.specs.declared.operation.Atom.TheVariants.{Variable}
-use Rattle.sch_control.specs.declared.operation.Operand.TheVariants as operand
 use Rattle.sch_control.specs.declared.operation.Operation.TheVariants as operation
 use Rattle.sch_control.specs.Tree.{Expression, perform, bind, call, return, save}
 use Rattle.sch_control.proofs.Examples.{applied, held_in, number}
 use Rattle.sch_frames.specs.declared.instruction.Instruction.TheVariants.{Do, Store, Copy, Call, Return, Mark}
-use Rattle.sch_layout.specs.Moves.{Move}
 use Rattle.sch_homes.specs.FewKept.{BodyKeepsFew}
-use Rattle.sch_homes.specs.Homes.{home, homes_code, homes_words, in_register, is_saved, moves_aside, place}
+use Rattle.sch_homes.specs.Homes.{home, homes_code, homes_words, in_register, is_saved, place}
 use Rattle.sch_homes.specs.HomeTable.{home_of, home_slots, place_in, table_plan}
 
 -- ## A procedure of eight formals: two arrive in slots, and they stay there
@@ -32,19 +29,18 @@ body =
 abbrev places : List Place
 places = Reg 15 ∷ Reg 14 ∷ Reg 3 ∷ Reg 8 ∷ Reg 9 ∷ Reg 10 ∷ Reg 6 ∷ Reg 7 ∷ Slot 0 ∷ Slot 1 ∷ Slot 2 ∷ Reg 3 ∷ []
 
--- the slots 0 and 1 of arguments, 2 and 3 for operands that are set aside, 4 for variable 10, and 5 for the return address
+-- the slots 0 and 1 of arguments, 2 for variable 10, and 3 for the return address; no call sets anything aside
 places_rows :
-    (place eight body places 8 ≡ Slot 0) × (place eight body places 9 ≡ Slot 1) × (place eight body places 10 ≡ Slot 4) × (place eight body places 11 ≡ Reg 3)
-    × (home eight body places 0 ≡ Slot 5) × (homes_words eight body places ≡ 6)
+    (place eight body places 8 ≡ Slot 0) × (place eight body places 9 ≡ Slot 1) × (place eight body places 10 ≡ Slot 2) × (place eight body places 11 ≡ Reg 3)
+    × (home eight body places 0 ≡ Slot 3) × (homes_words eight body places ≡ 4)
 places_rows = (refl, refl, refl, refl, refl, refl)
 
 layout_row : (homes_code eight body places).instructions ≡
-    Mark (mark.Save 0) ∷ Copy (Slot 5) (Reg 15)
-    ∷ Do (operation.Operand (number 5)) ∷ Mark (mark.Spill 10) ∷ Store (Slot 4)
-    ∷ Do (operation.Operand (held_in (Slot 4))) ∷ Mark mark.Temp ∷ Store (Slot 2) ∷ Do (operation.Operand (held_in (Slot 0))) ∷ Mark mark.Temp ∷ Store (Slot 3)
-    ∷ Copy (Reg 14) (Reg 3) ∷ Copy (Reg 3) (Slot 2) ∷ Copy (Reg 8) (Slot 3) ∷ Mark (mark.Call 0) ∷ Call false 2
-    ∷ Mark (mark.Restore 0) ∷ Copy (Reg 15) (Slot 5) ∷ Store (Reg 3)
-    ∷ Do (operation.Prim 1 Subtract (held_in (Reg 3) ∷ held_in (Slot 4) ∷ [])) ∷ Mark mark.Return ∷ Return ∷ []
+    Mark (mark.Save 0) ∷ Copy (Slot 3) (Reg 15)
+    ∷ Do (operation.Operand (number 5)) ∷ Mark (mark.Spill 10) ∷ Store (Slot 2)
+    ∷ Copy (Reg 14) (Reg 3) ∷ Copy (Reg 3) (Slot 2) ∷ Copy (Reg 8) (Slot 0) ∷ Mark (mark.Call 0) ∷ Call false 2
+    ∷ Mark (mark.Restore 0) ∷ Copy (Reg 15) (Slot 3) ∷ Store (Reg 3)
+    ∷ Do (operation.Prim 1 Subtract (held_in (Reg 3) ∷ held_in (Slot 2) ∷ [])) ∷ Mark mark.Return ∷ Return ∷ []
 layout_row = refl
 
 -- a formal that arrives in R8 and has a slot is stored there under its mark
@@ -63,25 +59,12 @@ five_places = Reg 15 ∷ Reg 14 ∷ Reg 3 ∷ Reg 8 ∷ Reg 3 ∷ []
 abbrev two : Option Entry
 two = Some (record { formals = 2; rest = false; fields = 0 })
 
-homes_rows : (home two two_saved five_places 0 ≡ Slot 1) × (home two two_saved five_places 3 ≡ Slot 2) × (homes_words two two_saved five_places ≡ 3)
-homes_rows = (refl, refl, refl)
+homes_rows : (home two two_saved five_places 0 ≡ Slot 0) × (home two two_saved five_places 3 ≡ Slot 1) × (home two two_saved five_places 4 ≡ Slot 2052) × (homes_words two two_saved five_places ≡ 2)
+homes_rows = (refl, refl, refl, refl)
 
 -- a body that saves nothing and calls nothing needs no frame
 leaf_row : homes_words two (return (perform (operation.Operand (held_in 3)))) five_places ≡ 0
 leaf_row = refl
-
--- ## The last of seven operands of a tail call goes to the first slot of the frame, from which that of the first has gone
-
-abbrev moved : ℕ → Place → Move
-moved k to = record { argument = k; from = operand.Atom (Variable (Slot (k - 1))); to = to; temp = false }
-
-abbrev put : ℕ → Move
-put k = record { argument = k; from = number k; to = Slot (k - 1); temp = true }
-
-moves_row : moves_aside 0 (λ x. Reg 3) true (applied 0 (held_in 2) (number 1 ∷ number 2 ∷ number 3 ∷ number 4 ∷ number 5 ∷ number 6 ∷ number 7 ∷ [])) ≡
-    put 1 ∷ put 2 ∷ put 3 ∷ put 4 ∷ put 5 ∷ put 6 ∷ put 7 ∷ record { argument = 0; from = held_in (Reg 3); to = Reg 14; temp = false }
-    ∷ moved 1 (Reg 3) ∷ moved 2 (Reg 8) ∷ moved 3 (Reg 9) ∷ moved 4 (Reg 10) ∷ moved 5 (Reg 6) ∷ moved 6 (Reg 7) ∷ moved 7 (Slot 0) ∷ []
-moves_row = refl
 
 -- ## The same places and homes, read in tables
 
@@ -89,17 +72,17 @@ moves_row = refl
 homes_listed : home_slots 1 (λ x. in_register (slice_get five_places x) && is_saved two_saved x) 5 ≡ Some 1 ∷ None ∷ None ∷ Some 2 ∷ None ∷ []
 homes_listed = refl
 
--- what has no home would have its own behind the three words of the frame
-homes_read : (home_of 3 3 (Some (Some 2)) ≡ Slot 2) × (home_of 3 4 (Some None) ≡ Slot 7) × (home_of 3 9 None ≡ Slot 12)
+-- what has no home would have its own behind the largest frame
+homes_read : (home_of 3 (Some (Some 2)) ≡ Slot 2) × (home_of 4 (Some None) ≡ Slot 2052) × (home_of 9 None ≡ Slot 2057)
 homes_read = (refl, refl, refl)
 
--- a slot behind the four of arguments lies behind one that is set aside; what is no variable lives in no slot of the frame
-places_read : (place_in 4 1 (Reg 15 ∷ Slot 5 ∷ []) 1 ≡ Slot 6) × (place_in 4 1 (Reg 15 ∷ Slot 5 ∷ []) 2 ≡ Slot 4096)
+-- what is no variable lives in no slot of the frame
+places_read : (place_in (Reg 15 ∷ Slot 5 ∷ []) 1 ≡ Slot 5) × (place_in (Reg 15 ∷ Slot 5 ∷ []) 2 ≡ Slot 4096)
 places_read = (refl, refl)
 
 tables_row :
-    ((table_plan 0 1 3 five_places (Some 1 ∷ None ∷ None ∷ Some 2 ∷ None ∷ [])).place 3 ≡ Reg 8)
-    × ((table_plan 0 1 3 five_places (Some 1 ∷ None ∷ None ∷ Some 2 ∷ None ∷ [])).home 3 ≡ Slot 2)
+    ((table_plan 3 five_places (Some 1 ∷ None ∷ None ∷ Some 2 ∷ None ∷ [])).place 3 ≡ Reg 8)
+    × ((table_plan 3 five_places (Some 1 ∷ None ∷ None ∷ Some 2 ∷ None ∷ [])).home 3 ≡ Slot 2)
 tables_row = (refl, refl)
 
 -- ## A body that keeps few variables

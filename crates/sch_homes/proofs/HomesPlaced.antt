@@ -7,14 +7,12 @@ use Rattle.sch_control.specs.Tree.{Expression}
 use Rattle.sch_control.specs.flow.Live.{Live, nothing_later}
 use Rattle.sch_frames.specs.Valid.{formals_of}
 use Rattle.sch_layout.specs.Laws.{EntersSlots}
-use Rattle.sch_layout.specs.OwnSlots.{most_operands}
 use Rattle.sch_layout.specs.SharedPlaces.{Arrives, entered_with}
-use Rattle.sch_layout.proofs.OwnPlaced.{few_is}
 use Rattle.sch_paths.proofs.runs.RestoresAreEnough.{valid_fresh}
 use Rattle.sch_homes.specs.Homes.{homes_plan}
 use Rattle.sch_homes.specs.Laws.{HomesPlaced}
 use Rattle.sch_homes.proofs.BodyPlaces.{arrive_apart, enters_slots, listed_at}
-use Rattle.sch_homes.proofs.FrameRoom.{first_there, frame_few, uses_low}
+use Rattle.sch_homes.proofs.FrameRoom.{calls_few, first_there, has_room, uses_low}
 use Rattle.sch_homes.proofs.PlacedTrees.{placed_tree}
 use Rattle.sch_homes.proofs.SlotsApart.{homes_are}
 
@@ -32,12 +30,12 @@ slots_whole (Some i) e places a = a
 pub homes_placed : HomesPlaced
 homes_placed c e places p =
     let first = first_there c e places p in
-    let few = frame_few c e places p in (
+    let room = has_room c e places p in (
       record {
-        homes = homes_are c.entry e places few (listed_at places 0 (omega (arith, first)) ∙ ap Some p.link);
+        homes = homes_are c.entry e places room (listed_at places 0 (omega (arith, first)) ∙ ap Some p.link);
         arrives = arrives_whole c.entry e places (arrive_apart c.entry e places first p.link p.closure p.formals p.entered);
-        placed = placed_tree c.entry e places few (omega (arith, first)) e (Unit {0}) no_region nothing_later (uses_low c e places p)
-            (few_is (most_operands e) e (omega arith)) (λ x t i. absurd i) p.alone p.points p.restores p.saved (valid_fresh c e p.body p.scoped p.numbers);
+        placed = placed_tree c.entry e places room (omega (arith, first)) e (Unit {0}) no_region nothing_later (uses_low c e places p)
+            (calls_few c e places p) (λ x t i. absurd i) p.alone p.points p.restores p.saved (valid_fresh c e p.body p.scoped p.numbers);
       },
       slots_whole c.entry e places (enters_slots c.entry e places first p.link p.closure p.formals),
     )

@@ -1,6 +1,8 @@
-pub mod AsideLoops
 pub mod BodyPlaces
-pub mod CallsAside
+pub mod CallEnds
+pub mod CallLists
+pub mod CallSpare
+pub mod CallsBring
 pub mod CoveredHomes
 pub mod FewKept
 pub mod FewMoves
@@ -8,15 +10,21 @@ pub mod FrameDoes
 pub mod FrameRoom
 pub mod FrameValid
 pub mod HomeLoops
-pub mod HomesPlaced
 mod HomesExamples
-pub mod KeptCopies
+pub mod HomesPlaced
 pub mod KeptByType
+pub mod KeptCopies
+pub mod ListedOrders
 pub mod LiveRestores
-pub mod OperandsAside
+pub mod MovesEnd
+mod ListedExamples
+mod MovesExamples
+pub mod Numbered
 pub mod PlacedTrees
 pub mod SavedInReach
+pub mod ShuffledMoves
 pub mod SlotsApart
 pub mod SoonSaved
+pub mod SpareTemporaries
 pub mod TablePlan
 pub mod WholeFrame

@@ -1,8 +1,9 @@
 -- What a body's places owe to its layout follows from what its type keeps.
-use Rattle.std.proofs.Common.{◌≡◌, ℕ, ◌+◌, ◌<◌, ◌≤◌, List, [], ◌∷◌, length, Option, Bool, true, false, refl, arith, inl, inr}
+use Rattle.std.proofs.Common.{◌≡◌, ℕ, ◌<◌, ◌≤◌, List, [], ◌∷◌, length, Option, Bool, true, false, arith, inl, inr}
 use Rattle.std.specs.Bool.{MatchBool}
 use Rattle.std.specs.List.{list_all}
 use Rattle.std.proofs.lemmas.Bool.{and_parts}
+use Rattle.sch_word.specs.trees.Shape.{max_operands}
 use Rattle.sch_word.specs.declared.place.Place.{Place}
 use Rattle.sch_control.specs.declared.body.Entry.{Entry}
 use Rattle.sch_control.specs.declared.operation.Member.{Member}
@@ -16,17 +17,18 @@ use Rattle.sch_control.specs.flow.Places.{place_of}
 use Rattle.sch_control.specs.flow.Regions.{restores_saved}
 use Rattle.sch_control.specs.AtomsAndSites.{member_atoms}
 use Rattle.sch_layout.specs.Laws.{MembersUse, Uses}
-use Rattle.sch_layout.specs.OwnSlots.{most_operands}
 use Rattle.sch_layout.specs.SharedPlaces.{Alone, FreeInCall, FreeInTail, Placed}
-use Rattle.sch_layout.proofs.OwnPlaced.{Few, live_low, mentioned, perhaps_low}
+use Rattle.sch_layout.proofs.EachCall.{EachCall}
+use Rattle.sch_layout.proofs.LowVariables.{live_low, mentioned, perhaps_low}
 use Rattle.sch_paths.specs.Conditions.{Fresh}
-use Rattle.sch_homes.specs.Homes.{homes_plan, homes_words, next_frame}
+use Rattle.sch_homes.specs.Homes.{homes_plan}
 use Rattle.sch_homes.proofs.BodyPlaces.{alone_in_frame}
-use Rattle.sch_homes.proofs.CallsAside.{brings, call_free, lives_own}
+use Rattle.sch_homes.proofs.CallsBring.{brings, free_in_call, free_in_tail, lives_own}
+use Rattle.sch_homes.proofs.SlotsApart.{HasRoom}
 use Rattle.sch_homes.specs.RestoresLive.{RestoresLive}
 
 -- `whole` is the tree of the body, in which `e` is a part
-module _ (entry : Option Entry) (whole : Expression) (places : List Place) (few : homes_words entry whole places + length places ≤ next_frame) (some : 0 < length places) where
+module _ (entry : Option Entry) (whole : Expression) (places : List Place) (room : HasRoom entry whole places) (some : 0 < length places) where
   abbrev Low : ℕ → Type 0
   Low x = x < length places
 
@@ -60,7 +62,7 @@ module _ (entry : Option Entry) (whole : Expression) (places : List Place) (few 
         restored_alone inside Met L low apart ys parts.1 h.1,
       )
 
-  pub placed_tree : (e : Expression) (Met : Type 0) (inside : ℕ → Bool) (L : Later) → Uses Low e → Few (most_operands whole) e → LowLater L
+  pub placed_tree : (e : Expression) (Met : Type 0) (inside : ℕ → Bool) (L : Later) → Uses Low e → EachCall (λ tail a. length a.operands ≤ max_operands) e → LowLater L
       → BoundAlone lives e L → PointsApart lives e Met L → RestoresLive e Met L → restores_saved e inside ≡ true → Fresh e L → Placed (homes_plan entry whole places) e inside L
   placed_tree (perform o) Met inside L u f low alone apart restores saved fresh = tt
   placed_tree (bind y a b) Met inside L u f low alone apart restores saved fresh =
@@ -97,15 +99,15 @@ module _ (entry : Option Entry) (whole : Expression) (places : List Place) (few 
     by x (inr l) g = g l
   placed_tree (call a restores) Met inside L u f low alone apart restored saved fresh =
       let parts = and_parts _ (list_all inside restores) saved in (
-        brings entry whole places few false (FreeInCall (homes_plan entry whole places) (λ x. Perhaps (L x))) (λ k lt. call_free entry whole places few (λ x. Perhaps (L x)) k lt) a f u,
+        brings entry whole places room false a f u (FreeInCall (homes_plan entry whole places) (λ x. Perhaps (L x))) (free_in_call entry whole places room false a f u (λ x. Perhaps (L x))),
         (
-          λ x l. lives_own entry whole places few x (perhaps_is_low L low x l),
+          λ x l. lives_own entry whole places room x (perhaps_is_low L low x l),
           restored_alone inside Met L low (λ met. (apart met).1) restores parts.1 restored,
         ),
       )
   placed_tree (tail_call a) Met inside L u f low alone apart restores saved fresh = (
-    brings entry whole places few true (FreeInTail (homes_plan entry whole places)) (λ k lt. refl) a f u,
-    omega (arith, f, few),
+    brings entry whole places room true a f u (FreeInTail (homes_plan entry whole places)) (free_in_tail entry whole places room true a f u),
+    omega (arith, f),
   )
   placed_tree (return e) Met inside L u f low alone apart restores saved fresh = placed_tree e Met inside (λ x t. x ≡ 0) u f (λ x t i. omega (arith, i, some)) alone apart restores saved fresh
   placed_tree (end e) Met inside L u f low alone apart restores saved fresh = placed_tree e Met inside (λ x t. ⊥) u f (λ x t i. absurd i) alone apart restores saved fresh

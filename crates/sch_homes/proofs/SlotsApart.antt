@@ -1,17 +1,19 @@
--- Where things lie in the frame: variables' slots, the slots in which operands are set aside, and homes are apart.
-use Rattle.std.proofs.Common.{◌≡◌, ◌≢◌, ℕ, zero, suc, ◌+◌, ◌-◌, ◌<◌, ◌≤◌, List, [], ◌∷◌, length, Option, Some, None, Bool, true, false, cond, refl, sym, ap, ◌∙◌, subst, arith, ◌⊎◌, inl, inr}
+-- Where things lie in the frame: variables' slots, homes, and the slots in which arguments are set aside are apart.
+use Rattle.std.proofs.Common.{◌≡◌, ◌≢◌, ℕ, zero, suc, ◌+◌, ◌-◌, ◌<◌, ◌≤◌, List, [], ◌∷◌, length, Option, Some, None, Bool, true, false, cond, refl, sym, ap, ◌∙◌, subst, arith}
 use Rattle.std.specs.Prelude.{nat_lt, slice_get}
 use Rattle.std.proofs.Math.Nat.{le-max_left, le-max_right}
 use Rattle.std.proofs.lemmas.Bool.{ne_eqb, lt-ltb, ltb-true, ltb-false}
 use Rattle.sch_word.proofs.facts.Booleans.{false_true}
+use Rattle.sch_word.specs.trees.Shape.{max_operands}
 use Rattle.sch_word.specs.declared.place.Place.{Place}
 use Rattle.sch_word.specs.declared.place.Place.TheVariants.{Reg, Slot}
 use Rattle.sch_control.specs.declared.body.Entry.{Entry}
 use Rattle.sch_control.specs.Tree.{Expression}
 use Rattle.sch_frames.specs.Meaning.{is_slot, link_register, same_place}
-use Rattle.sch_layout.specs.OwnSlots.{most_operands}
+use Rattle.sch_frames.specs.Valid.{max_words}
 use Rattle.sch_layout.specs.SharedPlaces.{HomeApart, Homes}
-use Rattle.sch_homes.specs.Homes.{count_below, first_home, has_home, home, homes_plan, homes_words, late_slots, lives_in, next_frame, place, slots_end}
+use Rattle.sch_homes.specs.CallMoves.{next_frame}
+use Rattle.sch_homes.specs.Homes.{count_below, first_home, has_home, home, homes_end, homes_plan, late_slots, lives_in, place, slots_end}
 
 -- ## Lists of places
 
@@ -46,13 +48,6 @@ late_before_end late (Slot j ∷ places) =
     let more = late_before_end late places in
     omega (arith, le, more)
 
--- a slot in the frame: one of an argument, or behind those that are set aside
-pub in_frame_slot : (late aside j : ℕ) → ((j < late) × (cond (nat_lt j late) j (aside + j) ≡ j)) ⊎ ((late ≤ j) × (cond (nat_lt j late) j (aside + j) ≡ aside + j))
-in_frame_slot late aside j = by (nat_lt j late) refl where
-  by : (t : Bool) → nat_lt j late ≡ t → ((j < late) × (cond t j (aside + j) ≡ j)) ⊎ ((late ≤ j) × (cond t j (aside + j) ≡ aside + j))
-  by true e = inl (ltb-true j late e, refl)
-  by false e = inr (ltb-false j late e, refl)
-
 -- ## Counts
 
 pub count_less : (test : ℕ → Bool) (x more : ℕ) → test x ≡ true → count_below test x < count_below test (suc (x + more))
@@ -84,20 +79,14 @@ counts_apart test x y hx hy n e = by (nat_lt x y) refl where
 -- ## The frame of a body
 
 module _ (entry : Option Entry) (e : Expression) (places : List Place) where
-  abbrev late : ℕ
-  late = late_slots entry
-
-  abbrev aside : ℕ
-  aside = most_operands e
-
-  abbrev words : ℕ
-  words = homes_words entry e places
-
   abbrev first : ℕ
   first = first_home entry e places
 
   abbrev homed : ℕ → Bool
   homed = has_home entry e places
+
+  abbrev ends : ℕ
+  ends = homes_end entry e places
 
   -- what a variable's place is
   pub data Lives (x : ℕ) : Type 0 where
@@ -112,74 +101,75 @@ module _ (entry : Option Entry) (e : Expression) (places : List Place) where
     by (Some (Reg r)) i = register r i
     by (Some (Slot j)) i = slot j i
 
-  -- a variable's slot is before the homes, and none in which an operand is set aside
-  pub slot_before : (x j : ℕ) → slice_get places x ≡ Some (Slot j) → cond (nat_lt j late) j (aside + j) < first
-  slot_before x j h = by (in_frame_slot late aside j) where
-    lt : j < slots_end late places
-    lt = before_end late places x j h
+  -- a variable's slot is before the homes
+  pub slot_before : (x j : ℕ) → slice_get places x ≡ Some (Slot j) → j < first
+  slot_before x j h = before_end (late_slots entry) places x j h
 
-    by : ((j < late) × (cond (nat_lt j late) j (aside + j) ≡ j)) ⊎ ((late ≤ j) × (cond (nat_lt j late) j (aside + j) ≡ aside + j)) → cond (nat_lt j late) j (aside + j) < first
-    by (inl s) = let e = s.1 in let l = lt in omega (arith, e, l)
-    by (inr s) = let e = s.1 in let l = lt in omega (arith, e, l)
+  pub lives_before : (x j : ℕ) → x < length places → place entry e places x ≡ Slot j → j < first
+  lives_before x j lt h = by (lives x) where
+    has_one : (ps : List Place) (x : ℕ) → x < length ps → slice_get ps x ≡ None → ⊥
+    has_one [] x lt i = omega (arith, lt)
+    has_one (p ∷ ps) zero lt i = cc
+    has_one (p ∷ ps) (suc x) lt i = has_one ps x (omega (arith, lt)) i
 
-  -- no variable lives where an operand is set aside
-  pub aside_apart : (x k : ℕ) → k < aside → late + k < next_frame → same_place (place entry e places x) (Slot (late + k)) ≡ false
-  aside_apart x k lt low = by (lives x) where
-    same : (o : Option Place) → slice_get places x ≡ o → same_place (lives_in late aside o) (Slot (late + k)) ≡ false → same_place (place entry e places x) (Slot (late + k)) ≡ false
-    same o i h = ap (λ o. same_place (lives_in late aside o) (Slot (late + k))) i ∙ h
-
-    by : Lives x → same_place (place entry e places x) (Slot (late + k)) ≡ false
-    by (nowhere i) = same None i (ne_eqb next_frame (late + k) (λ e. omega (arith, e, low)))
-    by (register r i) = same (Some (Reg r)) i refl
-    by (slot j i) = same (Some (Slot j)) i (ne_eqb _ _ (one (in_frame_slot late aside j))) where
-      one : ((j < late) × (cond (nat_lt j late) j (aside + j) ≡ j)) ⊎ ((late ≤ j) × (cond (nat_lt j late) j (aside + j) ≡ aside + j)) → cond (nat_lt j late) j (aside + j) ≢ late + k
-      one (inl s) i = let a = s.0 in let b = s.1 in omega (arith, a, b, i, lt)
-      one (inr s) i = let a = s.0 in let b = s.1 in omega (arith, a, b, i, lt)
+    by : Lives x → j < first
+    by (nowhere i) = absurd (has_one places x lt i)
+    by (register r i) = absurd (let bad = sym (ap lives_in i) ∙ h in cc)
+    by (slot k i) =
+        let same : k ≡ j = ap (number_or 0) (ap Some (sym (ap lives_in i) ∙ h)) in
+        let less = slot_before x k i in
+        omega (arith, same, less)
 
   -- ## Homes
 
   abbrev home_number : ℕ → ℕ
-  home_number x = cond (homed x) (first + count_below homed x) (words + x)
+  home_number x = cond (homed x) (first + count_below homed x) (max_words + x)
 
   -- one that is saved has its home inside the frame
-  pub home_inside : (x : ℕ) → homed x ≡ true → x < length places → home_number x < words
+  pub home_inside : (x : ℕ) → homed x ≡ true → x < length places → home_number x < ends
   home_inside x h lt =
       let less = count_lt homed x (length places) h lt in
-      subst (λ t. cond t (first + count_below homed x) (words + x) < words) (sym h) (omega (arith, less))
-
-  home_least : (x : ℕ) → first ≤ home_number x
-  home_least x = by (homed x) where
-    by : (t : Bool) → first ≤ cond t (first + count_below homed x) (words + x)
-    by true = omega arith
-    by false = omega arith
-
-  home_most : (x : ℕ) → x < length places → home_number x < words + length places
-  home_most x lt = by (homed x) refl where
-    by : (t : Bool) → homed x ≡ t → cond t (first + count_below homed x) (words + x) < words + length places
-    by true h = let less = count_lt homed x (length places) h lt in omega (arith, less)
-    by false h = omega (arith, lt)
-
-  homes_differ : (x y : ℕ) → x < length places → y < length places → x ≢ y → home_number x ≢ home_number y
-  homes_differ x y lx ly n i = by (homed x) (homed y) refl refl i where
-    by : (t r : Bool) → homed x ≡ t → homed y ≡ r → cond t (first + count_below homed x) (words + x) ≡ cond r (first + count_below homed y) (words + y) → ⊥
-    by true true hx hy i = counts_apart homed x y hx hy n (omega (arith, i))
-    by true false hx hy i = let less = count_lt homed x (length places) hx lx in omega (arith, i, less)
-    by false true hx hy i = let less = count_lt homed y (length places) hy ly in omega (arith, i, less)
-    by false false hx hy i = n (omega (arith, i))
+      subst (λ t. cond t (first + count_below homed x) (max_words + x) < ends) (sym h) (omega (arith, less))
 
   -- a register is the place of a variable of the body
   pub in_table : (x : ℕ) → is_slot (place entry e places x) ≡ false → (r : ℕ) × (slice_get places x ≡ Some (Reg r))
   in_table x s = by (lives x) where
     by : Lives x → (r : ℕ) × (slice_get places x ≡ Some (Reg r))
-    by (nowhere i) = absurd (false_true (ap (λ o. is_slot (lives_in late aside o)) i) s)
+    by (nowhere i) = absurd (false_true (ap (λ o. is_slot (lives_in o)) i) s)
     by (register r i) = (r, i)
-    by (slot j i) = absurd (false_true (ap (λ o. is_slot (lives_in late aside o)) i) s)
+    by (slot j i) = absurd (false_true (ap (λ o. is_slot (lives_in o)) i) s)
 
-  module _ (few : words + length places ≤ next_frame) where
+  -- The homes of the frame, and as many slots as a call may have arguments, are no more than the largest frame has, and behind that
+  -- there is a slot for each variable.
+  pub record HasRoom : Type 0 where
+    pub ends_low : ends + suc max_operands ≤ max_words
+    pub many : max_words + length places ≤ next_frame
+
+  module _ (room : HasRoom) where
+    home_least : (x : ℕ) → first ≤ home_number x
+    home_least x = by (homed x) where
+      by : (t : Bool) → first ≤ cond t (first + count_below homed x) (max_words + x)
+      by true = omega arith
+      by false = let low = room.ends_low in omega (arith, low)
+
+    home_most : (x : ℕ) → x < length places → home_number x < max_words + length places
+    home_most x lt = by (homed x) refl where
+      by : (t : Bool) → homed x ≡ t → cond t (first + count_below homed x) (max_words + x) < max_words + length places
+      by true h = let less = count_lt homed x (length places) h lt in let low = room.ends_low in omega (arith, less, low)
+      by false h = omega (arith, lt)
+
+    homes_differ : (x y : ℕ) → x < length places → y < length places → x ≢ y → home_number x ≢ home_number y
+    homes_differ x y lx ly n i = by (homed x) (homed y) refl refl i where
+      by : (t r : Bool) → homed x ≡ t → homed y ≡ r → cond t (first + count_below homed x) (max_words + x) ≡ cond r (first + count_below homed y) (max_words + y) → ⊥
+      by true true hx hy i = counts_apart homed x y hx hy n (omega (arith, i))
+      by true false hx hy i = let less = count_lt homed x (length places) hx lx in let low = room.ends_low in omega (arith, i, less, low)
+      by false true hx hy i = let less = count_lt homed y (length places) hy ly in let low = room.ends_low in omega (arith, i, less, low)
+      by false false hx hy i = n (omega (arith, i))
+
     home_apart : (x : ℕ) → is_slot (place entry e places x) ≡ false → HomeApart (homes_plan entry e places) x
     home_apart x s = record {
       in_slot = refl;
-      own = let lt = home_most x (inside x s) in lt-ltb (home_number x) next_frame (omega (arith, lt, few));
+      own = let lt = home_most x (inside x s) in let many = room.many in lt-ltb (home_number x) next_frame (omega (arith, lt, many));
       places = λ y. apart y (lives y);
       homes = λ y r n. ne_eqb _ _ (homes_differ x y (inside x s) (inside y r) n);
     } where
@@ -188,20 +178,34 @@ module _ (entry : Option Entry) (e : Expression) (places : List Place) where
 
       apart : (y : ℕ) → Lives y → same_place (home entry e places x) (place entry e places y) ≡ false
       apart y (nowhere i) =
-          ap (λ o. same_place (home entry e places x) (lives_in late aside o)) i
-          ∙ (let lt = home_most x (inside x s) in ne_eqb (home_number x) next_frame (λ i. omega (arith, lt, few, i)))
-      apart y (register r i) = ap (λ o. same_place (home entry e places x) (lives_in late aside o)) i
+          ap (λ o. same_place (home entry e places x) (lives_in o)) i
+          ∙ (let lt = home_most x (inside x s) in let many = room.many in ne_eqb (home_number x) next_frame (λ i. omega (arith, lt, many, i)))
+      apart y (register r i) = ap (λ o. same_place (home entry e places x) (lives_in o)) i
       apart y (slot j i) =
-          ap (λ o. same_place (home entry e places x) (lives_in late aside o)) i
-          ∙ (let lt = slot_before y j i in let least = home_least x in ne_eqb (home_number x) _ (λ i. omega (arith, lt, least, i)))
+          ap (λ o. same_place (home entry e places x) (lives_in o)) i
+          ∙ (let lt = slot_before y j i in let least = home_least x in ne_eqb (home_number x) j (λ i. omega (arith, lt, least, i)))
 
     -- the return address lives in R15, and what lives in registers has homes
     pub homes_are : slice_get places 0 ≡ Some link_register → Homes (homes_plan entry e places)
-    homes_are link = record { link = ap (lives_in late aside) link; home = home_apart }
+    homes_are link = record { link = ap lives_in link; home = home_apart }
 
-  -- no operand is set aside in a home
-  pub home_aside : (x k : ℕ) → k < aside → same_place (home entry e places x) (Slot (late + k)) ≡ false
-  home_aside x k lt =
-      let least = home_least x in
-      let end = late_before_end late places in
-      ne_eqb (home_number x) (late + k) (λ i. omega (arith, least, end, lt, i))
+    -- ## Slots behind the homes
+
+    module _ (m : ℕ) (behind : ends ≤ m) (low : m < max_words) where
+      -- no variable lives there
+      pub lives_apart : (x : ℕ) → same_place (place entry e places x) (Slot m) ≡ false
+      lives_apart x = by (lives x) where
+        by : Lives x → same_place (place entry e places x) (Slot m) ≡ false
+        by (nowhere i) = ap (λ o. same_place (lives_in o) (Slot m)) i ∙ ne_eqb next_frame m (λ e. omega (arith, e, low))
+        by (register r i) = ap (λ o. same_place (lives_in o) (Slot m)) i
+        by (slot j i) = ap (λ o. same_place (lives_in o) (Slot m)) i ∙ (let lt = slot_before x j i in ne_eqb j m (λ e. omega (arith, e, lt, behind)))
+
+      -- and none is saved there
+      pub saved_apart : (x : ℕ) → is_slot (place entry e places x) ≡ false → same_place (home entry e places x) (Slot m) ≡ false
+      saved_apart x s = by (homed x) refl where
+        inside : x < length places
+        inside = let t = in_table x s in there places x (Reg t.0) t.1
+
+        by : (t : Bool) → homed x ≡ t → same_place (Slot (cond t (first + count_below homed x) (max_words + x))) (Slot m) ≡ false
+        by true h = let less = count_lt homed x (length places) h inside in ne_eqb _ m (λ e. omega (arith, e, less, behind))
+        by false h = ne_eqb _ m (λ e. omega (arith, e, low))

@@ -13,7 +13,7 @@ use Rattle.sch_control.specs.Tree.{Expression, perform, bind, sequence, branch, 
 use Rattle.sch_control.specs.flow.Live.{known, ByResult, AfterValue, Across, Later, Live, MayGive, Perhaps, Soon, nothing_later}
 use Rattle.sch_control.specs.flow.Regions.{restores_saved}
 use Rattle.sch_paths.specs.Conditions.{Fresh, Restored, Saved}
-use Rattle.sch_homes.specs.SoonRestored.{EachSoonRestored}
+use Rattle.sch_paths.specs.EachSoonRestored.{EachSoonRestored}
 
 -- behind an expression, what is live is wanted soon, as far as a path comes there
 abbrev SoonWhereLive : ℕ → Expression → (L S : Bool → Type 0) → Type 0

@@ -9,8 +9,9 @@ use Rattle.sch_word.specs.declared.place.Place.TheVariants.{Slot}
 use Rattle.sch_control.specs.declared.body.Entry.{Entry}
 use Rattle.sch_control.specs.Tree.{Expression}
 use Rattle.sch_layout.specs.BodyLayout.{Plan}
-use Rattle.sch_layout.specs.OwnSlots.{most_operands}
-use Rattle.sch_homes.specs.Homes.{count_below, first_home, has_home, home, homes_plan, homes_words, in_register, is_saved, late_slots, moves_aside, next_frame, slots_end}
+use Rattle.sch_frames.specs.Valid.{max_words}
+use Rattle.sch_homes.specs.CallMoves.{call_moves, next_frame}
+use Rattle.sch_homes.specs.Homes.{calls_end, count_below, first_home, has_home, home, homes_end, homes_plan, homes_words, in_register, is_saved, late_slots, slots_end}
 use Rattle.sch_homes.specs.HomeTable.{home_of, home_slots, place_in, table_plan}
 
 -- ## Lists that grow at the end
@@ -51,44 +52,37 @@ module _ (first : ℕ) (test : ℕ → Bool) where
         (subst (λ l. slice_get (home_slots first test (suc n)) l ≡ Some (cond (test n) (Some (first + count_below test n)) None)) (slots_length n)
         (get_last (home_slots first test n) (cond (test n) (Some (first + count_below test n)) None)))
 
-  pub home_read : (n words x : ℕ) → (n ≤ x → test x ≡ false) → home_of words x (slice_get (home_slots first test n) x) ≡ Slot (cond (test x) (first + count_below test x) (words + x))
-  home_read n words x past = by (nat_lt x n) refl where
-    chosen : (t : Bool) (j : ℕ) → home_of words x (Some (cond t (Some j) None)) ≡ Slot (cond t j (words + x))
+  pub home_read : (n x : ℕ) → (n ≤ x → test x ≡ false) → home_of x (slice_get (home_slots first test n) x) ≡ Slot (cond (test x) (first + count_below test x) (max_words + x))
+  home_read n x past = by (nat_lt x n) refl where
+    chosen : (t : Bool) (j : ℕ) → home_of x (Some (cond t (Some j) None)) ≡ Slot (cond t j (max_words + x))
     chosen true j = refl
     chosen false j = refl
 
-    by : (t : Bool) → nat_lt x n ≡ t → home_of words x (slice_get (home_slots first test n) x) ≡ Slot (cond (test x) (first + count_below test x) (words + x))
-    by true h = ap (home_of words x) (slot_of n x (ltb-true x n h)) ∙ chosen (test x) (first + count_below test x)
+    by : (t : Bool) → nat_lt x n ≡ t → home_of x (slice_get (home_slots first test n) x) ≡ Slot (cond (test x) (first + count_below test x) (max_words + x))
+    by true h = ap (home_of x) (slot_of n x (ltb-true x n h)) ∙ chosen (test x) (first + count_below test x)
     by false h =
         let more = ltb-false x n h in
         let l = slots_length n in
-        ap (home_of words x) (slice_get_past (home_slots first test n) x (omega (arith, more, l)))
-        ∙ ap (λ t. Slot (cond t (first + count_below test x) (words + x))) (sym (past more))
+        ap (home_of x) (slice_get_past (home_slots first test n) x (omega (arith, more, l)))
+        ∙ ap (λ t. Slot (cond t (first + count_below test x) (max_words + x))) (sym (past more))
 
 -- ## The plan
 
-abbrev with_homes : (late aside : ℕ) → List Place → (home : ℕ → Place) → Plan
-with_homes late aside places home = record {
-  place = place_in late aside places;
-  home = home;
-  limit = next_frame;
-  moves = moves_aside late (place_in late aside places);
-}
+abbrev with_homes : (end : ℕ) → List Place → (home : ℕ → Place) → Plan
+with_homes end places home = record { place = place_in places; home = home; limit = next_frame; moves = call_moves end (place_in places) }
 
 module _ (entry : Option Entry) (e : Expression) (places : List Place) where
-  home_is : (x : ℕ) → home_of (homes_words entry e places) x (slice_get (home_slots (first_home entry e places) (has_home entry e places) (length places)) x) ≡ home entry e places x
+  home_is : (x : ℕ) → home_of x (slice_get (home_slots (first_home entry e places) (has_home entry e places) (length places)) x) ≡ home entry e places x
   home_is x =
-      home_read (first_home entry e places) (has_home entry e places) (length places) (homes_words entry e places) x
+      home_read (first_home entry e places) (has_home entry e places) (length places) x
       (λ past. ap (λ o. in_register o && is_saved e x) (slice_get_past places x past))
 
-  pub table_is : (late aside words : ℕ) (homes : List (Option ℕ)) → late ≡ late_slots entry → aside ≡ most_operands e → words ≡ homes_words entry e places
-      → homes ≡ home_slots (first_home entry e places) (has_home entry e places) (length places) → table_plan late aside words places homes ≡ homes_plan entry e places
-  table_is late aside words homes l a w h =
-      ap (λ late. table_plan late aside words places homes) l
-      ∙ ap (λ aside. table_plan (late_slots entry) aside words places homes) a
-      ∙ ap (λ words. table_plan (late_slots entry) (most_operands e) words places homes) w
-      ∙ ap (table_plan (late_slots entry) (most_operands e) (homes_words entry e places) places) h
-      ∙ ap (with_homes (late_slots entry) (most_operands e) places) (fun_ext home_is)
+  pub table_is : (end : ℕ) (homes : List (Option ℕ)) → end ≡ homes_end entry e places → homes ≡ home_slots (first_home entry e places) (has_home entry e places) (length places)
+      → table_plan end places homes ≡ homes_plan entry e places
+  table_is end homes n h =
+      ap (λ end. table_plan end places homes) n
+      ∙ ap (table_plan (homes_end entry e places) places) h
+      ∙ ap (with_homes (homes_end entry e places) places) (fun_ext home_is)
 
   -- where a set that was empty has gained what is saved, a test of the set is the test for a home
   pub homes_by : (saved old : ℕ → Bool) → ((x : ℕ) → saved x ≡ (is_saved e x || old x)) → ((x : ℕ) → old x ≡ false)
@@ -99,20 +93,23 @@ module _ (entry : Option Entry) (e : Expression) (places : List Place) where
     alone false = refl
 
   -- with homes from behind the slots on, the table and the size of the frame are those of the body
-  pub room_is : (late aside end first words : ℕ) (read : List Place) (saved : ℕ → Bool) (homes : List (Option ℕ))
-      → read ≡ places → late ≡ late_slots entry → aside ≡ most_operands e → end ≡ slots_end late read → first ≡ aside + end
+  pub room_is : (late first end words : ℕ) (read : List Place) (saved : ℕ → Bool) (homes : List (Option ℕ))
+      → read ≡ places → late ≡ late_slots entry → first ≡ slots_end late read
       → (λ x. in_register (slice_get places x) && saved x) ≡ has_home entry e places
       → homes ≡ home_slots first (λ x. in_register (slice_get read x) && saved x) (length read)
-      → words ≡ first + count_below (λ x. in_register (slice_get read x) && saved x) (length read)
-      → (homes ≡ home_slots (first_home entry e places) (has_home entry e places) (length places)) × (words ≡ homes_words entry e places)
-  room_is late aside end first words read saved homes r l a n f t h w =
-      let begins : first ≡ first_home entry e places = f ∙ ap (λ k. k + end) a ∙ ap (λ k. most_operands e + k) (n ∙ ap (slots_end late) r ∙ ap (λ late. slots_end late places) l) in (
+      → end ≡ first + count_below (λ x. in_register (slice_get read x) && saved x) (length read)
+      → words ≡ calls_end end (place_in read) e
+      → (homes ≡ home_slots (first_home entry e places) (has_home entry e places) (length places)) × ((end ≡ homes_end entry e places) × (words ≡ homes_words entry e places))
+  room_is late first end words read saved homes r l f t h n w =
+      let begins : first ≡ first_home entry e places = f ∙ (ap (slots_end late) r ∙ ap (λ late. slots_end late places) l) in
+      let ends : end ≡ homes_end entry e places =
+      n
+      ∙ (ap (λ read. first + count_below (λ x. in_register (slice_get read x) && saved x) (length read)) r
+      ∙ (ap (λ test. first + count_below test (length places)) t
+      ∙ ap (λ first. first + count_below (has_home entry e places) (length places)) begins)) in (
         h
-            ∙ ap (λ read. home_slots first (λ x. in_register (slice_get read x) && saved x) (length read)) r
-            ∙ ap (λ test. home_slots first test (length places)) t
-            ∙ ap (λ first. home_slots first (has_home entry e places) (length places)) begins,
-        w
-            ∙ ap (λ read. first + count_below (λ x. in_register (slice_get read x) && saved x) (length read)) r
-            ∙ ap (λ test. first + count_below test (length places)) t
-            ∙ ap (λ first. first + count_below (has_home entry e places) (length places)) begins,
+            ∙ (ap (λ read. home_slots first (λ x. in_register (slice_get read x) && saved x) (length read)) r
+            ∙ (ap (λ test. home_slots first test (length places)) t
+            ∙ ap (λ first. home_slots first (has_home entry e places) (length places)) begins)),
+        (ends, w ∙ (ap (λ read. calls_end end (place_in read) e) r ∙ ap (λ end. calls_end end (place_in places) e) ends)),
       )

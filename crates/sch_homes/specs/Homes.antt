@@ -1,25 +1,16 @@
--- How a placed body lies in its frame: first the slots in which arguments arrive, then those in which the operands of a call are
--- set aside, then those of variables, and then the homes, one for each variable that lives in a register and is saved.
-use Rattle.std.specs.Prelude.{ℕ, zero, suc, ◌+◌, ◌-◌, max, Bool, true, false, ◌||◌, ◌&&◌, cond, nat_lt, List, [], ◌∷◌, ◌++◌, length, Option, None, Some, slice_get}
+-- How a placed body lies in its frame: first the slots in which arguments arrive, then those of variables, then the homes, one
+-- for each variable that lives in a register and is saved, and last those in which calls set arguments aside.
+use Rattle.std.specs.Prelude.{ℕ, zero, suc, ◌+◌, ◌-◌, max, Bool, true, false, ◌||◌, ◌&&◌, cond, List, [], ◌∷◌, length, Option, None, Some, slice_get}
 use Rattle.sch_word.specs.declared.place.Place.{Place}
 use Rattle.sch_word.specs.declared.place.Place.TheVariants.{Reg, Slot}
 use Rattle.sch_word.specs.trees.NumberSets.{has}
 use Rattle.sch_control.specs.declared.body.Entry.{Entry}
-use Rattle.sch_control.specs.declared.operation.Application.{Application}
-use Rattle.sch_control.specs.declared.operation.Atom.TheVariants.{Variable}
-use Rattle.sch_control.specs.declared.operation.Operand.{Operand}
-use Rattle.sch_control.specs.declared.operation.Operand.TheVariants as operand
 use Rattle.sch_control.specs.Meaning.{no_region}
-use Rattle.sch_control.specs.Tree.{Expression, bind, sequence, branch, fix, return, end, save}
+use Rattle.sch_control.specs.Tree.{Expression, perform, bind, sequence, branch, fix, call, tail_call, return, end, save}
 use Rattle.sch_frames.specs.Tree.{Code}
-use Rattle.sch_frames.specs.Valid.{formals_of}
-use Rattle.sch_layout.specs.BodyLayout.{Plan, entering, labels, lay, operand_at, operands_at, target}
-use Rattle.sch_layout.specs.Moves.{Move}
-use Rattle.sch_layout.specs.OwnSlots.{most_operands}
-
--- From this slot on a place is one of the frame that a call opens: more than a frame has words.
-abbrev pub next_frame : ℕ
-next_frame = 4096
+use Rattle.sch_frames.specs.Valid.{formals_of, max_words}
+use Rattle.sch_layout.specs.BodyLayout.{Plan, entering, labels, lay}
+use Rattle.sch_homes.specs.CallMoves.{call_end, call_moves, next_frame}
 
 -- ## The slots of variables
 
@@ -27,15 +18,10 @@ next_frame = 4096
 abbrev pub late_slots : Option Entry → ℕ
 late_slots entry = formals_of entry - 6
 
--- A variable's place in the frame. `late` slots are those of arguments, and behind these `aside` slots are set aside.
-abbrev pub in_frame : (late aside : ℕ) → Place → Place
-in_frame late aside (Reg r) = Reg r
-in_frame late aside (Slot j) = Slot (cond (nat_lt j late) j (aside + j))
-
--- the same by a variable's number; what is no variable of the body lives in no slot of its frame
-abbrev pub lives_in : (late aside : ℕ) → Option Place → Place
-lives_in late aside None = Slot next_frame
-lives_in late aside (Some p) = in_frame late aside p
+-- where a variable lives; what is no variable of the body lives in no slot of its frame
+abbrev pub lives_in : Option Place → Place
+lives_in None = Slot next_frame
+lives_in (Some p) = p
 
 -- one past the last slot in which a variable lives, and past those of arguments
 abbrev pub slots_end : (late : ℕ) → List Place → ℕ
@@ -66,26 +52,20 @@ abbrev pub count_below : (test : ℕ → Bool) → ℕ → ℕ
 count_below test zero = 0
 count_below test (suc x) = cond (test x) (suc (count_below test x)) (count_below test x)
 
--- ## The moves of calls
+-- ## Calls
 
--- operands from number k on are set aside, in the slots from `late + k` on
-abbrev pub set_aside : (late k : ℕ) → List (Operand Place) → List Move
-set_aside late k [] = []
-set_aside late k (o ∷ os) = record { argument = suc k; from = o; to = Slot (late + k); temp = true } ∷ set_aside late (suc k) os
-
--- and from there each goes to its target
-abbrev pub hand_over : (late : ℕ) → (tail : Bool) → (k count : ℕ) → List Move
-hand_over late tail k zero = []
-hand_over late tail k (suc count) =
-    record { argument = suc k; from = operand.Atom (Variable (Slot (late + k))); to = target tail next_frame (suc k); temp = false }
-    ∷ hand_over late tail (suc k) count
-
--- All operands are set aside, then the operator goes to its target, and then they go to theirs.
-abbrev pub moves_aside : (late : ℕ) → (place : ℕ → Place) → (tail : Bool) → Application ℕ → List Move
-moves_aside late place tail a =
-    set_aside late 0 (operands_at place a.operands)
-    ++ (record { argument = 0; from = operand_at place a.operator; to = target tail next_frame 0; temp = false }
-    ∷ hand_over late tail 0 (length a.operands))
+-- one past the last slot that some call of an expression needs, behind those in use
+abbrev pub calls_end : (used : ℕ) → (lives : ℕ → Place) → Expression → ℕ
+calls_end used lives (perform o) = used
+calls_end used lives (bind x a b) = max (calls_end used lives a) (calls_end used lives b)
+calls_end used lives (sequence a b) = max (calls_end used lives a) (calls_end used lives b)
+calls_end used lives (branch a b c) = max (calls_end used lives a) (max (calls_end used lives b) (calls_end used lives c))
+calls_end used lives (fix members e) = calls_end used lives e
+calls_end used lives (call a restores) = call_end used lives false a
+calls_end used lives (tail_call a) = call_end used lives true a
+calls_end used lives (return e) = calls_end used lives e
+calls_end used lives (end e) = calls_end used lives e
+calls_end used lives (save saves e) = calls_end used lives e
 
 -- ## Bodies: `places` has the place of each variable, by its number
 
@@ -94,26 +74,29 @@ module _ (entry : Option Entry) (e : Expression) (places : List Place) where
   late = late_slots entry
 
   abbrev pub place : ℕ → Place
-  place x = lives_in late (most_operands e) (slice_get places x)
+  place x = lives_in (slice_get places x)
 
   -- a variable that lives in a register and is saved
   abbrev pub has_home : ℕ → Bool
   has_home x = in_register (slice_get places x) && is_saved e x
 
-  -- where homes begin
+  -- where homes begin, and where they end
   abbrev pub first_home : ℕ
-  first_home = most_operands e + slots_end late places
+  first_home = slots_end late places
+
+  abbrev pub homes_end : ℕ
+  homes_end = first_home + count_below has_home (length places)
 
   -- the size of the frame
   abbrev pub homes_words : ℕ
-  homes_words = first_home + count_below has_home (length places)
+  homes_words = calls_end homes_end place e
 
-  -- homes are in the order of the variables; what is never saved would have its own behind the frame
+  -- homes are in the order of the variables; what is never saved would have its own behind the largest frame
   abbrev pub home : ℕ → Place
-  home x = Slot (cond (has_home x) (first_home + count_below has_home x) (homes_words + x))
+  home x = Slot (cond (has_home x) (first_home + count_below has_home x) (max_words + x))
 
   abbrev pub homes_plan : Plan
-  homes_plan = record { place = place; home = home; limit = next_frame; moves = moves_aside late place }
+  homes_plan = record { place = place; home = home; limit = next_frame; moves = call_moves homes_end place }
 
   -- how the body is laid out, whose tree has what regions save and what calls restore
   abbrev pub homes_code : Code

@@ -23,7 +23,7 @@ use Rattle.sch_frames.specs.Standing.{code_marks_stand}
 use Rattle.sch_frames.specs.Valid.{code_valid}
 use Rattle.sch_homes.specs.Homes.{homes_code, homes_plan, homes_words}
 use Rattle.sch_homes.specs.RestoresLive.{RestoresLive}
-use Rattle.sch_homes.specs.SoonRestored.{EachSoonRestored}
+use Rattle.sch_paths.specs.EachSoonRestored.{EachSoonRestored}
 
 -- What is kept of a body with places, of which `c` is what it is without regions and restores, and `e` its tree with them.
 pub record IsPlaced (c : Code) (e : Expression) (places : List Place) : Type 0 where

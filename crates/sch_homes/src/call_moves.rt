@@ -1,123 +1,161 @@
-//! The moves of calls: all operands are set aside, the operator goes to its target, and then the operands go to theirs.
+//! The moves of calls: those of a greedy shuffle of their arguments.
 
-ghost use Rattle.std.specs.Prelude.{◌≡◌, ◌++◌, ◌∷◌, [], false, length, IfOk, OnOk};
-ghost use Rattle.sch_layout.specs.BodyLayout.{operand_at, operands_at, target};
-ghost use Rattle.sch_writer.specs.View.{move_of, moves_of};
-ghost use Rattle.sch_homes.specs.Homes as homes;
-ghost use Rattle.sch_homes.specs.Homes.{next_frame};
+ghost use Rattle.std.specs.Prelude.{◌≡◌, map, length, cond, max, IfOk};
+ghost use Rattle.sch_layout.specs.BodyLayout.{arguments_at};
+ghost use Rattle.sch_shuffle.specs.View.{transfer_of, transfers_of};
+ghost use Rattle.sch_writer.specs.View as writer;
+ghost use Rattle.sch_writer.specs.View.{moves_of};
+ghost use Rattle.sch_homes.specs.CallMoves as calls;
+ghost use Rattle.sch_homes.specs.CallMoves.{aside_end, slot_end};
 ghost use Rattle.sch_homes.specs.HomeTable.{place_in};
 
-use crate::frame_places::{FramePlaces, NEXT_FRAME};
-use sch_control::{Atom, Operand};
-use sch_word::{List, Mem, Place, add_numbers};
-use sch_writer::{Move, operand_at, target};
+use crate::call_arguments::arguments;
+use crate::frame_places::FramePlaces;
+use crate::temporaries::{first_temporary, larger, spare_registers, targets, temporaries};
+use sch_control::{Application, Atom, Operand};
+use sch_shuffle::{Move as Step, Operand as Argument, make_moves};
+use sch_word::{Const, List, Mem, Place, add_numbers};
+use sch_writer::{Move, operand_at};
 use std::alloc::Global;
 
-// A call has at most 200 operands, so that no sum here is past the numbers of 32 bits.
-
-/// One move more.
-fn put_move(moves: &mut List<Move>, m: Move) -> Result<(), Mem>
-    ensures { OnOk result (moves_of moves.new ≡ moves_of moves.old ++ move_of m ∷ []) }
+/// A number of 32 bits; one past them is out of memory.
+pub(crate) fn short(n: usize) -> Result<u32, Mem>
+    ensures { IfOk result (λ m. m ≡ n) }
 {
-    moves.push(m)?;
-    Ok(())
+    match u32::try_from(n) {
+        Ok(m) => Ok(m),
+        Err(_) => Err(Mem),
+    }
 }
 
-/// The operand with `k` before it is set aside.
-fn put_aside(
+/// An argument of a call by its number. Past the last one there is nothing.
+fn argument_of(
     alloc: Global,
     lives: &FramePlaces<'_>,
+    a: &Application<u32>,
     k: u32,
-    o: &Operand<u32>,
-    moves: &mut List<Move>,
-) -> Result<(), Mem>
-    ensures { OnOk result (moves_of moves.new ≡ moves_of moves.old
-        ++ homes.set_aside lives.now.late k (operand_at (place_in lives.now.late lives.now.aside lives.now.places.now) o.now ∷ [])) }
+) -> Result<Operand<Place>, Mem>
+    ensures { IfOk result (λ o. o ≡ calls.argument_of (arguments_at (place_in lives.now.places.now) a.now) k) }
 {
-    let argument = add_numbers(k, 1)?;
-    let from = operand_at(alloc, lives, o)?;
-    let slot = add_numbers(lives.late, k)?;
-    let m = Move {
-        argument,
-        from,
-        to: Place::Slot(slot),
-        is_temporary: true,
-    };
-    put_move(moves, m)
+    if k == 0 {
+        return operand_at(alloc, lives, &a.operator);
+    }
+    match a.operands.get(k as usize - 1) {
+        Some(o) => operand_at(alloc, lives, o),
+        None => Ok(Operand::Atom(Atom::Constant(Const::Nil))),
+    }
 }
 
-/// All operands are set aside. How many they are.
-pub(crate) fn set_aside(
+/// What a move takes: what a place holds, or its argument, with its site.
+fn taken(
     alloc: Global,
     lives: &FramePlaces<'_>,
-    operands: &[Operand<u32>],
-    moves: &mut List<Move>,
+    a: &Application<u32>,
+    step: &Step,
+) -> Result<Operand<Place>, Mem>
+    ensures { IfOk result (λ o. o ≡ (calls.move_of (arguments_at (place_in lives.now.places.now) a.now) (transfer_of step.now)).from) }
+{
+    match &step.from {
+        Argument::Place(p) => Ok(Operand::Atom(Atom::Variable(*p))),
+        Argument::Fixed(_) => argument_of(alloc, lives, a, step.argument),
+        Argument::Literal(_) => argument_of(alloc, lives, a, step.argument),
+        Argument::Read(_, _) => argument_of(alloc, lives, a, step.argument),
+    }
+}
+
+/// A move of a shuffle, as the layout of the call has it.
+fn move_of(
+    alloc: Global,
+    lives: &FramePlaces<'_>,
+    a: &Application<u32>,
+    step: &Step,
+) -> Result<Move, Mem>
+    ensures { IfOk result (λ m. writer.move_of m ≡ calls.move_of (arguments_at (place_in lives.now.places.now) a.now) (transfer_of step.now)) }
+{
+    let from = taken(alloc, lives, a, step)?;
+    Ok(Move {
+        argument: step.argument,
+        from,
+        to: step.to,
+        is_temporary: step.temp,
+    })
+}
+
+/// The moves of a shuffle, as the layout of the call has them.
+fn moves_from(
+    alloc: Global,
+    lives: &FramePlaces<'_>,
+    a: &Application<u32>,
+    steps: &[Step],
+) -> Result<List<Move>, Mem>
+    ensures { IfOk result (λ moves. moves_of moves ≡ map (calls.move_of (arguments_at (place_in lives.now.places.now) a.now)) (transfers_of steps.now)) }
+{
+    let mut moves = List::new(alloc);
+    for step in steps {
+        moves.push(move_of(alloc, lives, a, step)?)?;
+    }
+    Ok(moves)
+}
+
+/// The moves of a call, whose arguments are set aside in registers that are spare, and in slots that are not in use. These end
+/// at `end`.
+///
+/// The time grows with the square of the number of arguments.
+pub(crate) fn call_moves(
+    alloc: Global,
+    lives: &FramePlaces<'_>,
+    end: u32,
+    tail: bool,
+    a: &Application<u32>,
+) -> Result<List<Move>, Mem>
+    ensures { IfOk result (λ moves. moves_of moves ≡ calls.call_moves end (place_in lives.now.places.now) tail a.now) }
+{
+    let args = arguments(alloc, lives, a)?;
+    let operands = short(a.operands.len())?;
+    let count = add_numbers(operands, 1)?;
+    let targets = targets(alloc, tail, count)?;
+    let spare = spare_registers(alloc, args.as_slice(), targets.as_slice())?;
+    let first = first_temporary(end, operands);
+    let free = temporaries(alloc, spare.as_slice(), first, count)?;
+    let steps = make_moves(alloc, args.as_slice(), targets.as_slice(), free.as_slice())?;
+    moves_from(alloc, lives, a, steps.as_slice())
+}
+
+/// One past the slot in which a move sets something aside, if it does.
+fn move_end(m: &Move) -> Result<u32, Mem>
+    ensures { IfOk result (λ n. n ≡ cond m.now.is_temporary (slot_end m.now.to) 0) }
+{
+    if !m.is_temporary {
+        return Ok(0);
+    }
+    match m.to {
+        Place::Reg(_) => Ok(0),
+        Place::Slot(j) => add_numbers(j, 1),
+    }
+}
+
+/// One past the last slot in which moves set something aside, where that is more than `end`.
+fn aside_end(end: u32, moves: &[Move]) -> Result<u32, Mem>
+    ensures { IfOk result (λ n. n ≡ aside_end end (moves_of moves.now)) }
+{
+    let mut most = end;
+    for m in moves {
+        most = larger(move_end(m)?, most);
+    }
+    Ok(most)
+}
+
+/// One past the last slot that a call needs.
+pub(crate) fn call_end(
+    alloc: Global,
+    lives: &FramePlaces<'_>,
+    end: u32,
+    tail: bool,
+    a: &Application<u32>,
 ) -> Result<u32, Mem>
-    ensures moves { OnOk result (moves_of moves.new ≡ moves_of moves.old
-        ++ homes.set_aside lives.now.late 0 (operands_at (place_in lives.now.late lives.now.aside lives.now.places.now) operands.now)) }
-    ensures count { IfOk result (λ n. n ≡ length operands.now) }
+    ensures { IfOk result (λ n. n ≡ calls.call_end end (place_in lives.now.places.now) tail a.now) }
 {
-    let mut next = 0;
-    for o in operands {
-        put_aside(alloc, lives, next, o, moves)?;
-        next = add_numbers(next, 1)?;
-    }
-    Ok(next)
-}
-
-/// The operator goes to its target.
-pub(crate) fn put_operator(
-    alloc: Global,
-    lives: &FramePlaces<'_>,
-    tail: bool,
-    o: &Operand<u32>,
-    moves: &mut List<Move>,
-) -> Result<(), Mem>
-    ensures { OnOk result (moves_of moves.new ≡ moves_of moves.old ++ record {
-      argument = 0;
-      from = operand_at (place_in lives.now.late lives.now.aside lives.now.places.now) o.now;
-      to = target tail next_frame 0;
-      temp = false;
-    } ∷ []) }
-{
-    let from = operand_at(alloc, lives, o)?;
-    let to = target(tail, NEXT_FRAME, 0)?;
-    let m = Move {
-        argument: 0,
-        from,
-        to,
-        is_temporary: false,
-    };
-    put_move(moves, m)
-}
-
-/// The operand with `k` before it goes from where it is set aside to its target.
-fn put_onward(late: u32, tail: bool, k: u32, moves: &mut List<Move>) -> Result<(), Mem>
-    ensures { OnOk result (moves_of moves.new ≡ moves_of moves.old ++ homes.hand_over late tail k 1) }
-{
-    let slot = add_numbers(late, k)?;
-    let argument = add_numbers(k, 1)?;
-    let to = target(tail, NEXT_FRAME, argument)?;
-    let m = Move {
-        argument,
-        from: Operand::Atom(Atom::Variable(Place::Slot(slot))),
-        to,
-        is_temporary: false,
-    };
-    put_move(moves, m)
-}
-
-/// The operands that are set aside go to their targets, the first before the others.
-pub(crate) fn hand_over(
-    late: u32,
-    tail: bool,
-    count: u32,
-    moves: &mut List<Move>,
-) -> Result<(), Mem>
-    ensures { OnOk result (moves_of moves.new ≡ moves_of moves.old ++ homes.hand_over late tail 0 count) }
-{
-    for k in 0..count {
-        put_onward(late, tail, k, moves)?;
-    }
-    Ok(())
+    let operands = short(a.operands.len())?;
+    let moves = call_moves(alloc, lives, end, tail, a)?;
+    aside_end(first_temporary(end, operands), moves.as_slice())
 }

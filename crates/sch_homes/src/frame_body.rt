@@ -13,7 +13,7 @@ ghost use Rattle.sch_frames.specs.Standing.{code_marks_stand};
 ghost use Rattle.sch_homes.specs.FewKept.{BodyKeepsFew};
 ghost use Rattle.sch_homes.specs.Homes.{homes_code};
 ghost use Rattle.sch_homes.specs.Laws.{AreDense};
-ghost use Rattle.sch_homes.specs.SoonRestored.{EachSoonRestored};
+ghost use Rattle.sch_paths.specs.EachSoonRestored.{EachSoonRestored};
 ghost use Rattle.sch_homes.specs.View.{bare_code};
 
 use crate::frame_places::{FramePlaces, Homes};
@@ -38,11 +38,12 @@ impl<const N: usize> Restores<Restoring<N>> for OwnRestores {
 
 /// The frame body of a body whose variables have places.
 ///
-/// A variable in a register has a slot of its own where it is saved, behind the slots of arguments, those in which the
-/// operands of a call are set aside, and those of variables. A call sets all its operands aside, brings its operator to its
-/// register, and then hands the operands over.
+/// A variable in a register has a slot of its own where it is saved, behind the slots of arguments and those of variables. The
+/// moves of a call are those of a greedy shuffle of its operator and its operands, which are set aside in registers that no
+/// argument uses or goes to, and then in slots behind those.
 ///
-/// Time and memory are linear in the body and in what is written, as `write_body` says. What is past the numbers of 32 bits,
+/// Time and memory are linear in the body and in what is written, as `write_body` says, but for calls: the time of a call grows
+/// with the square of the number of its operands, of which there are at most 200. What is past the numbers of 32 bits,
 /// for which a body needs 2^31 nodes, is answered as out of memory too.
 pub fn frame<const N: usize>(alloc: Global, b: &PlacedBody<N>) -> Result<FrameBody, Mem>
     requires soon { EachSoonRestored (restored b.now.exp) }
@@ -61,17 +62,16 @@ pub fn frame<const N: usize>(alloc: Global, b: &PlacedBody<N>) -> Result<FrameBo
         → 64 * code_work (code_of f) + 8 * copies_of f.instructions ≤ 72 * control_work.code_work (bare_code b.now)) }
 {
     let room = room_for(alloc, b)?;
-    let words = room.homes.end;
+    let words = room.words;
+    let end = room.homes.end;
     let lives = FramePlaces {
         places: b.places.as_slice(),
-        late: room.late,
-        aside: room.aside,
     };
     let allocation = Allocation {
         places: Homes {
             lives,
             homes: room.homes.homes,
-            words,
+            end,
         },
         restores: OwnRestores,
     };

@@ -1,45 +1,19 @@
-//! What a body needs room for in its frame: late arguments, operands that are set aside, variables, and homes.
+//! What a body needs room for in its frame: late arguments, variables, homes, and what calls set aside.
 
-ghost use Rattle.std.specs.Prelude.{◌≡◌, ◌∷◌, [], max, length, IfOk};
+ghost use Rattle.std.specs.Prelude.{◌≡◌, ◌∷◌, [], length, IfOk};
 ghost use Rattle.sch_control.specs.flow.RestoredView.{restored};
 ghost use Rattle.sch_homes.specs.Homes as homes;
-ghost use Rattle.sch_homes.specs.Homes.{first_home, has_home, homes_words};
-ghost use Rattle.sch_homes.specs.HomeTable.{home_slots};
-ghost use Rattle.sch_layout.specs.OwnSlots.{most_operands};
+ghost use Rattle.sch_homes.specs.Homes.{first_home, has_home, homes_end, homes_words};
+ghost use Rattle.sch_homes.specs.HomeTable.{home_slots, place_in};
 
+use crate::call_moves::call_end;
+use crate::frame_places::FramePlaces;
 use crate::saved_variables::{HomeSlots, give_homes, mark_saved};
+use crate::temporaries::larger;
 use sch_control::{Entry, Exp, PlacedBody, Restoring};
 use sch_sets::Set;
 use sch_word::{ARGUMENT_REGISTERS, Mem, Place, add_numbers};
 use std::alloc::Global;
-
-/// The larger of two numbers.
-fn larger(a: usize, b: usize) -> usize
-    ensures { result ≡ max a b }
-{
-    if a < b { b } else { a }
-}
-
-/// The most operands of one call.
-fn most_operands<const N: usize>(e: &Exp<Restoring<N>>) -> usize
-    ensures { result ≡ most_operands (restored e.now) }
-{
-    match e {
-        Exp::Do(_) => 0,
-        Exp::Bind(_, a, b) => larger(most_operands(a), most_operands(b)),
-        Exp::Seq(a, b) => larger(most_operands(a), most_operands(b)),
-        Exp::If(a, b, c) => {
-            let arms = larger(most_operands(b), most_operands(c));
-            larger(most_operands(a), arms)
-        }
-        Exp::Fix(_, e) => most_operands(e),
-        Exp::Call(a, _) => a.operands.len(),
-        Exp::TailCall(a) => a.operands.len(),
-        Exp::Return(e) => most_operands(e),
-        Exp::End(e) => most_operands(e),
-        Exp::Save(_, e) => most_operands(e),
-    }
-}
 
 /// In how many slots arguments arrive.
 fn late_slots(entry: Option<Entry>) -> u32
@@ -73,28 +47,62 @@ fn slots_end(late: u32, places: &[Place]) -> Result<u32, Mem>
     Ok(end)
 }
 
-/// The room of a body: how many slots arguments arrive in, how many are set aside, and the homes.
+/// The room of a body: the homes of its variables, and one past the last slot that it needs.
 #[derive(Drop)]
 pub(crate) struct Room {
-    pub late: u32,
-    pub aside: u32,
     pub homes: HomeSlots,
+    pub words: u32,
+}
+
+/// One past the last slot that some call of an expression needs, where slots are in use up to `used`.
+fn calls_end<const N: usize>(
+    alloc: Global,
+    lives: &FramePlaces<'_>,
+    used: u32,
+    e: &Exp<Restoring<N>>,
+) -> Result<u32, Mem>
+    ensures { IfOk result (λ n. n ≡ homes.calls_end used (place_in lives.now.places.now) (restored e.now)) }
+{
+    match e {
+        Exp::Do(_) => Ok(used),
+        Exp::Bind(_, a, b) => {
+            let first = calls_end(alloc, lives, used, a)?;
+            let second = calls_end(alloc, lives, used, b)?;
+            Ok(larger(first, second))
+        }
+        Exp::Seq(a, b) => {
+            let first = calls_end(alloc, lives, used, a)?;
+            let second = calls_end(alloc, lives, used, b)?;
+            Ok(larger(first, second))
+        }
+        Exp::If(a, b, c) => {
+            let test = calls_end(alloc, lives, used, a)?;
+            let first = calls_end(alloc, lives, used, b)?;
+            let second = calls_end(alloc, lives, used, c)?;
+            Ok(larger(test, larger(first, second)))
+        }
+        Exp::Fix(_, e) => calls_end(alloc, lives, used, e),
+        Exp::Call(a, _) => call_end(alloc, lives, used, false, a),
+        Exp::TailCall(a) => call_end(alloc, lives, used, true, a),
+        Exp::Return(e) => calls_end(alloc, lives, used, e),
+        Exp::End(e) => calls_end(alloc, lives, used, e),
+        Exp::Save(_, e) => calls_end(alloc, lives, used, e),
+    }
 }
 
 /// The room that a body needs. Its variables and operands are too few for a sum that is past the numbers of 32 bits.
 pub(crate) fn room_for<const N: usize>(alloc: Global, b: &PlacedBody<N>) -> Result<Room, Mem>
-    ensures late { IfOk result (λ r. r.late ≡ homes.late_slots b.now.entry) }
-    ensures aside { IfOk result (λ r. r.aside ≡ most_operands (restored b.now.exp)) }
     ensures homes { IfOk result (λ r. r.homes.homes ≡ home_slots (first_home b.now.entry (restored b.now.exp) b.now.places)
         (has_home b.now.entry (restored b.now.exp) b.now.places) (length b.now.places)) }
-    ensures words { IfOk result (λ r. r.homes.end ≡ homes_words b.now.entry (restored b.now.exp) b.now.places) }
+    ensures end { IfOk result (λ r. r.homes.end ≡ homes_end b.now.entry (restored b.now.exp) b.now.places) }
+    ensures words { IfOk result (λ r. r.words ≡ homes_words b.now.entry (restored b.now.exp) b.now.places) }
 {
     let mut saved = Set::new();
     mark_saved(&b.exp, &mut saved);
-    let late = late_slots(b.entry);
-    let aside = most_operands(&b.exp) as u32;
     let places = b.places.as_slice();
-    let first = add_numbers(aside, slots_end(late, places)?)?;
+    let first = slots_end(late_slots(b.entry), places)?;
     let homes = give_homes(alloc, places, &saved, first)?;
-    Ok(Room { late, aside, homes })
+    let lives = FramePlaces { places };
+    let words = calls_end(alloc, &lives, homes.end, &b.exp)?;
+    Ok(Room { homes, words })
 }

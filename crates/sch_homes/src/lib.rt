@@ -5,13 +5,17 @@ ghost use Rattle.sch_control.specs.flow.RestoredView.{restored};
 ghost use Rattle.sch_homes.specs.Laws.{HomesFramed, HomesPlaced, IsPlaced, MovesAreFew};
 ghost use Rattle.sch_homes.specs.View.{bare_code};
 
+mod call_arguments;
 mod call_moves;
 mod frame_body;
 mod frame_places;
 mod frame_room;
+mod listed_moves;
 mod saved_variables;
+mod temporaries;
 
 pub use frame_body::frame;
+pub use listed_moves::list_moves;
 use sch_control::PlacedBody;
 
 /// The law that a body with places, laid out in its frame, has what a layout asks of it. It is a call that does nothing, as

@@ -35,11 +35,9 @@ use Rattle.sch_frames.specs.Run.{run}
 use Rattle.sch_frames.specs.Sizes.{copies_of, instructions_size}
 use Rattle.sch_frames.specs.Tree.{Source}
 use Rattle.sch_frames.specs.Valid.{code_valid, is_valid}
-use Rattle.sch_layout.specs.LayoutSizes.{call_parts, calls_parts, entries_size, entry_size, most_words, nodes}
 use Rattle.sch_layout.specs.BodyLayout.{Plan, lay, unmarked_reading}
-use Rattle.sch_layout.specs.Asides.{aside_moves}
-use Rattle.sch_layout.specs.OwnSlots.{most_operands, saved_tree, slots_code, slots_layout, slots_words}
 use Rattle.sch_layout.specs.SharedPlaces.{HomeApart, Homes}
+use Rattle.sch_layout.proofs.SlotPlan.{aside_moves, most_operands, most_words, saved_tree, slots_code, slots_layout, slots_words}
 
 -- ## Words for the rows
 
@@ -427,13 +425,9 @@ with_objects_rows = (refl, refl)
 -- ## Sizes: two calls of one operand each; formals past the sixth, operands of a call; a list is spread
 
 size_rows :
-    (call_parts twice.expression ≡ 4)
-    × (calls_parts (twice ∷ twice ∷ []) ≡ 8)
-    × (nodes twice.expression ≡ 3)
-    × (expression_size twice.expression ≡ 7)
+    (expression_size twice.expression ≡ 7)
     × (instructions_size (slots_layout twice) ≡ 10)
     × (copies_of (slots_layout twice) ≡ 14)
-    × (entries_size (twice ∷ form 2 (end (perform (operation.Operand (number 1)))) ∷ []) ≡ 4)
     × (most_operands (bind 3 (call (applied 0 (held_in 2) eight) []) (tail_call (applied 1 (held_in 2) (number 1 ∷ [])))) ≡ 8)
     × (slots_words twice ≡ 7)
     × (slots_words (lambda 9 0 11 (return (perform (operation.Operand (held_in 10))))) ≡ 15)
@@ -441,7 +435,7 @@ size_rows :
     × (most_words (twice ∷ lambda 1 0 4 (tail_call (applied 0 (held_in 2) eight)) ∷ form 2 (end (perform (operation.Operand (number 1)))) ∷ []) ≡ 13)
     × (most_words (spreading ∷ twice ∷ []) ≡ 216)
     × (most_variables (lambda 1 0 4 (tail_call (applied 0 (held_in 2) eight)) ∷ twice ∷ form 2 (end (perform (operation.Operand (number 1)))) ∷ []) ≡ 5)
-size_rows = (refl, refl, refl, refl, refl, refl, refl, refl, refl, refl, refl, refl, refl, refl)
+size_rows = (refl, refl, refl, refl, refl, refl, refl, refl, refl, refl)
 
 -- ## Sizes: of (display (if (eq? x 7) x 7)) with its atoms and the test that is an operand, and of its layout
 
@@ -456,5 +450,4 @@ chosen_rows :
     × (expression_size displays.expression ≡ 13)
     × (instructions_size (slots_layout displays) ≡ 13)
     × (most_words (displays ∷ []) ≡ 5)
-    × (entry_size (Some (record { formals = 3; rest = false; fields = 0 })) ≡ 5)
-chosen_rows = (refl, refl, refl, refl, refl)
+chosen_rows = (refl, refl, refl, refl)

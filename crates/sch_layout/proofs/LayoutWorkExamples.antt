@@ -2,8 +2,8 @@
 use Rattle.std.proofs.Common.{◌≡◌, refl, [], ◌∷◌}
 use Rattle.sch_control.specs.Work as control_work
 use Rattle.sch_frames.specs.Sizes.{closures_in, code_work, copies_of, program_size, program_work}
-use Rattle.sch_layout.specs.OwnSlots.{slots_code}
 use Rattle.sch_layout.proofs.LayoutExamples.{covered, calling, framed, twice}
+use Rattle.sch_layout.proofs.SlotPlan.{slots_code}
 
 -- the group of one closure has one field, and its procedure is jumped over
 group_rows : (program_size (framed covered) ∷ closures_in (framed covered).bodies ∷ program_work (framed covered) ∷ control_work.codes_work covered.bodies ∷ []) ≡ 10 ∷ 2 ∷ 12 ∷ 15 ∷ []

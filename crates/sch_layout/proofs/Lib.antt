@@ -1,16 +1,17 @@
-pub mod Asides
 pub mod CarriedCopies
 pub mod does
+pub mod EachCall
 pub mod EntryCopies
 mod LayoutExamples
 mod LayoutWorkExamples
 pub mod layouts
+pub mod LowVariables
 pub mod marks
 mod MarkExamples
 mod MoveExamples
 pub mod MovesHave
-pub mod OwnPlaced
 mod PlacedExamples
-pub mod SavedTree
 mod SharedExamples
+mod SlotPlan
 mod Tables
+pub mod Targets

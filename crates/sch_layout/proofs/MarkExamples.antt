@@ -4,9 +4,9 @@ use Rattle.sch_word.specs.declared.mark.MarkKind.TheVariants as mark
 use Rattle.sch_control.specs.flow.Paths.{Binds, References, Saves, Calls, Tails, Returns, Ends}
 use Rattle.sch_control.proofs.Examples.{applied, held_in, number}
 use Rattle.sch_layout.specs.OwnMarks.{RestoresAfterCalls, SavesThenCalls}
-use Rattle.sch_layout.specs.OwnSlots.{slots_for}
 use Rattle.sch_layout.specs.PathMarks.{entry_marks, path_marks}
 use Rattle.sch_layout.proofs.LayoutExamples.{placed, twice}
+use Rattle.sch_layout.proofs.SlotPlan.{slots_for}
 
 -- ## Paths: variables 4 and 5 live in slots, the others in registers
 

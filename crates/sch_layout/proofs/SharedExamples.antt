@@ -28,7 +28,6 @@ use Rattle.sch_frames.specs.declared.instruction.Instruction.TheVariants.{Do, St
 use Rattle.sch_frames.specs.Does.{EndsAs, CalleesFollow, world}
 use Rattle.sch_frames.specs.Meaning.{Frame, is_slot, same_place, execute_each}
 use Rattle.sch_layout.specs.BodyLayout.{Plan, arguments_at, entering, lay, target, unmarked_reading}
-use Rattle.sch_layout.specs.Asides.{aside_moves}
 use Rattle.sch_layout.specs.Moves.{Contents, is_own, moved}
 use Rattle.sch_control.specs.flow.Live.{Live, Mentions, nothing_later}
 use Rattle.sch_layout.specs.SharedPlaces.{Arrives, Brings, FreeInCall, HomeApart, Homes, Placed}
@@ -36,6 +35,7 @@ use Rattle.sch_layout.proofs.does.LayoutDoes.{Kept, same}
 use Rattle.sch_layout.proofs.does.PlacesAgree.{Agrees}
 use Rattle.sch_layout.proofs.LayoutExamples.{begun, given, gives_first, holding, variables}
 use Rattle.sch_layout.proofs.MoveExamples.{given_by}
+use Rattle.sch_layout.proofs.SlotPlan.{aside_moves}
 
 -- what is so of each number of a list is so of one that is in it
 pub each_at : (P : ℕ → Type 0) (xs : List ℕ) → EachHas P xs → (x : ℕ) → has x xs ≡ true → P x

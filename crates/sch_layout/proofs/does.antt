@@ -6,4 +6,3 @@ pub mod MovesDo
 pub mod OperationsFollow
 pub mod PlacedBodies
 pub mod PlacesAgree
-pub mod SavedRound

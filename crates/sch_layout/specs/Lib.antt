@@ -1,10 +1,7 @@
-pub mod Asides
 pub mod BodyLayout
 pub mod FewCopies
-pub mod LayoutSizes
 pub mod Laws
 pub mod Moves
 pub mod OwnMarks
-pub mod OwnSlots
 pub mod PathMarks
 pub mod SharedPlaces

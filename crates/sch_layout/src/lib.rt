@@ -1,11 +1,10 @@
 //! The layout of bodies, on plain trees, and its laws: what a body that is laid out does, the marks on the ways through it
-//! and where they stand, and the layout with a slot for each variable.
+//! and where they stand, and how long its text is.
 #![tactic(auto)]
 
 ghost use Rattle.sch_layout.specs.FewCopies.{FewCopiesFit};
 ghost use Rattle.sch_layout.specs.Laws.{LaidBodiesDo, LaidMarksStand, WaysArePaths};
 ghost use Rattle.sch_layout.specs.OwnMarks.{OwnMarksStand};
-ghost use Rattle.sch_layout.specs.OwnSlots.{OwnSlotsPlaced};
 
 /// The law that a body which is laid out does what its tree does, whatever moves bring the arguments of its calls. Like
 /// the other laws here it is a call that does nothing.
@@ -28,11 +27,6 @@ pub fn laid_marks_stand()
 /// it so, and that a restore comes after a call with only restores between.
 pub fn own_marks_stand()
     ensures { OwnMarksStand }
-{}
-
-/// The law that a slot for each variable, with arguments set aside in slots behind these, serves for any tree.
-pub fn own_slots_placed()
-    ensures { OwnSlotsPlaced }
 {}
 
 /// The law that the text of a layout is within 72 bytes for each unit of work of its body, where no more variables are saved

@@ -57,8 +57,8 @@ module _ (own globals symbols : List (List ℕ)) (v : Option (List ℕ)) {d : Dr
       x ≡ numbered own globals symbols None e s2 l2 → q ≡ numbered own globals symbols v d s l
   letrec_made site s1 l1 s2 l2 h m w t i j p k n r = rw (h, m, t, p, r, k, n, i, j, w) refl
 
-  pub call_made : {f : Draft} {es : Drafts} {x : Expression} {xs : Expressions} (site s1 l1 s2 l2 : ℕ) → d ≡ call f es → q ≡ tree.call site x xs → site ≡ s → s1 ≡ s + 1 → l1 ≡ l →
-      x ≡ numbered own globals symbols None f s1 l1 → s2 ≡ s1 + length (widths f) → l2 ≡ l1 + length (quotes_in f) → xs ≡ numbered_each own globals symbols [] es s2 l2 → q ≡ numbered own globals symbols v d s l
+  pub call_made : {vs : Names} {f : Draft} {es : Drafts} {x : Expression} {xs : Expressions} (site s1 l1 s2 l2 : ℕ) → d ≡ call vs f es → q ≡ tree.call site x xs → site ≡ s → s1 ≡ s + 1 → l1 ≡ l →
+      x ≡ numbered own globals symbols None f s1 l1 → s2 ≡ s1 + length (widths f) → l2 ≡ l1 + length (quotes_in f) → xs ≡ numbered_each own globals symbols vs es s2 l2 → q ≡ numbered own globals symbols v d s l
   call_made site s1 l1 s2 l2 h m t i j p k n r = rw (h, m, t, p, r, k, n, i, j) refl
 
   pub operation_made : {p : Primitive} {es : Drafts} {xs : Expressions} (site s1 l1 : ℕ) → d ≡ operation p es → q ≡ tree.operation site p xs → site ≡ s → s1 ≡ s + 1 → l1 ≡ l →
@@ -80,8 +80,8 @@ module _ {d : Draft} (s : List ℕ) {s1 s2 s3 : List ℕ} where
   letrec_sites {group = group} {es} {e} {n} h w k p q r =
       rw (h, sym w, sym k) (then_sites s (unless_group group n) (widths_of_each es ++ widths e) p (then_sites s1 (widths_of_each es) (widths e) q r))
 
-  pub call_sites : {f : Draft} {es : Drafts} {n : ℕ} → d ≡ call f es → n ≡ count es → s1 ≡ s ++ suc n ∷ [] → s2 ≡ s1 ++ widths f → s3 ≡ s2 ++ widths_of_each es → s3 ≡ s ++ widths d
-  call_sites {f} {es} {n} h w p q r =
+  pub call_sites : {vs : Names} {f : Draft} {es : Drafts} {n : ℕ} → d ≡ call vs f es → n ≡ count es → s1 ≡ s ++ suc n ∷ [] → s2 ≡ s1 ++ widths f → s3 ≡ s2 ++ widths_of_each es → s3 ≡ s ++ widths d
+  call_sites {f = f} {es} {n} h w p q r =
       rw h (subst (λ n. s3 ≡ s ++ suc n ∷ (widths f ++ widths_of_each es)) w (then_sites s (suc n ∷ []) (widths f ++ widths_of_each es) p (then_sites s1 (widths f) (widths_of_each es) q r)))
 
 pub operation_sites : {d : Draft} (s : List ℕ) {s1 s2 : List ℕ} {p : Primitive} {es : Drafts} {n : ℕ} → d ≡ operation p es → n ≡ count es → s1 ≡ s ++ n ∷ [] → s2 ≡ s1 ++ widths_of_each es → s2 ≡ s ++ widths d
@@ -99,8 +99,8 @@ module _ (f : Datum → Literal) {d : Draft} (s : List Literal) {s1 s2 s3 : List
   pub letrec_literals : {vs : Names} {g : Bool} {es : Drafts} {e : Draft} → d ≡ letrec vs g es e → s1 ≡ s → s2 ≡ s1 ++ map f (quotes_in_each es) → s3 ≡ s2 ++ map f (quotes_in e) → s3 ≡ s ++ map f (quotes_in d)
   letrec_literals {es = es} {e} h z p q = rw (h, sym z) (then_literals f (quotes_in_each es) (quotes_in e) s1 p q)
 
-  pub call_literals : {g : Draft} {es : Drafts} → d ≡ call g es → s1 ≡ s → s2 ≡ s1 ++ map f (quotes_in g) → s3 ≡ s2 ++ map f (quotes_in_each es) → s3 ≡ s ++ map f (quotes_in d)
-  call_literals {g} {es} h z p q = rw (h, sym z) (then_literals f (quotes_in g) (quotes_in_each es) s1 p q)
+  pub call_literals : {vs : Names} {g : Draft} {es : Drafts} → d ≡ call vs g es → s1 ≡ s → s2 ≡ s1 ++ map f (quotes_in g) → s3 ≡ s2 ++ map f (quotes_in_each es) → s3 ≡ s ++ map f (quotes_in d)
+  call_literals {g = g} {es} h z p q = rw (h, sym z) (then_literals f (quotes_in g) (quotes_in_each es) s1 p q)
 
 -- ## Names
 

@@ -14,5 +14,5 @@ IsLetrec (letrec names procedures es e) = Unit {0}
 IsLetrec _ = ⊥
 
 abbrev pub IsCall : Draft → Type 0
-IsCall (call f es) = Unit {0}
+IsCall (call vs f es) = Unit {0}
 IsCall _ = ⊥

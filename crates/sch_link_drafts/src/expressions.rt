@@ -125,7 +125,7 @@ pub fn number(
             let made = procedure(alloc, v, *formals, *rest, body)?;
             Ok(made)
         }
-        Draft::Call(_, _) => Ok(number_call(alloc, tables, e, out)?),
+        Draft::Call(_, _, _) => Ok(number_call(alloc, tables, e, out)?),
         Draft::Prim(p, es) => {
             let site = new_site(out, es.len())?;
             let operands = number_each(alloc, tables, &[], es.as_slice(), out)?;
@@ -225,12 +225,12 @@ fn number_call(
     ensures literals { OnOk result (map literal out.new.literals ≡ literals_with tables.now out.old (quotes_in (draft_of e.now))) }
     ensures constants { OnOk result (HasConstants (draft_of e.now)) }
 {
-    let Draft::Call(f, es) = e else {
+    let Draft::Call(names, f, es) = e else {
         unreachable!();
     };
     let site = call_site(out, es.len())?;
     let operator = number(alloc, tables, None, f, out)?;
-    let operands = number_each(alloc, tables, &[], es.as_slice(), out)?;
+    let operands = number_each(alloc, tables, names.as_slice(), es.as_slice(), out)?;
     let made = call(alloc, site, operator, operands)?;
     Ok(made)
 }

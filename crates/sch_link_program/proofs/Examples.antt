@@ -7,7 +7,7 @@ use Rattle.sch_link_program.specs.Size.{size_of_definitions}
 
 -- a call of two parts in a procedure of two formals
 abbrev twice : Draft
-twice = lambda 2 true (call (local 1) (and_draft (local 0) no_drafts))
+twice = lambda 2 true (call [] (local 1) (and_draft (local 0) no_drafts))
 
 twice_size : size twice ≡ 6
 twice_size = refl

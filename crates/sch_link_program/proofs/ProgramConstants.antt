@@ -55,8 +55,8 @@ module _ (own globals symbols : List (List ℕ)) where
         let n = s + length (unless_group (is_group p es e) (count es)) in
         grouped_ranged (is_group p es e) s _ _ (all_constants_kept vs es n l h.0) (constants_kept None e (n + length (widths_of_each es)) (l + length (quotes_in_each es)) h.1)
     constants_kept v (lambda n r e) s l h = constants_kept None e s l h
-    constants_kept v (call f es) s l h =
-        and_from _ _ (constants_kept None f (s + 1) l h.0) (all_constants_kept [] es (s + 1 + length (widths f)) (l + length (quotes_in f)) h.1)
+    constants_kept v (call vs f es) s l h =
+        and_from _ _ (constants_kept None f (s + 1) l h.0) (all_constants_kept vs es (s + 1 + length (widths f)) (l + length (quotes_in f)) h.1)
     constants_kept v (operation p es) s l h = all_constants_kept [] es (s + 1) l h
 
     all_constants_kept : (vs : Names) (es : Drafts) (s l : ℕ) → HaveConstants es → ranged_each (numbered_each own globals symbols vs es s l) ≡ true

@@ -80,8 +80,8 @@ module _ (own globals symbols : List (List ℕ)) where
           numbered_size None e (n + length (widths_of_each es)) (l + length (quotes_in_each es)),
         )
     numbered_size v (lambda n r e) s l = omega (arith, numbered_size None e s l)
-    numbered_size v (call f es) s l =
-        omega (arith, numbered_size None f (s + 1) l, numbered_sizes [] es (s + 1 + length (widths f)) (l + length (quotes_in f)))
+    numbered_size v (call vs f es) s l =
+        omega (arith, numbered_size None f (s + 1) l, numbered_sizes vs es (s + 1 + length (widths f)) (l + length (quotes_in f)))
     numbered_size v (operation p es) s l = omega (arith, numbered_sizes [] es (s + 1) l)
 
     pub numbered_sizes : (vs : Names) (es : Drafts) (s l : ℕ) → nodes_each (numbered_each own globals symbols vs es s l) ≤ size_each es

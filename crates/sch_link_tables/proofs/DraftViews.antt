@@ -55,8 +55,9 @@ letrec_view vs g es b e r p q = rw (r, p, q) (ap draft_of (e ∙ sym (rolls-Letr
 pub lambda_view : {d : code.Draft} (n : ℕ) (r : Bool) (b : Box code.Draft Memory) {x : code.Draft} → d ≡ Lambda n r b → x ≡ b.value → draft_of d ≡ plain.lambda n r (draft_of x)
 lambda_view n r b e q = rw q (ap draft_of (e ∙ sym (rolls-Lambda n r b)) ∙ fold-roll-Draft plain.Draft draft_view (Draft-F.Lambda n r b))
 
-pub call_view : {d : code.Draft} (f : Box code.Draft Memory) (es : List code.Draft) {x : code.Draft} {xs : List code.Draft} → d ≡ Call f es → x ≡ f.value → xs ≡ es → draft_of d ≡ plain.call (draft_of x) (drafts_of xs)
-call_view f es e p q = rw (p, q) (ap draft_of (e ∙ sym (rolls-Call f es)) ∙ fold-roll-Draft plain.Draft draft_view (Draft-F.Call f es))
+pub call_view : {d : code.Draft} (vs : List (Option (Bor (List ℕ)))) (f : Box code.Draft Memory) (es : List code.Draft) {ws : List (Option (Bor (List ℕ)))} {x : code.Draft} {xs : List code.Draft} → d ≡ Call vs f es → ws ≡ vs → x ≡ f.value → xs ≡ es →
+    draft_of d ≡ plain.call (given_names ws) (draft_of x) (drafts_of xs)
+call_view vs f es e r p q = rw (r, p, q) (ap draft_of (e ∙ sym (rolls-Call vs f es)) ∙ fold-roll-Draft plain.Draft draft_view (Draft-F.Call vs f es))
 
 pub operation_view : {d : code.Draft} (p : Primitive) (es : List code.Draft) {xs : List code.Draft} → d ≡ Prim p es → xs ≡ es → draft_of d ≡ plain.operation p (drafts_of xs)
 operation_view p es e q = rw q (ap draft_of (e ∙ sym (rolls-Prim p es)) ∙ fold-roll-Draft plain.Draft draft_view (Draft-F.Prim p es))

@@ -14,7 +14,7 @@ first : Definition
 first = record { name = codes "f"; formals = 1; rest = false; body = local 0 }
 
 second : Definition
-second = record { name = codes "g"; formals = 1; rest = false; body = call (global (codes "f")) (and_draft (local 0) no_drafts) }
+second = record { name = codes "g"; formals = 1; rest = false; body = call [] (global (codes "f")) (and_draft (local 0) no_drafts) }
 
 third : Definition
 third = record { name = codes "%h"; formals = 0; rest = false; body = constant Nil }
@@ -46,7 +46,7 @@ unfolding first second third
 held_is_seen = refl
 
 -- a definition that names itself alone is not kept, nor does an earlier one keep a later
-not_kept_alone : kept (record { name = codes "r"; formals = 0; rest = false; body = call (global (codes "r")) no_drafts } ∷ []) [] ≡ []
+not_kept_alone : kept (record { name = codes "r"; formals = 0; rest = false; body = call [] (global (codes "r")) no_drafts } ∷ []) [] ≡ []
 not_kept_alone = refl
 
 not_kept_by_earlier : names_of_each (kept (second ∷ first ∷ []) (library_global (codes "g") ∷ [])) ≡ codes "g" ∷ []
@@ -56,7 +56,7 @@ not_kept_by_earlier = refl
 -- `(define g 1) (f g)` sees the library's f; its g holds the library's at the start, so both are kept
 abbrev forms : Drafts
 forms =
-    and_draft (define (codes "g") (constant Unspecified)) (and_draft (call (global (codes "f")) (and_draft (global (codes "g")) no_drafts)) no_drafts)
+    and_draft (define (codes "g") (constant Unspecified)) (and_draft (call [] (global (codes "f")) (and_draft (global (codes "g")) no_drafts)) no_drafts)
 
 -- the library's f comes first, since its g names it; then the text's g, which starts as the library's
 globals_in_order : (program_of library (codes "g" ∷ []) forms).statics.globals ≡ Some 0 ∷ Some 1 ∷ []
@@ -104,7 +104,7 @@ two_literals = refl
 
 -- a group of procedures is no site; where a variable is assigned it is one, before the sites in it
 abbrev one_procedure : Draft
-one_procedure = lambda 0 false (call (local 0) no_drafts)
+one_procedure = lambda 0 false (call [] (local 0) no_drafts)
 
 group : numbered [] [] [] None (letrec (Some (codes "p") ∷ []) true (and_draft one_procedure no_drafts) (local 0)) 5 0 ≡
     tree.fix (tree.and_lambda (codes "p") 0 false (tree.call 5 (tree.local 0) tree.no_expressions) tree.no_lambdas) (tree.local 0)
@@ -123,12 +123,12 @@ not_its_init = refl
 abbrev quoted : Draft
 quoted = literal (list 0 none)
 
-operator_first : numbered [] [] [] None (call (call (local 0) no_drafts) (and_draft quoted (and_draft (call quoted no_drafts) no_drafts))) 3 7 ≡
+operator_first : numbered [] [] [] None (call [] (call [] (local 0) no_drafts) (and_draft quoted (and_draft (call [] quoted no_drafts) no_drafts))) 3 7 ≡
     tree.call 3 (tree.call 4 (tree.local 0) tree.no_expressions)
     (tree.and_expression (tree.literal 7) (tree.and_expression (tree.call 5 (tree.literal 8) tree.no_expressions) tree.no_expressions))
 operator_first = refl
 
-branches_in_order : numbered [] [] [] None (branch (call quoted no_drafts) (call quoted no_drafts) (call quoted no_drafts)) 3 7 ≡
+branches_in_order : numbered [] [] [] None (branch (call [] quoted no_drafts) (call [] quoted no_drafts) (call [] quoted no_drafts)) 3 7 ≡
     tree.branch (tree.call 3 (tree.literal 7) tree.no_expressions) (tree.call 4 (tree.literal 8) tree.no_expressions) (tree.call 5 (tree.literal 9) tree.no_expressions)
 branches_in_order = refl
 
@@ -139,3 +139,10 @@ inits_have_names : numbered [] [] [] (Some (codes "v")) (bind (None ∷ Some (co
     (tree.and_expression (tree.lambda (codes "p") 0 false (tree.call 5 (tree.local 0) tree.no_expressions)) tree.no_expressions))
     (tree.lambda (codes "lambda") 0 false (tree.call 6 (tree.local 0) tree.no_expressions))
 inits_have_names = refl
+
+-- each operand of a call that begins a loop has the name of its own variable, and its operator has none
+operands_have_names : numbered [] [] [] None (call (Some (codes "g") ∷ []) one_procedure (and_draft one_procedure (and_draft one_procedure no_drafts))) 3 7 ≡
+    tree.call 3 (tree.lambda (codes "lambda") 0 false (tree.call 4 (tree.local 0) tree.no_expressions))
+    (tree.and_expression (tree.lambda (codes "g") 0 false (tree.call 5 (tree.local 0) tree.no_expressions))
+    (tree.and_expression (tree.lambda (codes "lambda") 0 false (tree.call 6 (tree.local 0) tree.no_expressions)) tree.no_expressions))
+operands_have_names = refl

@@ -29,8 +29,8 @@ module _ {d : Draft} (from : ℕ) (bs : List Bool) {cs ds : List Bool} where
       rw h (then_marked (λ j. assigns_each es (j + count es)) (λ j. assigns b (j + count es)) from bs
       (inside_marked (assigns_each es) (count es) from m bs k p) (inside_marked (assigns b) (count es) from m cs k q))
 
-  pub call_marked : {f : Draft} {es : Drafts} → d ≡ call f es → cs ≡ marked (assigns f) from bs → ds ≡ marked (assigns_each es) from cs → ds ≡ marked (assigns d) from bs
-  call_marked {f} {es} h p q = rw h (then_marked (assigns f) (assigns_each es) from bs p q)
+  pub call_marked : {vs : Names} {f : Draft} {es : Drafts} → d ≡ call vs f es → cs ≡ marked (assigns f) from bs → ds ≡ marked (assigns_each es) from cs → ds ≡ marked (assigns d) from bs
+  call_marked {f = f} {es} h p q = rw h (then_marked (assigns f) (assigns_each es) from bs p q)
 
 module _ {d : Draft} (from : ℕ) (bs : List Bool) {cs : List Bool} where
   pub lambda_marked : {n : ℕ} {r : Bool} {b : Draft} (m : ℕ) → d ≡ lambda n r b → m ≡ from + n → cs ≡ marked (assigns b) m bs → cs ≡ marked (assigns d) from bs

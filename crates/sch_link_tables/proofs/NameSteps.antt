@@ -49,8 +49,8 @@ module _ (own n0 : List (List ℕ)) {d : Draft} {n1 n2 : List (List ℕ)} where
   pub letrec_globals : {vs : Names} {g : Bool} {es : Drafts} {e : Draft} → d ≡ letrec vs g es e → n1 ≡ firsts n0 (globals_in_each own es) → n2 ≡ firsts n1 (globals_in own e) → n2 ≡ firsts n0 (globals_in own d)
   letrec_globals {es = es} {e} h p q = rw h (then_named (globals_in_each own es) (globals_in own e) n0 p q)
 
-  pub call_globals : {f : Draft} {es : Drafts} → d ≡ call f es → n1 ≡ firsts n0 (globals_in own f) → n2 ≡ firsts n1 (globals_in_each own es) → n2 ≡ firsts n0 (globals_in own d)
-  call_globals {f} {es} h p q = rw h (then_named (globals_in own f) (globals_in_each own es) n0 p q)
+  pub call_globals : {vs : Names} {f : Draft} {es : Drafts} → d ≡ call vs f es → n1 ≡ firsts n0 (globals_in own f) → n2 ≡ firsts n1 (globals_in_each own es) → n2 ≡ firsts n0 (globals_in own d)
+  call_globals {f = f} {es} h p q = rw h (then_named (globals_in own f) (globals_in_each own es) n0 p q)
 
   pub branch_globals : {a b c : Draft} {n3 : List (List ℕ)} → d ≡ branch a b c → n1 ≡ firsts n0 (globals_in own a) → n2 ≡ firsts n1 (globals_in own b) → n3 ≡ firsts n2 (globals_in own c) → n3 ≡ firsts n0 (globals_in own d)
   branch_globals {a} {b} {c} h p q r = rw h (three_named (globals_in own a) (globals_in own b) (globals_in own c) n0 p q r)
@@ -62,8 +62,8 @@ module _ (n0 : List (List ℕ)) {d : Draft} {n1 n2 : List (List ℕ)} where
   pub letrec_symbols : {vs : Names} {g : Bool} {es : Drafts} {e : Draft} → d ≡ letrec vs g es e → n1 ≡ firsts n0 (symbols_in_each es) → n2 ≡ firsts n1 (symbols_in e) → n2 ≡ firsts n0 (symbols_in d)
   letrec_symbols {es = es} {e} h p q = rw h (then_named (symbols_in_each es) (symbols_in e) n0 p q)
 
-  pub call_symbols : {f : Draft} {es : Drafts} → d ≡ call f es → n1 ≡ firsts n0 (symbols_in f) → n2 ≡ firsts n1 (symbols_in_each es) → n2 ≡ firsts n0 (symbols_in d)
-  call_symbols {f} {es} h p q = rw h (then_named (symbols_in f) (symbols_in_each es) n0 p q)
+  pub call_symbols : {vs : Names} {f : Draft} {es : Drafts} → d ≡ call vs f es → n1 ≡ firsts n0 (symbols_in f) → n2 ≡ firsts n1 (symbols_in_each es) → n2 ≡ firsts n0 (symbols_in d)
+  call_symbols {f = f} {es} h p q = rw h (then_named (symbols_in f) (symbols_in_each es) n0 p q)
 
   pub branch_symbols : {a b c : Draft} {n3 : List (List ℕ)} → d ≡ branch a b c → n1 ≡ firsts n0 (symbols_in a) → n2 ≡ firsts n1 (symbols_in b) → n3 ≡ firsts n2 (symbols_in c) → n3 ≡ firsts n0 (symbols_in d)
   branch_symbols {a} {b} {c} h p q r = rw h (three_named (symbols_in a) (symbols_in b) (symbols_in c) n0 p q r)

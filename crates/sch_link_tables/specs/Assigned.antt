@@ -18,7 +18,7 @@ abbrev mutual
   assigns (bind vs es e) j = assigns_each es j || assigns e (j + count es)
   assigns (letrec vs p es e) j = assigns_each es (j + count es) || assigns e (j + count es)
   assigns (lambda n r e) j = assigns e (j + n)
-  assigns (call f es) j = assigns f j || assigns_each es j
+  assigns (call vs f es) j = assigns f j || assigns_each es j
   assigns (operation p es) j = assigns_each es j
 
   pub assigns_each : Drafts → ℕ → Bool

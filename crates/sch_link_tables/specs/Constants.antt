@@ -19,7 +19,7 @@ abbrev mutual
   HasConstants (bind vs es e) = HaveConstants es × HasConstants e
   HasConstants (letrec vs p es e) = HaveConstants es × HasConstants e
   HasConstants (lambda n r e) = HasConstants e
-  HasConstants (call f es) = HasConstants f × HaveConstants es
+  HasConstants (call vs f es) = HasConstants f × HaveConstants es
   HasConstants (operation p es) = HaveConstants es
 
   pub HaveConstants : Drafts → Type 0

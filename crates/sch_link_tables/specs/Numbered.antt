@@ -58,8 +58,8 @@ module _ (own globals symbols : List (List ℕ)) where
         grouped (is_group p es e) s (numbered_each vs es (s + length (unless_group (is_group p es e) (count es))) l)
         (numbered None e (s + length (unless_group (is_group p es e) (count es)) + length (widths_of_each es)) (l + length (quotes_in_each es)))
     numbered v (lambda n r e) s l = tree.lambda (body_name v) n r (numbered None e s l)
-    numbered v (call f es) s l =
-        tree.call s (numbered None f (s + 1) l) (numbered_each [] es (s + 1 + length (widths f)) (l + length (quotes_in f)))
+    numbered v (call vs f es) s l =
+        tree.call s (numbered None f (s + 1) l) (numbered_each vs es (s + 1 + length (widths f)) (l + length (quotes_in f)))
     numbered v (operation p es) s l = tree.operation s p (numbered_each [] es (s + 1) l)
 
     pub numbered_each : Names → Drafts → (s l : ℕ) → Expressions

@@ -14,7 +14,7 @@ unless_group false n = n ∷ []
 abbrev pub width_here : Draft → List ℕ
 width_here (bind vs es e) = count es ∷ []
 width_here (letrec vs p es e) = unless_group (is_group p es e) (count es)
-width_here (call f es) = suc (count es) ∷ []
+width_here (call vs f es) = suc (count es) ∷ []
 width_here (operation p es) = count es ∷ []
 width_here _ = []
 

@@ -54,7 +54,7 @@ fn mark(e: &Draft<'_>, from: usize, marks: &mut [bool]) -> Result<(), Mem>
             mark(e, inside, marks)?;
             Ok(())
         }
-        Draft::Call(f, es) => {
+        Draft::Call(_, f, es) => {
             mark(f, from, marks)?;
             mark_each(es.as_slice(), from, marks)?;
             Ok(())

@@ -102,7 +102,7 @@ pub fn name_draft(alloc: Global, own: &Names, e: &Draft<'_>, tables: &mut Tables
             Ok(())
         }
         Draft::Lambda(_, _, e) => name_draft(alloc, own, e, tables),
-        Draft::Call(f, es) => {
+        Draft::Call(_, f, es) => {
             name_draft(alloc, own, f, tables)?;
             name_each(alloc, own, es.as_slice(), tables)?;
             Ok(())

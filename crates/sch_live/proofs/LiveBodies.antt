@@ -34,15 +34,15 @@ no_lists (Save' saves p e) = rw (no_lists e) refl
 
 -- ## The body
 
-module _ (b : Body) (e0 e1 r : Expression) (s t : NumberSet) (blank : e0 ≡ expression b.exp) (alike : unlisted e1 ≡ unlisted e0)
-    (none : s ≡ set.empty) (none' : t ≡ set.empty) (lists : ListsAllLive e1 (later_of s t)) (made : r ≡ where_reached true e1) where
+module _ (b : Body) (e0 e1 r : Expression) (s : NumberSet) (blank : e0 ≡ expression b.exp) (alike : unlisted e1 ≡ unlisted e0)
+    (none : s ≡ set.empty) (lists : ListsAllLive e1 (later_of s s)) (made : r ≡ where_reached true e1) where
   pub same : unlisted r ≡ expression b.exp
   same = ap unlisted made ∙ (reached_unlisted true e1 ∙ (alike ∙ (ap unlisted blank ∙ no_lists b.exp)))
 
   pub sets : HasLiveSets r
   sets =
       subst HasLiveSets (sym made)
-      (reached_sets e1 true (Unit {0}) (λ h. tt, λ w. refl) nothing_later (lists_same e1 (later_of s t) nothing_later (none_later s t none none') lists))
+      (reached_sets e1 true (Unit {0}) (λ h. tt, λ w. refl) nothing_later (lists_same e1 (later_of s s) nothing_later (none_later s none) lists))
 
   pub truncated : ∥ HasLiveSets r ∥₁
   truncated = ∣ sets ∣₁

@@ -15,9 +15,11 @@ use Rattle.sch_control.specs.Meaning.{no_region}
 use Rattle.sch_control.specs.Tree.{Expression, perform, bind, sequence, branch, fix, call, tail_call, return, end, save}
 use Rattle.sch_control.specs.Valid.{member_variables}
 use Rattle.sch_control.specs.flow.Live.{named, Mentions, Perhaps, known, ByResult, AfterValue, Across, Live, Later}
+use Rattle.sch_control.specs.flow.LiveTests.{behind, by_result}
 use Rattle.sch_control.specs.flow.Paths.{live}
 use Rattle.sch_control.proofs.NumberLists.{has_items}
 use Rattle.sch_paths.proofs.paths.LiveByPaths.{itself, then_is, either_same, both_same, flip, swapped, match_same, live_before}
+use Rattle.sch_paths.proofs.paths.LiveTested.{or_is, result_is}
 use Rattle.sch_paths.proofs.paths.MeetsByCases.{before_same}
 use Rattle.sch_live.specs.BackwardSets.{later_of, IsLiveBefore, ListsAllLive}
 use Rattle.sch_control.specs.flow.Reads.{IsWith}
@@ -48,10 +50,6 @@ lists_same (save saves e) L M f h = lists_same e L M f h
 same_test : (b c : Bool) → b ≡ c → (b ≡ true) ↔ (c ≡ true)
 same_test b c e = (λ h. sym e ∙ h, λ h. e ∙ h)
 
-pub either_test : (p q : Bool) → ((p || q) ≡ true) ↔ ((p ≡ true) ⊎ (q ≡ true))
-either_test true q = (λ h. inl refl, λ w. refl)
-either_test false q = (λ h. inr h, λ w. elim w [ inl e ↦ absurd (cc) | inr h ↦ h ])
-
 outside_test : (p q : Bool) → ((not p && q) ≡ true) ↔ ((p ≡ false) × (q ≡ true))
 outside_test true q = (λ h. absurd (cc), λ w. absurd (let e = w.0 in cc))
 outside_test false q = (λ h. (refl, h), λ w. w.1)
@@ -62,21 +60,17 @@ equal_sets s t x e = same_test _ _ (ap (λ z. set.contains z x) e)
 read_then : (atoms : List (Atom ℕ)) (m b : NumberSet) (x : ℕ) {P : Type 0} → IsWith atoms m b → (set.contains m x ≡ true) ↔ P
     → (set.contains b x ≡ true) ↔ (Mentions x atoms ⊎ P)
 read_then atoms m b x w h =
-    then_is (same_test _ _ (w x)) (then_is (either_test (has x (named atoms)) (set.contains m x)) (either_same itself h))
+    then_is (same_test _ _ (w x)) (then_is (or_is (has x (named atoms)) (set.contains m x)) (either_same itself h))
 
 -- ## Operations, calls and ends
 
-pub do_before : (o : Operation ℕ) (s t m b : NumberSet) → ((x : ℕ) → (set.contains m x ≡ true) ↔ AfterValue o (later_of s t x)) → IsWith (operation_atoms o) m b
+pub do_before : (o : Operation ℕ) (s t m b : NumberSet) → ((x : ℕ) → set.contains m x ≡ by_result (known o) (behind s t x)) → IsWith (operation_atoms o) m b
     → IsLiveBefore (perform o) s t b
-do_before o s t m b h w x = read_then (operation_atoms o) m b x w (h x)
+do_before o s t m b h w x =
+    read_then (operation_atoms o) m b x w (then_is (same_test _ _ (h x)) (result_is (known o) (behind s t x) (later_of s t x) (λ r. itself)))
 
 union_later : (s t u : NumberSet) (x : ℕ) → u ≡ set.union s t → (set.contains u x ≡ true) ↔ Perhaps (later_of s t x)
 union_later s t u x e = then_is (equal_sets u _ x e) (member-union s t x)
-
--- of a value of which nothing is known
-pub after_unknown : (o : Operation ℕ) (s t u : NumberSet) → known o ≡ None → u ≡ set.union s t
-    → (x : ℕ) → (set.contains u x ≡ true) ↔ AfterValue o (later_of s t x)
-after_unknown o s t u k e x = subst (λ z. (set.contains u x ≡ true) ↔ ByResult z (later_of s t x)) (sym k) (union_later s t u x e)
 
 pub call_before : (a : Application ℕ) (listed : List ℕ) (s t u m b : NumberSet) → u ≡ set.union s t → m ≡ u → IsWith (application_atoms a) m b
     → IsLiveBefore (call a listed) s t b
@@ -93,60 +87,57 @@ zero_alone u x e =
 pub tail_before : (a : Application ℕ) (s t m b : NumberSet) → m ≡ set.insert set.empty 0 → IsWith (application_atoms a) m b → IsLiveBefore (tail_call a) s t b
 tail_before a s t m b e w x = then_is (read_then (application_atoms a) m b x w (zero_alone m x e)) swapped
 
-zero_later : (u v : NumberSet) → u ≡ set.insert set.empty 0 → v ≡ set.insert set.empty 0 → (x : ℕ) (r : Bool) → later_of u v x r ↔ (x ≡ 0)
-zero_later u v d e x true = zero_alone u x d
-zero_later u v d e x false = zero_alone v x e
+zero_later : (u : NumberSet) → u ≡ set.insert set.empty 0 → (x : ℕ) (r : Bool) → later_of u u x r ↔ (x ≡ 0)
+zero_later u d x true = zero_alone u x d
+zero_later u d x false = zero_alone u x d
 
-pub return_before : (e : Expression) (s t u v b : NumberSet) → u ≡ set.insert set.empty 0 → v ≡ set.insert set.empty 0 → IsLiveBefore e u v b
-    → IsLiveBefore (return e) s t b
-return_before e s t u v b d f h x = then_is (h x) (live_same x e _ _ (zero_later u v d f x))
+pub return_before : (e : Expression) (s t u b : NumberSet) → u ≡ set.insert set.empty 0 → IsLiveBefore e u u b → IsLiveBefore (return e) s t b
+return_before e s t u b d h x = then_is (h x) (live_same x e _ _ (zero_later u d x))
 
-pub return_sets : (e : Expression) (s t u v : NumberSet) → u ≡ set.insert set.empty 0 → v ≡ set.insert set.empty 0 → ListsAllLive e (later_of u v)
-    → ListsAllLive (return e) (later_of s t)
-return_sets e s t u v d f h = lists_same e _ _ (zero_later u v d f) h
+pub return_sets : (e : Expression) (s t u : NumberSet) → u ≡ set.insert set.empty 0 → ListsAllLive e (later_of u u) → ListsAllLive (return e) (later_of s t)
+return_sets e s t u d h = lists_same e _ _ (zero_later u d) h
 
 nothing_there : (u : NumberSet) (x : ℕ) → u ≡ set.empty → (set.contains u x ≡ true) ↔ ⊥
 nothing_there u x e = then_is (equal_sets u _ x e) (member-empty x, λ w. absurd w)
 
-pub none_later : (u v : NumberSet) → u ≡ set.empty → v ≡ set.empty → (x : ℕ) (r : Bool) → later_of u v x r ↔ ⊥
-none_later u v d e x true = nothing_there u x d
-none_later u v d e x false = nothing_there v x e
+pub none_later : (u : NumberSet) → u ≡ set.empty → (x : ℕ) (r : Bool) → later_of u u x r ↔ ⊥
+none_later u d x true = nothing_there u x d
+none_later u d x false = nothing_there u x d
 
-pub end_before : (e : Expression) (s t u v b : NumberSet) → u ≡ set.empty → v ≡ set.empty → IsLiveBefore e u v b → IsLiveBefore (end e) s t b
-end_before e s t u v b d f h x = then_is (h x) (live_same x e _ _ (none_later u v d f x))
+pub end_before : (e : Expression) (s t u b : NumberSet) → u ≡ set.empty → IsLiveBefore e u u b → IsLiveBefore (end e) s t b
+end_before e s t u b d h x = then_is (h x) (live_same x e _ _ (none_later u d x))
 
-pub end_sets : (e : Expression) (s t u v : NumberSet) → u ≡ set.empty → v ≡ set.empty → ListsAllLive e (later_of u v) → ListsAllLive (end e) (later_of s t)
-end_sets e s t u v d f h = lists_same e _ _ (none_later u v d f) h
+pub end_sets : (e : Expression) (s t u : NumberSet) → u ≡ set.empty → ListsAllLive e (later_of u u) → ListsAllLive (end e) (later_of s t)
+end_sets e s t u d h = lists_same e _ _ (none_later u d) h
 
 -- ## One after the other
 
-both_later : (u v m : NumberSet) → u ≡ m → v ≡ m → (x : ℕ) (r : Bool) → later_of u v x r ↔ (set.contains m x ≡ true)
-both_later u v m d e x true = equal_sets u m x d
-both_later u v m d e x false = equal_sets v m x e
+both_later : (m : NumberSet) (x : ℕ) (r : Bool) → later_of m m x r ↔ (set.contains m x ≡ true)
+both_later m x true = itself
+both_later m x false = itself
 
-across_later : (y : ℕ) (b : Expression) (s t bb m u v : NumberSet) → IsLiveBefore b s t bb → m ≡ set.remove bb y → u ≡ m → v ≡ m
-    → (x : ℕ) (r : Bool) → later_of u v x r ↔ Across y x (Live x b (later_of s t x))
-across_later y b s t bb m u v h k d e x r =
-    then_is (both_later u v m d e x r) (then_is (equal_sets m _ x k) (then_is (member-remove bb y x) (both_same itself (h x))))
+across_later : (y : ℕ) (b : Expression) (s t bb m : NumberSet) → IsLiveBefore b s t bb → m ≡ set.remove bb y
+    → (x : ℕ) (r : Bool) → later_of m m x r ↔ Across y x (Live x b (later_of s t x))
+across_later y b s t bb m h k x r =
+    then_is (both_later m x r) (then_is (equal_sets m _ x k) (then_is (member-remove bb y x) (both_same itself (h x))))
 
-pub bind_before : (y : ℕ) (a b : Expression) (s t bb m u v ba : NumberSet) → IsLiveBefore b s t bb → m ≡ set.remove bb y → u ≡ m → v ≡ m
-    → IsLiveBefore a u v ba → IsLiveBefore (bind y a b) s t ba
-bind_before y a b s t bb m u v ba h k d e f x = then_is (f x) (live_same x a _ _ (across_later y b s t bb m u v h k d e x))
+pub bind_before : (y : ℕ) (a b : Expression) (s t bb m ba : NumberSet) → IsLiveBefore b s t bb → m ≡ set.remove bb y → IsLiveBefore a m m ba
+    → IsLiveBefore (bind y a b) s t ba
+bind_before y a b s t bb m ba h k f x = then_is (f x) (live_same x a _ _ (across_later y b s t bb m h k x))
 
-pub bind_sets : (y : ℕ) (a b : Expression) (s t bb m u v : NumberSet) → IsLiveBefore b s t bb → m ≡ set.remove bb y → u ≡ m → v ≡ m
-    → ListsAllLive a (later_of u v) → ListsAllLive b (later_of s t) → ListsAllLive (bind y a b) (later_of s t)
-bind_sets y a b s t bb m u v h k d e f g = (lists_same a _ _ (across_later y b s t bb m u v h k d e) f, g)
+pub bind_sets : (y : ℕ) (a b : Expression) (s t bb m : NumberSet) → IsLiveBefore b s t bb → m ≡ set.remove bb y
+    → ListsAllLive a (later_of m m) → ListsAllLive b (later_of s t) → ListsAllLive (bind y a b) (later_of s t)
+bind_sets y a b s t bb m h k f g = (lists_same a _ _ (across_later y b s t bb m h k) f, g)
 
-then_later : (b : Expression) (s t bb u v : NumberSet) → IsLiveBefore b s t bb → u ≡ bb → v ≡ bb → (x : ℕ) (r : Bool) → later_of u v x r ↔ Live x b (later_of s t x)
-then_later b s t bb u v h d e x r = then_is (both_later u v bb d e x r) (h x)
+then_later : (b : Expression) (s t bb : NumberSet) → IsLiveBefore b s t bb → (x : ℕ) (r : Bool) → later_of bb bb x r ↔ Live x b (later_of s t x)
+then_later b s t bb h x r = then_is (both_later bb x r) (h x)
 
-pub sequence_before : (a b : Expression) (s t bb u v ba : NumberSet) → IsLiveBefore b s t bb → u ≡ bb → v ≡ bb → IsLiveBefore a u v ba
-    → IsLiveBefore (sequence a b) s t ba
-sequence_before a b s t bb u v ba h d e f x = then_is (f x) (live_same x a _ _ (then_later b s t bb u v h d e x))
+pub sequence_before : (a b : Expression) (s t bb ba : NumberSet) → IsLiveBefore b s t bb → IsLiveBefore a bb bb ba → IsLiveBefore (sequence a b) s t ba
+sequence_before a b s t bb ba h f x = then_is (f x) (live_same x a _ _ (then_later b s t bb h x))
 
-pub sequence_sets : (a b : Expression) (s t bb u v : NumberSet) → IsLiveBefore b s t bb → u ≡ bb → v ≡ bb → ListsAllLive a (later_of u v)
+pub sequence_sets : (a b : Expression) (s t bb : NumberSet) → IsLiveBefore b s t bb → ListsAllLive a (later_of bb bb)
     → ListsAllLive b (later_of s t) → ListsAllLive (sequence a b) (later_of s t)
-sequence_sets a b s t bb u v h d e f g = (lists_same a _ _ (then_later b s t bb u v h d e) f, g)
+sequence_sets a b s t bb h f g = (lists_same a _ _ (then_later b s t bb h) f, g)
 
 -- ## Tests and groups
 

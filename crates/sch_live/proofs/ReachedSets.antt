@@ -9,19 +9,12 @@ use Rattle.sch_control.specs.flow.Bare.{unlisted}
 use Rattle.sch_control.specs.flow.Live.{Perhaps, known, ByResult, Across, MayGive, Live, Later}
 use Rattle.sch_control.specs.flow.LiveSets.{LiveSets}
 use Rattle.sch_paths.proofs.paths.LiveByPaths.{then_is, either_same, both_same}
+use Rattle.sch_paths.proofs.paths.LiveTested.{and_is, or_is}
 use Rattle.sch_paths.proofs.paths.UnlistedTrees.{live_unlisted, may_give_unlisted}
 use Rattle.sch_live.specs.BackwardSets.{ListsAllLive}
 use Rattle.sch_live.specs.Reached.{may_be, gives, where_reached}
 
 -- ## What an expression gives
-
-pub both_test : (p q : Bool) → ((p && q) ≡ true) ↔ ((p ≡ true) × (q ≡ true))
-both_test true q = (λ h. (refl, h), λ w. w.1)
-both_test false q = (λ h. absurd (cc), λ w. absurd (let e = w.0 in cc))
-
-either_test : (p q : Bool) → ((p || q) ≡ true) ↔ ((p ≡ true) ⊎ (q ≡ true))
-either_test true q = (λ h. inl refl, λ w. refl)
-either_test false q = (λ h. inr h, λ w. elim w [ inl e ↦ absurd (cc) | inr h ↦ h ])
 
 may_be_is : (k : Option Bool) (r : Bool) → (may_be k r ≡ true) ↔ ByResult k (λ t. t ≡ r)
 may_be_is None true = (λ h. inl refl, λ w. refl)
@@ -35,9 +28,9 @@ gives_is (perform o) r = may_be_is (known o) r
 gives_is (bind y a b) r = gives_is b r
 gives_is (sequence a b) r = gives_is b r
 gives_is (branch a b c) r =
-    then_is (either_test (gives a true && gives b r) (gives a false && gives c r))
-    (either_same (then_is (both_test (gives a true) (gives b r)) (both_same (gives_is a true) (gives_is b r)))
-    (then_is (both_test (gives a false) (gives c r)) (both_same (gives_is a false) (gives_is c r))))
+    then_is (or_is (gives a true && gives b r) (gives a false && gives c r))
+    (either_same (then_is (and_is (gives a true) (gives b r)) (both_same (gives_is a true) (gives_is b r)))
+    (then_is (and_is (gives a false) (gives c r)) (both_same (gives_is a false) (gives_is c r))))
 gives_is (fix members e) r = gives_is e r
 gives_is (call a listed) r = (λ h. tt, λ w. refl)
 gives_is (tail_call a) r = (λ h. tt, λ w. refl)
@@ -89,7 +82,7 @@ reached_sets (sequence a b) m Met f L h = (
 reached_sets (branch a b c) m Met f L h =
     let first = m && gives a true in
     let second = m && gives a false in
-    let arm : (r : Bool) → ((m && gives a r) ≡ true) ↔ (Met × MayGive a r) = λ r. then_is (both_test m (gives a r)) (both_same f (gives_is a r)) in (
+    let arm : (r : Bool) → ((m && gives a r) ≡ true) ↔ (Met × MayGive a r) = λ r. then_is (and_is m (gives a r)) (both_same f (gives_is a r)) in (
       subst (λ P. LiveSets (where_reached m a) Met (λ x t. MatchBool t (P x) (Live x (where_reached second c) (L x)))) (sym (behind_reached first b L))
           (subst (λ P. LiveSets (where_reached m a) Met (λ x t. MatchBool t (Live x b (L x)) (P x))) (sym (behind_reached second c L))
           (reached_sets a m Met f _ h.0)),

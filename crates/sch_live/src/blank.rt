@@ -1,16 +1,29 @@
 //! A body's tree with an empty set at each call.
 
-ghost use Rattle.std.specs.Prelude.{◌≡◌, IfOk};
+ghost use Rattle.std.specs.Prelude.{◌≡◌, [], IfOk};
+ghost use Rattle.sch_control.specs.Tree.{call};
 ghost use Rattle.sch_control.specs.View.{expression};
 ghost use Rattle.sch_control.specs.flow.Middle.{listed};
 
 use sch_control::{
-    Exp, boxed_bind, boxed_call, boxed_do, boxed_end, boxed_fix, boxed_if, boxed_return,
-    boxed_save, boxed_seq, boxed_tail_call, copy_application, copy_members, copy_operation,
+    Application, Exp, boxed_bind, boxed_call, boxed_end, boxed_if, boxed_return, boxed_seq,
+    copied_do, copied_fix, copied_save, copied_tail_call, copy_application,
 };
 use sch_sets::Set;
-use sch_word::{List, Mem};
+use sch_word::Mem;
 use std::alloc::Global;
+
+// A copy of a call with an empty set.
+#[inline(never)]
+fn call_with_no_set<const N: usize>(
+    alloc: Global,
+    a: &Application<u32>,
+) -> Result<Box<Exp<Set<N>>>, Mem>
+    ensures { IfOk result (λ r. listed r.value ≡ call a.now []) }
+{
+    let a = copy_application(alloc, a)?;
+    boxed_call(alloc, a, Set::new())
+}
 
 /// A copy of an expression with an empty set at each call.
 pub(crate) fn with_no_sets<const N: usize>(
@@ -20,10 +33,7 @@ pub(crate) fn with_no_sets<const N: usize>(
     ensures { IfOk result (λ r. listed r.value ≡ expression e.now) }
 {
     match e {
-        Exp::Do(o) => {
-            let o = copy_operation(alloc, o)?;
-            boxed_do(alloc, o)
-        }
+        Exp::Do(o) => copied_do(alloc, o),
         Exp::Bind(x, a, b) => {
             let a = with_no_sets(alloc, a)?;
             let b = with_no_sets(alloc, b)?;
@@ -41,18 +51,11 @@ pub(crate) fn with_no_sets<const N: usize>(
             boxed_if(alloc, a, b, c)
         }
         Exp::Fix(members, e) => {
-            let members = copy_members(alloc, members)?;
             let e = with_no_sets(alloc, e)?;
-            boxed_fix(alloc, members, e)
+            copied_fix(alloc, members, e)
         }
-        Exp::Call(a, _) => {
-            let a = copy_application(alloc, a)?;
-            boxed_call(alloc, a, Set::new())
-        }
-        Exp::TailCall(a) => {
-            let a = copy_application(alloc, a)?;
-            boxed_tail_call(alloc, a)
-        }
+        Exp::Call(a, _) => call_with_no_set(alloc, a),
+        Exp::TailCall(a) => copied_tail_call(alloc, a),
         Exp::Return(e) => {
             let e = with_no_sets(alloc, e)?;
             boxed_return(alloc, e)
@@ -62,9 +65,8 @@ pub(crate) fn with_no_sets<const N: usize>(
             boxed_end(alloc, e)
         }
         Exp::Save(saves, e) => {
-            let saves = List::from_slice(alloc, saves.as_slice())?;
             let e = with_no_sets(alloc, e)?;
-            boxed_save(alloc, saves, e)
+            copied_save(alloc, saves, e)
         }
     }
 }

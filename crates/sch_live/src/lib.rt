@@ -2,7 +2,6 @@
 #![tactic(auto)]
 
 mod backward;
-mod behind;
 mod blank;
 mod live_bodies;
 mod reached;

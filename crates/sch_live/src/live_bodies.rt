@@ -1,6 +1,6 @@
 //! What is live after each call of a body.
 
-ghost use Rattle.std.specs.Prelude.{◌≡◌, ◌≤◌, ◌<◌, ◌*◌, ◌^◌, IfOk};
+ghost use Rattle.std.specs.Prelude.{◌≡◌, ◌≤◌, ◌<◌, ◌*◌, IfOk};
 ghost use Rattle.sch_control.specs.View.{expression};
 ghost use Rattle.sch_control.specs.flow.Bare.{unlisted};
 ghost use Rattle.sch_control.specs.flow.LiveSets.{HasLiveSets};
@@ -9,7 +9,6 @@ ghost use Rattle.sch_live.specs.LiveListed.{lists_in_order, live_listed};
 ghost use Rattle.sch_paths.specs.PlainlySame.{PlainlySame};
 
 use crate::backward::list_live;
-use crate::behind::Behind;
 use crate::blank::with_no_sets;
 use crate::reached::keep_reached;
 use sch_control::{Body, LiveBody};
@@ -18,10 +17,9 @@ use sch_word::{List, Mem};
 use std::alloc::Global;
 
 /// The body with a set at each call: at one that some path through the body reaches, exactly the variables that are live
-/// after it, and at any other none. That fixes the sets, and all else is the body's. That a set is smaller than memory is asked for.
+/// after it, and at any other none. That fixes the sets, and all else is the body's.
 pub fn live<const N: usize>(alloc: Global, b: &Body) -> Result<LiveBody<N>, Mem>
     requires fits { b.now.variables ≤ 64 * N }
-    requires words { N < 2 ^ 32 }
     ensures name { IfOk result (λ r. r.name ≡ b.now.name) }
     ensures entry { IfOk result (λ r. r.entry ≡ b.now.entry) }
     ensures variables { IfOk result (λ r. r.variables ≡ b.now.variables) }
@@ -32,7 +30,8 @@ pub fn live<const N: usize>(alloc: Global, b: &Body) -> Result<LiveBody<N>, Mem>
 {
     let name = List::from_slice(alloc, b.name.as_slice())?;
     let mut exp = with_no_sets(alloc, &b.exp)?;
-    list_live(&mut exp, &Behind::none(), &mut Set::new());
+    let nothing = Set::new();
+    list_live(&mut exp, &nothing, &nothing, &mut Set::new());
     keep_reached(&mut exp, true);
     Ok(LiveBody {
         name,

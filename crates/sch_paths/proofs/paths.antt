@@ -1,6 +1,8 @@
 pub mod BoundAndReferenced
 pub mod CallEvents
+pub mod EagerByPaths
 pub mod LiveByPaths
+pub mod LiveTested
 pub mod MeetsByCases
 pub mod PathResults
 pub mod ReturnAddress

@@ -1,8 +1,10 @@
 pub mod Calls
 pub mod Conditions
 pub mod EachLiveSaved
+pub mod EachSoonRestored
 pub mod Exact
 pub mod Laws
 pub mod PlainlySame
 pub mod Regions
+pub mod RestoredByPaths
 pub mod Table

@@ -4,7 +4,9 @@ use Rattle.std.specs.Prelude.{slice_get}
 use Rattle.std.specs.List.{list_all}
 use Rattle.std.proofs.lemmas.Bool.{and_from, and_parts}
 use Rattle.std.proofs.Math.Nat.{le-max_left, le-max_right, max-le}
-use Rattle.std.proofs.lemmas.List.{take_all, take_more}
+use Rattle.std.proofs.lemmas.List.{append-nil, append_assoc, take_all, take_more}
+use Rattle.std.proofs.lemmas.List.Concat.{flat_map-append}
+use Rattle.sch_orders.specs.declared.listed_call.ListedCall.{ListedCall}
 use Rattle.sch_word.specs.trees.Shape.{max_operands}
 use Rattle.sch_control.specs.declared.body.Body.{Body}
 use Rattle.sch_control.specs.Covered as control_covered
@@ -21,8 +23,9 @@ use Rattle.sch_frames.specs.Standing.{all_marks_stand}
 use Rattle.sch_frames.specs.Tree.{Code}
 use Rattle.sch_frames.proofs.LargestFrame.{covered_words, words_most}
 use Rattle.sch_registers.specs.FramedBodies.{AreFramedBodies, IsFramedBody}
+use Rattle.sch_registers.specs.MadeFrom.{AreMadeFrom}
 use Rattle.sch_registers.specs.OwnMarks.{CallsItsSaves, EachSaveCalled}
-use Rattle.sch_registers.specs.Registers.{registers_code}
+use Rattle.sch_registers.specs.Registers.{all_calls, registers_calls, registers_code}
 
 -- ## One body more, with its frame body
 
@@ -40,19 +43,35 @@ pushed (x ∷ cs) (y ∷ fs) c f h g = (h.0, pushed cs fs c f h.1 g)
 pushed [] (y ∷ fs) c f h g = absurd h
 pushed (x ∷ cs) [] c f h g = absurd h
 
+codes_taken : (bodies : List Body) (i : ℕ) (b : Body) → i < length bodies → b ≡ get_or bodies i b → control.codes_of (take (i + 1) bodies) ≡ control.codes_of (take i bodies) ++ control.code_of b ∷ []
+codes_taken bodies i b lt is =
+    ap control.codes_of (take_more bodies i b lt) ∙ ap (λ z. control.codes_of (take i bodies ++ z ∷ [])) (sym is) ∙ bodies_push (take i bodies) b
+
 pub framed_next : (bodies : List Body) (i : ℕ) (b : Body) → i < length bodies → b ≡ get_or bodies i b → (made next : List FrameBody) (f : FrameBody) → next ≡ made ++ f ∷ []
     → AreFramedBodies (control.codes_of (take i bodies)) (codes_of made) → IsFramedBody (control.code_of b) (code_of f)
     → AreFramedBodies (control.codes_of (take (i + 1) bodies)) (codes_of next)
 framed_next bodies i b lt is made next f e h g =
     subst (AreFramedBodies (control.codes_of (take (i + 1) bodies))) (sym (ap codes_of e ∙ frames_push made f))
-    (subst (λ cs. AreFramedBodies cs (codes_of made ++ code_of f ∷ [])) (sym taken) (pushed _ _ _ _ h g))
-  where
-    taken : control.codes_of (take (i + 1) bodies) ≡ control.codes_of (take i bodies) ++ control.code_of b ∷ []
-    taken = ap control.codes_of (take_more bodies i b lt) ∙ ap (λ z. control.codes_of (take i bodies ++ z ∷ [])) (sym is) ∙ bodies_push (take i bodies) b
+    (subst (λ cs. AreFramedBodies cs (codes_of made ++ code_of f ∷ [])) (sym (codes_taken bodies i b lt is)) (pushed _ _ _ _ h g))
 
 pub framed_end : (bodies : List Body) (i : ℕ) (made : List FrameBody) → length bodies ≤ i → AreFramedBodies (control.codes_of (take i bodies)) (codes_of made)
     → AreFramedBodies (control.codes_of bodies) (codes_of made)
 framed_end bodies i made le h = subst (λ bs. AreFramedBodies (control.codes_of bs) (codes_of made)) (take_all i bodies le) h
+
+-- what is listed of the calls of one body more
+pub calls_next : (bodies : List Body) (i : ℕ) (b : Body) → i < length bodies → b ≡ get_or bodies i b → (before calls next : List ListedCall)
+    → next ≡ calls ++ registers_calls (control.code_of b) → calls ≡ before ++ all_calls (control.codes_of (take i bodies))
+    → next ≡ before ++ all_calls (control.codes_of (take (i + 1) bodies))
+calls_next bodies i b lt is before calls next e h =
+    let mine : List ListedCall = registers_calls (control.code_of b) in
+    let all : List ListedCall = all_calls (control.codes_of (take i bodies)) in
+    let more : all_calls (control.codes_of (take (i + 1) bodies)) ≡ all ++ mine =
+    ap all_calls (codes_taken bodies i b lt is) ∙ (flat_map-append registers_calls (control.codes_of (take i bodies)) (control.code_of b ∷ []) ∙ ap (λ l. all ++ l) (append-nil mine)) in
+    e ∙ (ap (λ l. l ++ mine) h ∙ (append_assoc before all mine ∙ ap (λ l. before ++ l) (sym more)))
+
+pub calls_end : (bodies : List Body) (i : ℕ) (before calls : List ListedCall) → length bodies ≤ i → calls ≡ before ++ all_calls (control.codes_of (take i bodies))
+    → calls ≡ before ++ all_calls (control.codes_of bodies)
+calls_end bodies i before calls le h = h ∙ ap (λ bs. before ++ all_calls (control.codes_of bs)) (take_all i bodies le)
 
 -- ## All bodies
 
@@ -124,6 +143,12 @@ one_called (c ∷ cs) [] h i f e = absurd h
 
 pub all_called : (cs : List tree.Code) (fs : List Code) → AreFramedBodies cs fs → EachSaveCalled fs
 all_called cs fs h own way = one_called cs fs h way.label way.code way.body fs own way refl
+
+pub all_made_from : (cs : List tree.Code) (fs : List Code) → AreFramedBodies cs fs → AreMadeFrom cs fs
+all_made_from [] [] h = tt
+all_made_from (c ∷ cs) (f ∷ fs) h = (h.0.chain, all_made_from cs fs h.1)
+all_made_from [] (f ∷ fs) h = absurd h
+all_made_from (c ∷ cs) [] h = absurd h
 
 -- ## The bodies of a program, as they are handed over
 

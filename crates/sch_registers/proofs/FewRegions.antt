@@ -17,6 +17,7 @@ use Rattle.sch_control.specs.flow.Apart.{Apart, EachHas, PointsApart}
 use Rattle.sch_control.specs.flow.Bare.{unlisted}
 use Rattle.sch_control.specs.flow.Live.{Across, Later, Live, MayGive, Perhaps, named}
 use Rattle.sch_control.specs.flow.LiveSets.{LiveSets}
+use Rattle.sch_control.specs.flow.LiveTests.{Behind}
 use Rattle.sch_control.specs.flow.Paths.{Event, References, Saves, IsPath, binding, calls, grouping}
 use Rattle.sch_control.specs.flow.Regions.{regions_apart}
 use Rattle.sch_control.proofs.NumberLists.{has_filter}
@@ -32,8 +33,9 @@ use Rattle.sch_paths.proofs.saves.SavedAndRestored.{calls_append}
 use Rattle.sch_paths.proofs.saves.TwoSets.{binding_calls, either, grouping_calls, references_call, saves_call}
 use Rattle.sch_regs.proofs.ApartAtPoints.{each_of}
 use Rattle.sch_homes.specs.FewKept.{KeepsFew}
-use Rattle.sch_restores.specs.Restores.{all_restored}
-use Rattle.sch_restores.proofs.AllRestored.{once_first, unlisted_all}
+use Rattle.sch_restores.specs.Restores.{eager}
+use Rattle.sch_restores.proofs.EagerSteps.{once_first}
+use Rattle.sch_restores.proofs.EagerTrees.{unlisted_eager}
 
 -- ## A path with a call that lists something comes from where a path comes
 
@@ -194,51 +196,51 @@ module _ (n : ℕ) (place : ℕ → Place) (plan : Plan)
   arm_head inside (return e) Met L needs sets live points apart = tt
   arm_head inside (end e) Met L needs sets live points apart = tt
 
-  heads_same : (inside : ℕ → Bool) (e : Expression) (saves : List ℕ) → heads (all_restored n inside e) saves ≡ heads e saves
-  heads_same inside e saves =
-      sym (heads_unlisted (all_restored n inside e) saves) ∙ (ap (λ z. heads z saves) (unlisted_all n inside e) ∙ heads_unlisted e saves)
+  heads_same : (inside : ℕ → Bool) (e : Expression) (soon : Behind) (saves : List ℕ) → heads (eager n inside e soon) saves ≡ heads e saves
+  heads_same inside e soon saves =
+      sym (heads_unlisted (eager n inside e soon) saves) ∙ (ap (λ z. heads z saves) (unlisted_eager n inside e soon) ∙ heads_unlisted e saves)
 
-  pub few_regions : (inside : ℕ → Bool) (e : Expression) (here : Bool) (head : Option ℕ) (Met : Type 0) (L : Later) → regions_stand here e ≡ true → HeadFew head e → LiveSets e Met L
-      → HeadsLive e L → PointsApart place e Met L → ArmsSave inside e → regions_apart n e inside ≡ true → KeepsFew plan head (all_restored n inside e)
-  few_regions inside (perform o) here head Met L s f sets live points arms apart = tt
-  few_regions inside (bind y a b) here head Met L s f sets live points arms apart =
+  pub few_regions : (inside : ℕ → Bool) (e : Expression) (soon : Behind) (here : Bool) (head : Option ℕ) (Met : Type 0) (L : Later) → regions_stand here e ≡ true → HeadFew head e → LiveSets e Met L
+      → HeadsLive e L → PointsApart place e Met L → ArmsSave inside e → regions_apart n e inside ≡ true → KeepsFew plan head (eager n inside e soon)
+  few_regions inside (perform o) soon here head Met L s f sets live points arms apart = tt
+  few_regions inside (bind y a b) soon here head Met L s f sets live points arms apart =
       let first = and_left (regions_stand false a) _ s in
       let second = and_right (regions_stand false a) _ s in (
-        few_regions inside a false None Met _ first (no_head None a first) sets.0 live.0 points.0 arms.0 (and_left (regions_apart n a inside) _ apart),
-        few_regions inside b false None Met L second (no_head None b second) sets.1 live.1 points.1 arms.1 (and_right (regions_apart n a inside) _ apart),
+        few_regions inside a _ false None Met _ first (no_head None a first) sets.0 live.0 points.0 arms.0 (and_left (regions_apart n a inside) _ apart),
+        few_regions inside b soon false None Met L second (no_head None b second) sets.1 live.1 points.1 arms.1 (and_right (regions_apart n a inside) _ apart),
       )
-  few_regions inside (sequence a b) here head Met L s f sets live points arms apart =
+  few_regions inside (sequence a b) soon here head Met L s f sets live points arms apart =
       let first = and_left (regions_stand false a) _ s in
       let second = and_right (regions_stand false a) _ s in (
-        few_regions inside a false None Met _ first (no_head None a first) sets.0 live.0 points.0 arms.0 (and_left (regions_apart n a inside) _ apart),
-        few_regions inside b false None Met L second (no_head None b second) sets.1 live.1 points.1 arms.1 (and_right (regions_apart n a inside) _ apart),
+        few_regions inside a _ false None Met _ first (no_head None a first) sets.0 live.0 points.0 arms.0 (and_left (regions_apart n a inside) _ apart),
+        few_regions inside b soon false None Met L second (no_head None b second) sets.1 live.1 points.1 arms.1 (and_right (regions_apart n a inside) _ apart),
       )
-  few_regions inside (branch a b c) here head Met L s f sets live points arms apart =
+  few_regions inside (branch a b c) soon here head Met L s f sets live points arms apart =
       let first = and_left (regions_stand false a) _ s in
       let rest = and_right (regions_stand false a) _ s in
       let apart_rest = and_right (regions_apart n a inside) _ apart in
       let apart_b = and_left (regions_apart n b inside) _ apart_rest in
       let apart_c = and_right (regions_apart n b inside) _ apart_rest in (
-        few_regions inside a false None Met _ first (no_head None a first) sets.0 live.0 points.0 arms.0 (and_left (regions_apart n a inside) _ apart),
+        few_regions inside a _ false None Met _ first (no_head None a first) sets.0 live.0 points.0 arms.0 (and_left (regions_apart n a inside) _ apart),
         (
-          few_regions inside b true (Some most_kept) (Met × MayGive a true) L (and_left (regions_stand true b) _ rest)
+          few_regions inside b soon true (Some most_kept) (Met × MayGive a true) L (and_left (regions_stand true b) _ rest)
               (arm_head inside b (Met × MayGive a true) L arms.1.0.0 sets.1.0 live.1.0 points.1.0 apart_b) sets.1.0 live.1.0 points.1.0 arms.1.0.1 apart_b,
-          few_regions inside c true (Some most_kept) (Met × MayGive a false) L (and_right (regions_stand true b) _ rest)
+          few_regions inside c soon true (Some most_kept) (Met × MayGive a false) L (and_right (regions_stand true b) _ rest)
               (arm_head inside c (Met × MayGive a false) L arms.1.1.0 sets.1.1 live.1.1 points.1.1 apart_c) sets.1.1 live.1.1 points.1.1 arms.1.1.1 apart_c,
         ),
       )
-  few_regions inside (fix members e) here head Met L s f sets live points arms apart = few_regions inside e false None Met L s (no_head None e s) sets live points.1.1 arms apart
-  few_regions inside (call a listed) here head Met L s f sets live points arms apart =
-      let test : ℕ → Bool = λ x. has x listed && inside x in
+  few_regions inside (fix members e) soon here head Met L s f sets live points arms apart = few_regions inside e soon false None Met L s (no_head None e s) sets live points.1.1 arms apart
+  few_regions inside (call a listed) soon here head Met L s f sets live points arms apart =
+      let test : ℕ → Bool = λ x. has x listed && (inside x && (soon x true || soon x false)) in
       few_when Met (λ x. Perhaps (L x)) (λ met. (points met).1) (filter test (numbers 0 n)) (once_first test n)
       (each_of (λ x. Met × Perhaps (L x)) (filter test (numbers 0 n)) (λ x h.
       (sets x).0 (and_left (has x listed) _ (and_right (has x (numbers 0 n)) _ (sym (has_filter test x (numbers 0 n)) ∙ h)))))
-  few_regions inside (tail_call a) here head Met L s f sets live points arms apart = tt
-  few_regions inside (return e) here head Met L s f sets live points arms apart = few_regions inside e false None Met _ s (no_head None e s) sets live points arms apart
-  few_regions inside (end e) here head Met L s f sets live points arms apart = few_regions inside e false None Met _ s (no_head None e s) sets live points arms apart
-  few_regions inside (save saves e) here head Met L s f sets live points arms apart =
+  few_regions inside (tail_call a) soon here head Met L s f sets live points arms apart = tt
+  few_regions inside (return e) soon here head Met L s f sets live points arms apart = few_regions inside e _ false None Met _ s (no_head None e s) sets live points arms apart
+  few_regions inside (end e) soon here head Met L s f sets live points arms apart = few_regions inside e _ false None Met _ s (no_head None e s) sets live points arms apart
+  few_regions inside (save saves e) soon here head Met L s f sets live points arms apart =
       let stands = and_right here _ s in (
-        subst (λ xs. MayStand plan head (in_registers plan xs)) (sym (heads_same (with_region saves inside) e saves)) f,
-        few_regions (with_region saves inside) e false None Met L stands (no_head None e stands) sets live.1 points arms
+        subst (λ xs. MayStand plan head (in_registers plan xs)) (sym (heads_same (with_region saves inside) e soon saves)) f,
+        few_regions (with_region saves inside) e soon false None Met L stands (no_head None e stands) sets live.1 points arms
             (and_right (list_all (λ x. nat_lt x n && not (inside x)) saves) _ (and_right (without_repeats saves) _ apart)),
       )

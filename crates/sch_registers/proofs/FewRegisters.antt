@@ -16,8 +16,7 @@ use Rattle.sch_control.specs.flow.Places.{count_slots, is_usual, place_of}
 use Rattle.sch_frames.specs.Meaning.{is_slot}
 use Rattle.sch_layout.specs.BodyLayout.{Plan}
 use Rattle.sch_layout.specs.FewCopies.{in_registers}
-use Rattle.sch_layout.specs.OwnSlots.{most_operands}
-use Rattle.sch_homes.specs.Homes.{homes_plan, late_slots, lives_in}
+use Rattle.sch_homes.specs.Homes.{homes_plan, lives_in}
 use Rattle.sch_homes.specs.Laws.{IsPlaced}
 use Rattle.sch_registers.proofs.DensePlaces.{listed_place}
 
@@ -37,7 +36,7 @@ module _ (c : Code) (e : Expression) (places : List Place) (p : IsPlaced c e pla
   plan = homes_plan c.entry e places
 
   abbrev lives : Option Place → Place
-  lives = lives_in (late_slots c.entry) (most_operands e)
+  lives = lives_in
 
   register_of : (x r : ℕ) → is_in r (plan.place x) ≡ true → place_of places x ≡ Reg r
   register_of x r h = by (slice_get places x) refl h where

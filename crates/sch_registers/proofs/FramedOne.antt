@@ -1,5 +1,5 @@
 -- The frame body that the passes make of a body owes what is asked of it.
-use Rattle.std.proofs.Common.{◌≡◌, true, List, [], Option, None, Some, refl, ap, sym, ◌∙◌, subst, arith}
+use Rattle.std.proofs.Common.{◌≡◌, true, false, List, [], Option, None, Some, refl, ap, sym, ◌∙◌, subst, arith}
 use Rattle.sch_word.specs.declared.place.Place.{Place}
 use Rattle.sch_word.proofs.facts.Booleans.{and_right}
 use Rattle.sch_control.specs.declared.body.Entry.{Entry}
@@ -22,12 +22,12 @@ use Rattle.sch_paths.proofs.saves.ValidBodies.{heads_are_live}
 use Rattle.sch_homes.specs.FewKept.{BodyKeepsFew}
 use Rattle.sch_homes.specs.Homes.{homes_code, homes_plan}
 use Rattle.sch_homes.specs.Laws.{IsFramed, IsPlaced}
-use Rattle.sch_homes.specs.SoonRestored.{EachSoonRestored}
+use Rattle.sch_paths.specs.EachSoonRestored.{EachSoonRestored}
 use Rattle.sch_homes.proofs.FewKept.{homes_fit}
 use Rattle.sch_homes.proofs.FrameValid.{homes_framed}
 use Rattle.sch_regs.specs.PlaceChoice.{places}
-use Rattle.sch_restores.specs.Restores.{all_restored}
-use Rattle.sch_restores.proofs.AllRestored.{unlisted_all}
+use Rattle.sch_restores.specs.Restores.{eagerly_restored}
+use Rattle.sch_restores.proofs.EagerTrees.{unlisted_eager}
 use Rattle.sch_saves.specs.Promises.{EachSaveFollowed}
 use Rattle.sch_registers.specs.FramedBodies.{IsFramedBody}
 use Rattle.sch_registers.specs.OwnMarks.{CallsItsSaves}
@@ -36,6 +36,7 @@ use Rattle.sch_registers.proofs.DensePlaces.{dense}
 use Rattle.sch_registers.proofs.FewRegions.{HeadFew, arm_head, few_regions, points_alike}
 use Rattle.sch_registers.proofs.FewRegisters.{few_kept}
 use Rattle.sch_registers.proofs.FormHeads.{nothing_saved}
+use Rattle.sch_registers.proofs.MadeOne.{IsExact, made_from}
 
 -- a body with its regions, of which `c` is what it is without them
 pub record IsSavedWell (c : Code) (saved : Expression) : Type 0 where
@@ -45,7 +46,7 @@ pub record IsSavedWell (c : Code) (saved : Expression) : Type 0 where
 
 module _ (c : Code) (saved : Expression) (s : IsSavedWell c saved) where
   abbrev tree : Expression
-  tree = all_restored c.variables no_region saved
+  tree = eagerly_restored c.variables saved
 
   abbrev given : List Place
   given = places c.entry c.variables tree
@@ -58,7 +59,7 @@ module _ (c : Code) (saved : Expression) (s : IsSavedWell c saved) where
     framed = homes_framed c tree given p s.valid.ending soon
 
     points : PointsApart (place_of given) saved (Unit {0}) nothing_later
-    points = points_alike (place_of given) tree saved (unlisted_all c.variables no_region saved) (Unit {0}) nothing_later p.points
+    points = points_alike (place_of given) tree saved (unlisted_eager c.variables no_region saved (λ x t. false)) (Unit {0}) nothing_later p.points
 
     live : HeadsLive saved nothing_later
     live = heads_are_live c saved s.valid
@@ -92,16 +93,16 @@ module _ (c : Code) (saved : Expression) (s : IsSavedWell c saved) where
 
     few : BodyKeepsFew c.entry tree given
     few =
-        few_regions c.variables (place_of given) plan (few_kept c tree given p) no_region saved true (Some (most_saved plan c.entry)) (Unit {0}) nothing_later
+        few_regions c.variables (place_of given) plan (few_kept c tree given p) no_region saved (λ x t. false) true (Some (most_saved plan c.entry)) (Unit {0}) nothing_later
         s.valid.stand (head_few c.entry refl) s.valid.sets live points s.valid.saves.1 s.apart
 
     called : CallsItsSaves (homes_code c.entry tree given)
     called codes own way is =
         own_marks_stand codes own way c plan tree (subst (λ z. Laid c plan tree z) (sym is) framed.laid)
-        (called_alike saved tree (sym (unlisted_all c.variables no_region saved)) s.followed)
+        (called_alike saved tree (sym (unlisted_eager c.variables no_region saved (λ x t. false))) s.followed)
 
-    pub framed_body : registers_code c ≡ homes_code c.entry tree given → IsFramedBody c (homes_code c.entry tree given)
-    framed_body is = record {
+    pub framed_body : IsExact c tree given → registers_code c ≡ homes_code c.entry tree given → IsFramedBody c (homes_code c.entry tree given)
+    framed_body exact is = record {
       made = sym is;
       same = framed.does;
       begins = framed.begins;
@@ -110,4 +111,5 @@ module _ (c : Code) (saved : Expression) (s : IsSavedWell c saved) where
       words = framed.dense_words (dense c tree p.body p.scoped p.numbers s.valid.ending);
       fits = homes_fit c tree given p few;
       called = called;
+      chain = made_from c tree given p saved s.valid s.followed (sym (unlisted_eager c.variables no_region saved (λ x t. false))) exact _ framed.laid;
     }

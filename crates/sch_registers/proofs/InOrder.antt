@@ -1,14 +1,18 @@
 -- What is saved and restored does not depend on how the sets at calls are listed.
-use Rattle.std.proofs.Common.{◌≡◌, ℕ, Bool, true, false, List, [], ◌∷◌, refl, ap, ◌∙◌, arith}
-use Rattle.std.specs.Prelude.{◌&&◌, nat_lt, not, filter}
+use Rattle.std.proofs.Common.{◌≡◌, ℕ, Bool, true, false, List, [], ◌∷◌, cond, refl, ap, sym, ◌∙◌, arith}
+use Rattle.std.specs.Prelude.{◌&&◌, ◌||◌, nat_eq, nat_lt, not, filter}
+use Rattle.std.proofs.Math.Path.{fun_ext}
 use Rattle.sch_word.specs.trees.NumberSets.{has}
 use Rattle.sch_word.specs.trees.Bindings.{numbers}
-use Rattle.sch_control.specs.Meaning.{no_region, with_region}
+use Rattle.sch_control.specs.Meaning.{heads, no_region, with_region}
 use Rattle.sch_control.specs.Tree.{Expression, perform, bind, sequence, branch, fix, call, tail_call, return, end, save}
+use Rattle.sch_control.specs.flow.Bare.{unlisted}
+use Rattle.sch_control.specs.flow.LiveTests.{is_soon, Behind}
 use Rattle.sch_control.proofs.NumberLists.{below_from, has_filter, has_first, same_filter}
 use Rattle.sch_live.specs.LiveListed.{in_order, lists_in_order}
 use Rattle.sch_paths.specs.Table.{saved_by}
-use Rattle.sch_restores.specs.Restores.{all_restored}
+use Rattle.sch_paths.proofs.paths.UnlistedPaths.{heads_unlisted}
+use Rattle.sch_restores.specs.Restores.{eager}
 use Rattle.sch_saves.specs.LazyRegions.{lazily_saved, needed, outermost, round, with_needs}
 
 module _ (n : ℕ) where
@@ -76,14 +80,57 @@ module _ (n : ℕ) where
 
   -- ## Restores
 
-  pub restored_same : (inside : ℕ → Bool) (e : Expression) → all_restored n inside (lists_in_order n e) ≡ all_restored n inside e
-  restored_same inside (perform o) = refl
-  restored_same inside (bind y a b) = rw (restored_same inside a, restored_same inside b) refl
-  restored_same inside (sequence a b) = rw (restored_same inside a, restored_same inside b) refl
-  restored_same inside (branch a b c) = rw (restored_same inside a, restored_same inside b, restored_same inside c) refl
-  restored_same inside (fix members e) = rw (restored_same inside e) refl
-  restored_same inside (call a listed) = ap (call a) (first_same _ _ (λ x lt. ap (λ t. t && inside x) (has_in_order listed x lt)))
-  restored_same inside (tail_call a) = refl
-  restored_same inside (return e) = rw (restored_same inside e) refl
-  restored_same inside (end e) = rw (restored_same inside e) refl
-  restored_same inside (save saves e) = rw (restored_same (with_region saves inside) e) refl
+  bare_same : (e : Expression) → unlisted (lists_in_order n e) ≡ unlisted e
+  bare_same (perform o) = refl
+  bare_same (bind y a b) = rw (bare_same a, bare_same b) refl
+  bare_same (sequence a b) = rw (bare_same a, bare_same b) refl
+  bare_same (branch a b c) = rw (bare_same a, bare_same b, bare_same c) refl
+  bare_same (fix members e) = rw (bare_same e) refl
+  bare_same (call a listed) = refl
+  bare_same (tail_call a) = refl
+  bare_same (return e) = rw (bare_same e) refl
+  bare_same (end e) = rw (bare_same e) refl
+  bare_same (save saves e) = rw (bare_same e) refl
+
+  soon_same : (x : ℕ) (e : Expression) (s : Bool → Bool) → is_soon x (lists_in_order n e) s ≡ is_soon x e s
+  soon_same x (perform o) s = refl
+  soon_same x (bind y a b) s =
+      soon_same x a _ ∙ ap (λ z. is_soon x a (λ t. not (nat_eq x y) && z)) (soon_same x b s)
+  soon_same x (sequence a b) s = soon_same x a _ ∙ ap (λ z. is_soon x a (λ t. z)) (soon_same x b s)
+  soon_same x (branch a b c) s =
+      soon_same x a _
+      ∙ (ap (λ z. is_soon x a (λ t. cond t z (is_soon x (lists_in_order n c) s))) (soon_same x b s)
+      ∙ ap (λ z. is_soon x a (λ t. cond t (is_soon x b s) z)) (soon_same x c s))
+  soon_same x (fix members e) s = rw (soon_same x e s) refl
+  soon_same x (call a listed) s = refl
+  soon_same x (tail_call a) s = refl
+  soon_same x (return e) s = soon_same x e (λ t. nat_eq x 0)
+  soon_same x (end e) s = soon_same x e (λ t. false)
+  soon_same x (save saves e) s =
+      ap (λ z. has x (heads (lists_in_order n e) saves) || z) (soon_same x e s)
+      ∙ ap (λ hs. has x hs || is_soon x e s)
+      (sym (heads_unlisted (lists_in_order n e) saves) ∙ (ap (λ z. heads z saves) (bare_same e) ∙ heads_unlisted e saves))
+
+  before_same : (e : Expression) (s : Behind) → ◌≡◌ {A = ℕ → Bool} (λ x. is_soon x (lists_in_order n e) (s x)) (λ x. is_soon x e (s x))
+  before_same e s = fun_ext (λ x. soon_same x e (s x))
+
+  pub restored_same : (inside : ℕ → Bool) (e : Expression) (s : Behind) → eager n inside (lists_in_order n e) s ≡ eager n inside e s
+  restored_same inside (perform o) s = refl
+  restored_same inside (bind y a b) s =
+      ap (λ f. bind y (eager n inside (lists_in_order n a) (λ x t. not (nat_eq x y) && f x)) (eager n inside (lists_in_order n b) s)) (before_same b s)
+      ∙ (rw (restored_same inside a (λ x t. not (nat_eq x y) && is_soon x b (s x)), restored_same inside b s) refl)
+  restored_same inside (sequence a b) s =
+      ap (λ f. sequence (eager n inside (lists_in_order n a) (λ x t. f x)) (eager n inside (lists_in_order n b) s)) (before_same b s)
+      ∙ (rw (restored_same inside a (λ x t. is_soon x b (s x)), restored_same inside b s) refl)
+  restored_same inside (branch a b c) s =
+      ap (λ f. branch (eager n inside (lists_in_order n a) (λ x t. cond t (f x) (is_soon x (lists_in_order n c) (s x)))) (eager n inside (lists_in_order n b) s)
+      (eager n inside (lists_in_order n c) s)) (before_same b s)
+      ∙ (ap (λ f. branch (eager n inside (lists_in_order n a) (λ x t. cond t (is_soon x b (s x)) (f x))) (eager n inside (lists_in_order n b) s)
+      (eager n inside (lists_in_order n c) s)) (before_same c s)
+      ∙ (rw (restored_same inside a (λ x t. cond t (is_soon x b (s x)) (is_soon x c (s x))), restored_same inside b s, restored_same inside c s) refl))
+  restored_same inside (fix members e) s = rw (restored_same inside e s) refl
+  restored_same inside (call a listed) s = ap (call a) (first_same _ _ (λ x lt. ap (λ t. t && (inside x && (s x true || s x false))) (has_in_order listed x lt)))
+  restored_same inside (tail_call a) s = refl
+  restored_same inside (return e) s = rw (restored_same inside e (λ x t. nat_eq x 0)) refl
+  restored_same inside (end e) s = rw (restored_same inside e (λ x t. false)) refl
+  restored_same inside (save saves e) s = rw (restored_same (with_region saves inside) e s) refl

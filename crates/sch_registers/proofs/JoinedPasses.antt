@@ -1,5 +1,5 @@
 -- The passes of one body, one after the other.
-use Rattle.std.proofs.Common.{◌≡◌, ℕ, false, true, ap, sym, ◌∙◌, subst}
+use Rattle.std.proofs.Common.{◌≡◌, ℕ, ◌+◌, ◌<◌, false, true, ap, sym, ◌∙◌, subst}
 use Rattle.sch_control.specs.declared.body.Body.{Body}
 use Rattle.sch_control.specs.declared.placed_body.PlacedBody.{PlacedBody}
 use Rattle.sch_control.specs.declared.saved_body.SavedBody.{SavedBody}
@@ -9,34 +9,33 @@ use Rattle.sch_control.specs.Tree.{Code, Expression}
 use Rattle.sch_control.specs.View.{expression}
 use Rattle.sch_control.specs.flow.Bare.{erased, unlisted, unsaved}
 use Rattle.sch_control.specs.flow.Live.{nothing_later}
-use Rattle.sch_control.specs.flow.LiveSets.{HasLiveSets}
 use Rattle.sch_control.specs.flow.Middle.{code_with, listed}
+use Rattle.sch_control.specs.flow.Places.{arrival, formals_of, place_of}
 use Rattle.sch_control.specs.flow.Regions.{regions_apart}
 use Rattle.sch_control.specs.flow.RestoredView.{restored}
 use Rattle.sch_control.proofs.ExactSets.{exact}
 use Rattle.sch_frames.specs.Tree as frames
-use Rattle.sch_paths.specs.Exact.{LazySaves}
+use Rattle.sch_paths.specs.Exact.{EagerRestores, LazySaves}
 use Rattle.sch_paths.specs.Regions.{regions_stand}
 use Rattle.sch_live.specs.LiveListed.{lists_in_order, live_listed}
 use Rattle.sch_saves.specs.LazyRegions.{lazily_saved}
 use Rattle.sch_saves.specs.Promises.{EachSaveFollowed}
 use Rattle.sch_saves.proofs.LazyTrees.{erased_is}
-use Rattle.sch_restores.specs.Restores.{all_restored}
-use Rattle.sch_restores.proofs.AllRestored.{erased_all, live_restored}
+use Rattle.sch_restores.specs.Restores.{eagerly_restored}
+use Rattle.sch_restores.proofs.EagerTrees.{erased_eager}
 use Rattle.sch_regs.specs.PlaceChoice.{places}
+use Rattle.sch_regs.specs.Spills.{SlotsWhenFull}
 use Rattle.sch_homes.specs.Homes.{homes_code}
 use Rattle.sch_homes.specs.Laws.{IsPlaced}
-use Rattle.sch_homes.specs.SoonRestored.{EachSoonRestored}
+use Rattle.sch_paths.specs.EachSoonRestored.{EachSoonRestored}
+use Rattle.sch_homes.specs.ListedMoves.{homes_calls}
 use Rattle.sch_homes.specs.View.{bare_code}
 use Rattle.sch_homes.proofs.KeptByType.{body_placed}
 use Rattle.sch_registers.specs.FramedBodies.{IsFramedBody}
-use Rattle.sch_registers.specs.Registers.{registers_code, registers_tree}
+use Rattle.sch_registers.specs.Registers.{registers_calls, registers_code, registers_tree}
 use Rattle.sch_registers.proofs.FramedOne.{IsSavedWell, framed_body}
 use Rattle.sch_registers.proofs.InOrder.{lazily_same, restored_same}
-
--- where each call restores all that is live after it, it restores what is wanted soon
-pub soon_restored : (e : Expression) → HasLiveSets e → EachSoonRestored e
-soon_restored e sets = live_restored (λ x. false) e (Unit {0}) nothing_later nothing_later sets
+use Rattle.sch_registers.proofs.MadeOne.{IsExact}
 
 -- what the passes say of what they made, from what is live after the calls on
 pub record IsJoined {N : ℕ} (b : Body) (live : Expression) (s : SavedBody N) (p : PlacedBody N) : Type 0 where
@@ -51,9 +50,12 @@ pub record IsJoined {N : ℕ} (b : Body) (live : Expression) (s : SavedBody N) (
   pub lazy : LazySaves (listed s.exp)
   pub stand : regions_stand true (listed s.exp) ≡ true
   pub followed : EachSaveFollowed (listed s.exp)
-  pub made_restored : restored p.exp ≡ all_restored b.variables no_region (listed s.exp)
-  pub sets : HasLiveSets (restored p.exp)
+  pub made_restored : restored p.exp ≡ eagerly_restored b.variables (listed s.exp)
+  pub soon : EachSoonRestored (restored p.exp)
+  pub eager : EagerRestores (restored p.exp)
   pub made_places : p.places ≡ places b.entry b.variables (restored p.exp)
+  pub formals : (k : ℕ) → k < formals_of b.entry → place_of p.places (2 + k) ≡ arrival k
+  pub spills : SlotsWhenFull (place_of p.places) (restored p.exp)
 
 module _ {N : ℕ} (b : Body) (live : Expression) (s : SavedBody N) (p : PlacedBody N) (j : IsJoined b live s p) where
   abbrev c : Code
@@ -63,7 +65,7 @@ module _ {N : ℕ} (b : Body) (live : Expression) (s : SavedBody N) (p : PlacedB
   saved = listed s.exp
 
   abbrev tree : Expression
-  tree = all_restored b.variables no_region saved
+  tree = eagerly_restored b.variables saved
 
   body : erased saved ≡ expression b.exp
   body = erased_is saved ∙ (ap unlisted j.without_regions ∙ j.bare)
@@ -80,20 +82,25 @@ module _ {N : ℕ} (b : Body) (live : Expression) (s : SavedBody N) (p : PlacedB
       ap (λ name. code_with name p.entry p.variables (erased (restored p.exp))) j.name
       ∙ (ap (λ entry. code_with b.name entry p.variables (erased (restored p.exp))) j.entry
       ∙ (ap (λ n. code_with b.name b.entry n (erased (restored p.exp))) j.variables
-      ∙ ap (code_with b.name b.entry b.variables) (ap erased j.made_restored ∙ (erased_all b.variables no_region saved ∙ body))))
+      ∙ ap (code_with b.name b.entry b.variables) (ap erased j.made_restored ∙ (erased_eager b.variables no_region saved (λ x t. false) ∙ body))))
 
   placed : IsPlaced c tree (places b.entry b.variables tree)
   placed =
       subst (λ z. IsPlaced c z (places b.entry b.variables z)) j.made_restored
       (subst (IsPlaced c (restored p.exp)) j.made_places (subst (λ z. IsPlaced z (restored p.exp) p.places) bare_is (body_placed p)))
 
+  exactly : IsExact c tree (places b.entry b.variables tree)
+  exactly =
+      subst (λ z. IsExact c z (places b.entry b.variables z)) j.made_restored
+      (subst (IsExact c (restored p.exp)) j.made_places (record { restores = j.eager; formals = j.formals; spills = j.spills }))
+
   tree_is : registers_tree b.variables (expression b.exp) ≡ tree
   unfolding registers_tree
   tree_is =
-      ap (λ z. all_restored b.variables no_region (lazily_saved b.variables z)) (sym j.made_live)
-      ∙ (ap (all_restored b.variables no_region) (lazily_same b.variables live)
-      ∙ (restored_same b.variables no_region (lazily_saved b.variables live)
-      ∙ ap (all_restored b.variables no_region) (sym j.made_saved)))
+      ap (λ z. eagerly_restored b.variables (lazily_saved b.variables z)) (sym j.made_live)
+      ∙ (ap (eagerly_restored b.variables) (lazily_same b.variables live)
+      ∙ (restored_same b.variables no_region (lazily_saved b.variables live) (λ x t. false)
+      ∙ ap (eagerly_restored b.variables) (sym j.made_saved)))
 
   code_is : registers_code c ≡ homes_code b.entry tree (places b.entry b.variables tree)
   unfolding registers_code
@@ -106,4 +113,14 @@ module _ {N : ℕ} (b : Body) (live : Expression) (s : SavedBody N) (p : PlacedB
 
   pub joined_body : (f : frames.Code) → f ≡ homes_code p.entry (restored p.exp) p.places → IsFramedBody c f
   joined_body f is =
-      subst (IsFramedBody c) (sym (is ∙ frame_is)) (framed_body c saved well placed (soon_restored tree (subst HasLiveSets j.made_restored j.sets)) code_is)
+      subst (IsFramedBody c) (sym (is ∙ frame_is)) (framed_body c saved well placed (subst EachSoonRestored j.made_restored j.soon) exactly code_is)
+
+  calls_are : registers_calls c ≡ homes_calls b.entry tree (places b.entry b.variables tree)
+  unfolding registers_calls
+  calls_are = ap (λ z. homes_calls b.entry z (places b.entry b.variables z)) tree_is
+
+  pub joined_calls : homes_calls p.entry (restored p.exp) p.places ≡ registers_calls c
+  joined_calls =
+      ap (λ entry. homes_calls entry (restored p.exp) p.places) j.entry
+      ∙ (ap (homes_calls b.entry (restored p.exp)) j.made_places
+      ∙ (ap (λ z. homes_calls b.entry z (places b.entry b.variables z)) j.made_restored ∙ sym calls_are))

@@ -1,6 +1,6 @@
 -- Worked rows: the trees of bodies with regions and restores, and the words of their frames.
 use Rattle.std.proofs.Common.{◌≡◌, refl, ℕ, List, [], ◌∷◌, false}
-use Rattle.sch_word.specs.declared.primitive.Primitive.TheVariants.{Subtract, Multiply, Equal, Eq}
+use Rattle.sch_word.specs.declared.primitive.Primitive.TheVariants.{Add, Subtract, Multiply, Equal, Eq}
 use Rattle.sch_control.specs.declared.operation.Operation.TheVariants as operation
 use Rattle.sch_control.specs.Tree.{Expression, perform, bind, branch, call, return, save}
 use Rattle.sch_control.proofs.Examples.{applied, held_in, lambda, number, truth}
@@ -45,7 +45,20 @@ factorial_tree : registers_tree 6 (factorial (again [])) ≡ factorial (save (0 
 unfolding registers_tree
 factorial_tree = refl
 
--- Its frame has a slot in which the operand is set aside, and the homes of the return address and of n.
-factorial_words : registers_words (lambda 1 0 6 (factorial (again [])) ∷ []) ≡ 3
+-- Its frame has the homes of the return address and of n: the operand goes to its register at once.
+factorial_words : registers_words (lambda 1 0 6 (factorial (again [])) ∷ []) ≡ 2
 unfolding registers_code registers_tree
 factorial_words = refl
+
+-- ## (define (k x) (g 1) (g 2) (+ x 1)), where x is variable 2
+
+abbrev calls : (first second : List ℕ) → Expression
+calls first second =
+    bind 3 global (bind 4 (call (applied 0 (held_in 3) (number 1 ∷ [])) first)
+    (bind 5 global (bind 6 (call (applied 1 (held_in 5) (number 2 ∷ [])) second)
+    (return (perform (operation.Prim 2 Add (held_in 2 ∷ number 1 ∷ [])))))))
+
+-- The return address and x are saved once, and restored behind the second call alone, as nothing wants them before it.
+calls_tree : registers_tree 7 (calls [] []) ≡ save (0 ∷ 2 ∷ []) (calls [] (0 ∷ 2 ∷ []))
+unfolding registers_tree
+calls_tree = refl

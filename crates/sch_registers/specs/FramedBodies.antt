@@ -9,6 +9,7 @@ use Rattle.sch_frames.specs.Does.{FrameOf}
 use Rattle.sch_frames.specs.Sizes.{code_work, copies_of}
 use Rattle.sch_frames.specs.Standing.{code_marks_stand}
 use Rattle.sch_frames.specs.Tree.{Code}
+use Rattle.sch_registers.specs.MadeFrom.{IsMadeFrom}
 use Rattle.sch_registers.specs.OwnMarks.{CallsItsSaves}
 use Rattle.sch_registers.specs.Registers.{registers_code}
 
@@ -26,6 +27,8 @@ pub record IsFramedBody (c : control.Code) (f : Code) : Type 0 where
   -- its text, 64 bytes for what there is to do and 8 for each copy, is within 72 for each unit of the body's work
   pub fits : 64 * code_work f + 8 * copies_of f.instructions ≤ 72 * control_work.code_work c
   pub called : CallsItsSaves f
+  -- it is the layout of the body's tree with lazy saves, eager restores, places and moves, whatever the passes are
+  pub chain : IsMadeFrom c f
 
 -- one frame body for each body, in their order
 abbrev pub AreFramedBodies : List control.Code → List Code → Type 0

@@ -5,4 +5,4 @@ mod one_body;
 mod programs;
 
 pub use one_body::frame_body;
-pub use programs::frame_program;
+pub use programs::{FramedProgram, frame_program};

@@ -1,13 +1,22 @@
 -- Worked rows: which places variables have.
-use Rattle.std.proofs.Common.{◌≡◌, ℕ, Bool, true, false, [], ◌∷◌, Option, Some, None, refl}
+use Rattle.std.proofs.Common.{◌≡◌, ℕ, Bool, true, false, List, [], ◌∷◌, Option, Some, None, refl, ap, inl, inr, arith}
 use Rattle.sch_word.specs.trees.NumberSets.{has}
+use Rattle.sch_word.specs.declared.place.Place.{Place}
 use Rattle.sch_word.specs.declared.place.Place.TheVariants.{Reg, Slot}
+use Rattle.sch_word.specs.runs.Computation.{gives}
+use Rattle.sch_word.specs.values.Values.{procedure}
 use Rattle.sch_control.specs.declared.body.Entry.{Entry}
 use Rattle.sch_control.specs.declared.operation.Operation.TheVariants as operation
-use Rattle.sch_control.specs.Tree.{Expression, perform, bind, sequence, branch, call, tail_call, return, end}
-use Rattle.sch_control.proofs.Examples.{truth, held_in, applied}
+use Rattle.sch_control.specs.Meaning.{Callee, Environment, Reading, Result, do_body, entry_environment}
+use Rattle.sch_control.specs.Tree.{Expression, perform, bind, sequence, branch, call, tail_call, return, end, save}
+use Rattle.sch_control.proofs.Examples.{truth, held_in, applied, at_start}
+use Rattle.sch_control.specs.flow.Live.{Live}
 use Rattle.sch_control.specs.flow.LiveTests.{is_live}
+use Rattle.sch_control.specs.flow.Middle.{restoring, silent}
+use Rattle.sch_control.specs.flow.Places.{in_slot, place_of}
 use Rattle.sch_regs.specs.PlaceChoice.{Table, place_in, held, choose_each, live_first, arrived, places}
+use Rattle.sch_regs.specs.Promises.{KeepsRuns}
+use Rattle.sch_regs.specs.Spills.{Full, SlotsWhenFull}
 
 -- ## A group
 
@@ -62,10 +71,11 @@ both_live : (is_live 2 arm (λ t. false) ≡ true) × (is_live 3 arm (λ t. fals
 both_live = (refl, refl)
 
 -- Seven variables are live at once: one of them has a slot. The eighth has a register again, as the first is not live behind it.
+abbrev behind_seven : Expression
+behind_seven = bind 9 (get 2) (tail_call (applied 0 (held_in 3) (held_in 4 ∷ held_in 5 ∷ held_in 6 ∷ held_in 7 ∷ held_in 8 ∷ held_in 9 ∷ [])))
+
 abbrev seven : Expression
-seven =
-    bind 2 nothing (bind 3 nothing (bind 4 nothing (bind 5 nothing (bind 6 nothing (bind 7 nothing (bind 8 nothing
-    (bind 9 (get 2) (tail_call (applied 0 (held_in 3) (held_in 4 ∷ held_in 5 ∷ held_in 6 ∷ held_in 7 ∷ held_in 8 ∷ held_in 9 ∷ []))))))))))
+seven = bind 2 nothing (bind 3 nothing (bind 4 nothing (bind 5 nothing (bind 6 nothing (bind 7 nothing (bind 8 nothing behind_seven))))))
 
 seven_places : places (with_formals 0) 10 seven
     ≡ Reg 15 ∷ Reg 14 ∷ Reg 3 ∷ Reg 8 ∷ Reg 9 ∷ Reg 10 ∷ Reg 6 ∷ Reg 7 ∷ Slot 0 ∷ Reg 3 ∷ []
@@ -90,3 +100,82 @@ after_call_places = refl
 -- a form has no formals
 form_places : places None 4 (bind 2 nothing (bind 3 (get 2) (end (get 3)))) ≡ Reg 15 ∷ Reg 14 ∷ Reg 3 ∷ Reg 3 ∷ []
 form_places = refl
+
+-- ## Slots
+
+-- variable 8 of `seven` has a slot, and each of the six registers holds another variable that is live there
+abbrev seven_place : ℕ → Place
+seven_place = place_of (places (with_formals 0) 10 seven)
+
+seven_full : SlotsWhenFull seven_place seven
+seven_full =
+    (register, (tt, (register, (tt, (register, (tt, (register, (tt, (register, (tt, (register, (tt, (full, (tt, (register, (tt, tt)))))))))))))))) where
+      register : {P : Type 0} → false ≡ true → P
+      register h = absurd (cc)
+
+      full : in_slot (seven_place 8) ≡ true → Full seven_place (λ x. Live x behind_seven (λ t. ⊥)) 8
+      full h = (
+        (2, ((λ e. omega (arith, e)), (inl refl, refl))),
+        (
+          (3, ((λ e. omega (arith, e)), (inr (inl ((λ e. omega (arith, e)), inr refl)), refl))),
+          (
+            (4, ((λ e. omega (arith, e)), (inr (inl ((λ e. omega (arith, e)), inr refl)), refl))),
+            (
+              (5, ((λ e. omega (arith, e)), (inr (inl ((λ e. omega (arith, e)), inr refl)), refl))),
+              (
+                (6, ((λ e. omega (arith, e)), (inr (inl ((λ e. omega (arith, e)), inr refl)), refl))),
+                ((7, ((λ e. omega (arith, e)), (inr (inl ((λ e. omega (arith, e)), inr refl)), refl))), tt),
+              ),
+            ),
+          ),
+        ),
+      )
+
+-- a slot is refused to a variable while a register is free
+free_register : SlotsWhenFull (λ x. Slot 0) (bind 2 nothing (end (get 2))) → ⊥
+free_register h =
+    let w = (h.0 refl).0 in
+    let e : Slot 0 ≡ Reg 3 = w.1.1.1 in
+    absurd (cc)
+
+-- ## Calls
+
+-- A form that reads variable 2 behind a call, which overwrites it. The called procedure gives itself.
+abbrev read_behind : (restores : List ℕ) → Expression
+read_behind restores = save (2 ∷ []) (bind 3 (call (applied 0 (held_in 2) []) restores) (end (get 2)))
+
+abbrev callee : Callee
+callee self p vs depth w = Some (gives self w)
+
+abbrev entry : Environment
+entry = entry_environment (procedure 0) (procedure 0 ∷ [])
+
+abbrev ends : Result → Bool
+ends (Some (gives v w)) = true
+ends _ = false
+
+abbrev in_a_slot : List Place
+in_a_slot = Reg 15 ∷ Reg 14 ∷ Slot 0 ∷ Reg 3 ∷ []
+
+abbrev by_slots : Reading
+by_slots = silent (λ x. in_slot (place_of in_a_slot x))
+
+-- it ends where the call restores the variable, and where the variable lives in a slot
+restored_ends : ends (do_body restoring callee 1 (read_behind (2 ∷ [])) entry at_start) ≡ true
+restored_ends = refl
+
+slot_ends : ends (do_body by_slots callee 1 (read_behind []) entry at_start) ≡ true
+slot_ends = refl
+
+-- and is wrong where neither is so
+overwritten : ends (do_body restoring callee 1 (read_behind []) entry at_start) ≡ false
+overwritten = refl
+
+-- so its runs are kept where enough is restored, and not where nothing is
+kept : do_body restoring callee 1 (read_behind (2 ∷ [])) entry at_start ≡ do_body by_slots callee 1 (read_behind (2 ∷ [])) entry at_start
+kept = refl
+
+not_kept : KeepsRuns (read_behind []) (read_behind []) in_a_slot → ⊥
+not_kept h =
+    let e : false ≡ true = ap ends (h callee 1 entry at_start) in
+    absurd (cc)

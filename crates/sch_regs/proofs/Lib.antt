@@ -2,7 +2,6 @@ mod Examples
 pub mod ApartAtPoints
 pub mod ChoiceSteps
 pub mod InScope
-pub mod LiveTested
 pub mod NotedBackward
 pub mod NotedPlaces
 pub mod NotedSteps

@@ -15,29 +15,12 @@ use Rattle.sch_control.specs.AtomsAndSites.{operation_atoms, application_atoms, 
 use Rattle.sch_control.specs.Tree.{Expression, perform, bind, sequence, branch, fix, call, tail_call, return, end, save}
 use Rattle.sch_control.specs.Valid.{member_variables}
 use Rattle.sch_control.specs.flow.Live.{named, known}
-use Rattle.sch_control.specs.flow.LiveTests.{by_result, is_live, Behind}
+use Rattle.sch_control.specs.flow.LiveTests.{behind, by_result, is_live, Behind}
 use Rattle.sch_regs.specs.NotedSets.{Noted, put, put_group, note}
 use Rattle.sch_regs.specs.PlaceChoice.{around}
 use Rattle.sch_control.specs.flow.Reads.{IsWith}
-use Rattle.sch_regs.specs.SetsAsTests.{behind, noted_in, with_first, IsNotedBack}
-
--- ## Sets as tests
-
-same_either : (s : NumberSet) (x : ℕ) (r : Bool) → behind s s x r ≡ set.contains s x
-same_either s x true = refl
-same_either s x false = refl
-
-one_set : (s : NumberSet) (f : ℕ → Bool) → ((x : ℕ) → set.contains s x ≡ f x) → behind s s ≡ (λ x r. f x)
-one_set s f h = fun_ext (λ x. fun_ext (λ r. same_either s x r ∙ h x))
-
-two_sets : (s t : NumberSet) (f g : ℕ → Bool) → ((x : ℕ) → set.contains s x ≡ f x) → ((x : ℕ) → set.contains t x ≡ g x) → behind s t ≡ (λ x r. cond r (f x) (g x))
-two_sets s t f g h k = fun_ext (λ x. fun_ext (λ r. by r x)) where
-  by : (r : Bool) (x : ℕ) → behind s t x r ≡ cond r (f x) (g x)
-  by true x = h x
-  by false x = k x
-
-pub unknown_behind : (o : Operation ℕ) (t f s : NumberSet) → known o ≡ None → s ≡ set.union t f → (x : ℕ) → set.contains s x ≡ by_result (known o) (behind t f x)
-unknown_behind o t f s e u x = ap (λ z. set.contains z x) u ∙ (contains-union t f x ∙ ap (λ k. by_result k (behind t f x)) (sym e))
+use Rattle.sch_control.proofs.SetTests.{link_only, one_set, two_sets}
+use Rattle.sch_regs.specs.SetsAsTests.{noted_in, with_first, IsNotedBack}
 
 -- ## What is noted
 
@@ -152,13 +135,6 @@ call_back a restores t f s b n u w = (
   (λ x. w x ∙ ap (λ z. has x (named (application_atoms a)) || z) (ap (λ q. set.contains q x) u ∙ contains-union t f x)),
   ((λ z l. refl), refl),
 )
-
-link_only : (s0 s : NumberSet) → s0 ≡ set.empty → s ≡ set.insert s0 0 → (x : ℕ) → set.contains s x ≡ nat_eq x 0
-link_only s0 s none put x =
-    ap (λ q. set.contains q x) put ∙ (contains-insert s0 0 x ∙ (ap (λ z. nat_eq x 0 || z) (ap (λ q. set.contains q x) none ∙ contains-empty x) ∙ or_none (nat_eq x 0))) where
-      or_none : (b : Bool) → (b || false) ≡ b
-      or_none true = refl
-      or_none false = refl
 
 pub tail_back : (a : Application ℕ) (t f s0 s b : NumberSet) (n : List NumberSet) → s0 ≡ set.empty → s ≡ set.insert s0 0 → IsWith (application_atoms a) s b
     → IsNotedBack (tail_call a) t f b n n

@@ -14,7 +14,8 @@ use Rattle.sch_control.specs.flow.RestoredView.{restored}
 use Rattle.sch_paths.specs.Conditions.{Saved, Restored}
 use Rattle.sch_paths.proofs.runs.RestoresAreEnough.{valid_fresh}
 use Rattle.sch_paths.proofs.runs.SameWithoutMarks.{silently}
-use Rattle.sch_regs.specs.Promises.{RestoresEnough, KeepsRuns}
+use Rattle.sch_paths.specs.EachSoonRestored.{EachSoonRestored}
+use Rattle.sch_regs.specs.Promises.{KeepsRuns}
 use Rattle.sch_regs.proofs.PlacedBodies.{code_of}
 use Rattle.sch_regs.proofs.SavedWhereRestored.{saved}
 
@@ -31,7 +32,7 @@ less keeps (return e) Met L S r = less keeps e Met _ _ r
 less keeps (end e) Met L S r = less keeps e Met _ _ r
 less keeps (save saves e) Met L S r = less keeps e Met L S r
 
-module _ (c : Code) (e : Expression) (is : erased e ≡ c.expression) (i : in_scope_whole c ≡ true) (n : numbered c ≡ true) (v : restores_saved e no_region ≡ true) (r : RestoresEnough e) where
+module _ (c : Code) (e : Expression) (is : erased e ≡ c.expression) (i : in_scope_whole c ≡ true) (n : numbered c ≡ true) (v : restores_saved e no_region ≡ true) (r : EachSoonRestored e) where
   whatever : (keeps : ℕ → Bool) → Saved keeps e (Unit {0}) no_region nothing_later
   whatever keeps = saved keeps e (Unit {0}) no_region nothing_later nothing_later r v (valid_fresh c e is i n) (λ x t met g b. absurd b)
 
@@ -41,7 +42,7 @@ module _ (c : Code) (e : Expression) (is : erased e ≡ c.expression) (i : in_sc
       sym (silently (λ x. false) callee depth no_region e (whatever (λ x. false)) r (valid_fresh c e is i n) environment w)
       ∙ silently keeps callee depth no_region e (whatever keeps) (less keeps e (Unit {0}) nothing_later nothing_later r) (valid_fresh c e is i n) environment w
 
-pub keeps_runs : {N : ℕ} (b : RestoredBody N) (e : Expression) → e ≡ restored b.exp → RestoresEnough (restored b.exp) → (places : List Place)
+pub keeps_runs : {N : ℕ} (b : RestoredBody N) (e : Expression) → e ≡ restored b.exp → EachSoonRestored (restored b.exp) → (places : List Place)
     → KeepsRuns (restored b.exp) e places
 keeps_runs b e tree r places callee depth environment w =
     subst (λ z. do_body restoring callee depth (restored b.exp) environment w ≡ do_body (silent (λ x. in_slot (place_of places x))) callee depth z environment w) (sym tree)

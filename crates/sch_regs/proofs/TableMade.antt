@@ -14,7 +14,8 @@ use Rattle.sch_control.specs.flow.Bare.{erased}
 use Rattle.sch_control.specs.flow.Places.{formals_of}
 use Rattle.sch_regs.specs.NotedSets.{IsNoted, note, assign_noted}
 use Rattle.sch_regs.specs.PlaceChoice.{arrived, nothing_behind, table_of}
-use Rattle.sch_regs.specs.SetsAsTests.{behind, noted_in, IsNotedBack}
+use Rattle.sch_control.specs.flow.LiveTests.{behind}
+use Rattle.sch_regs.specs.SetsAsTests.{noted_in, IsNotedBack}
 use Rattle.sch_regs.proofs.NotedBackward.{notes, noted_same}
 use Rattle.sch_regs.proofs.NotedPlaces.{noted_places}
 use Rattle.sch_regs.proofs.WholeBodies.{enough, bound_within, sits}

@@ -18,7 +18,7 @@ use Rattle.sch_regs.specs.PlaceChoice.{Table, placed, place_in, slots, choose, c
 use Rattle.sch_word.specs.values.Registers.{argument_registers}
 use Rattle.sch_control.specs.Valid.{without_repeats}
 use Rattle.sch_control.specs.flow.Apart.{EachHas, EachBinding, Around}
-use Rattle.sch_regs.proofs.LiveTested.{or_is, and_is, differ_is, equal_is, live_is}
+use Rattle.sch_paths.proofs.paths.LiveTested.{or_is, and_is, differ_is, equal_is, live_test}
 use Rattle.sch_regs.proofs.ApartAtPoints.{each_at, each_of}
 use Rattle.sch_regs.proofs.InScope.{Sits, Back, reads, bind_first, bind_second, bind_once, bind_apart, back_more, back_bind, seq_first, seq_second, seq_apart, branch_first, branch_second, branch_third, branch_apart, arms_apart, back_branch, fix_inner, fix_apart, members_once, members_read, back_fix, as_return, as_end, as_save}
 use Rattle.sch_regs.proofs.OneChoice.{SlotsBelow, chosen_below, each_below, each_placed, each_kept, Extends, each_once, WellBound, group_well, has_ordered, ordered_once, ordered_live}
@@ -219,7 +219,7 @@ module _ (P : ℕ → Place) where
       let t2 : Table = choose lb y t1 in
       let s1 = bind_first y a b scope s in
       let s2 = bind_second y a b scope s in
-      let test : (x : ℕ) → (is_live x b (l x) ≡ true) ↔ Live x b (L x) = λ x. live_is x b (l x) (L x) (same x) in
+      let test : (x : ℕ) → (is_live x b (l x) ≡ true) ↔ Live x b (L x) = λ x. live_test x b (l x) (L x) (same x) in
       let y_apart : (has y (bound_in a) || has y (bound_in b)) ≡ false = sym (has_append y (bound_in a) (bound_in b)) ∙ bind_once y a b scope s in
       let in_first : (x : ℕ) → has x (bound_in a) ≡ true → has x (bound_in (bind y a b)) ≡ true
       = λ x h. or_right (nat_eq x y) _ (has_append x (bound_in a) (bound_in b) ∙ or_left (has x (bound_in a)) _ h) in
@@ -269,7 +269,7 @@ module _ (P : ℕ → Place) where
       let new_a : New (bound_in a) t = λ x h. new x (has_append x (bound_in a) (bound_in b) ∙ or_left (has x (bound_in a)) _ h) in
       let new_b : New (bound_in b) t1
       = new_more (bound_in b) a la t (λ x h. new x (has_append x (bound_in a) (bound_in b) ∙ or_right (has x (bound_in a)) _ h)) (seq_apart a b scope s) in (
-        well a scope (seq_first a b scope s) la _ (λ x t. live_is x b (l x) (L x) (same x)) (λ x t. reads s2 L f x) t known new_a below o (extends_back P b l t1 new_b ext),
+        well a scope (seq_first a b scope s) la _ (λ x t. live_test x b (l x) (L x) (same x)) (λ x t. reads s2 L f x) t known new_a below o (extends_back P b l t1 new_b ext),
         well b scope s2 l L same f t1 (known_more a la scope t known) new_b (assign_below a la t below) (assign_once a la t new_a (seq_first a b scope s).once o) ext,
       )
   well (branch a b c) scope s l L same f t known new below o ext =
@@ -288,7 +288,7 @@ module _ (P : ℕ → Place) where
       let o1 : without_repeats (placed t1) ≡ true = assign_once a la t new_a (branch_first a b c scope s).once o in
       let o2 : without_repeats (placed t2) ≡ true = assign_once b l t1 new_b (branch_second a b c scope s).once o1 in
       let ext_2 : Extends P t2 = extends_back P c l t2 new_c ext in (
-        well a scope (branch_first a b c scope s) la _ (λ x t. match_cond t _ _ _ _ (live_is x b (l x) (L x) (same x)) (live_is x c (l x) (L x) (same x))) (back_branch a b c scope s L f) t known new_a
+        well a scope (branch_first a b c scope s) la _ (λ x t. match_cond t _ _ _ _ (live_test x b (l x) (L x) (same x)) (live_test x c (l x) (L x) (same x))) (back_branch a b c scope s L f) t known new_a
             below o (extends_back P b l t1 new_b ext_2),
         (
           well b scope (branch_second a b c scope s) l L same f t1 known_1 new_b below_1 o1 ext_2,
@@ -301,7 +301,7 @@ module _ (P : ℕ → Place) where
       let order : List ℕ = live_first live ys in
       let t1 : Table = choose_each live order t in
       let s1 = fix_inner members e scope s in
-      let test : (x : ℕ) → (live x ≡ true) ↔ Around members (λ x. Live x e (L x)) x = λ x. then_is (or_is _ _) (either_same itself (live_is x e (l x) (L x) (same x))) in
+      let test : (x : ℕ) → (live x ≡ true) ↔ Around members (λ x. Live x e (L x)) x = λ x. then_is (or_is _ _) (either_same itself (live_test x e (l x) (L x) (same x))) in
       let in_t1 : (x : ℕ) → has x (placed t1) ≡ (has x ys || has x (placed t)) = λ x. each_placed live order t x ∙ ap (λ z. z || has x (placed t)) (has_ordered live ys x) in
       let new_ys : New order t = λ x h. new x (has_append x ys (bound_in e) ∙ or_left (has x ys) _ (sym (has_ordered live ys x) ∙ h)) in
       let new_e : New (bound_in e) t1

@@ -1,16 +1,10 @@
--- What is asked of a body with restores, and what is promised of its places.
-use Rattle.std.specs.Prelude.{◌≡◌, ℕ, List, false}
+-- What is promised of the places of a body with restores.
+use Rattle.std.specs.Prelude.{◌≡◌, ℕ, List}
 use Rattle.sch_word.specs.declared.place.Place.{Place}
 use Rattle.sch_control.specs.Meaning.{World, Environment, Callee, do_body}
 use Rattle.sch_control.specs.Tree.{Expression}
-use Rattle.sch_control.specs.flow.Live.{nothing_later}
 use Rattle.sch_control.specs.flow.Middle.{restoring, silent}
 use Rattle.sch_control.specs.flow.Places.{in_slot, place_of}
-use Rattle.sch_paths.specs.Conditions.{Restored}
-
--- at each call to which some path comes, what is live after it and wanted before the next call is restored
-abbrev pub RestoresEnough : Expression → Type 0
-RestoresEnough e = Restored (λ x. false) e (Unit {0}) nothing_later nothing_later
 
 -- Where a call leaves a value in what it restores and in what has a slot, the second body does what the first does where a
 -- call leaves a value in what it restores alone; with any callees.

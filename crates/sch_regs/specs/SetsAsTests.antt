@@ -1,15 +1,11 @@
 -- Sets of variables as tests, and what one walk from the end finds.
-use Rattle.std.specs.Prelude.{◌≡◌, ◌<◌, ℕ, cond, List, [], ◌∷◌, length, slice_index_or, slice_set}
+use Rattle.std.specs.Prelude.{◌≡◌, ◌<◌, ℕ, List, [], ◌∷◌, length, slice_index_or, slice_set}
 use Rattle.std.specs.FinSet as set
 use Rattle.sch_sets.specs.Members.{NumberSet}
 use Rattle.sch_control.specs.declared.operation.Member.{Member}
 use Rattle.sch_control.specs.Tree.{Expression}
-use Rattle.sch_control.specs.flow.LiveTests.{is_live, Behind}
+use Rattle.sch_control.specs.flow.LiveTests.{behind, is_live}
 use Rattle.sch_regs.specs.NotedSets.{Noted, note}
-
--- what two sets say is live behind an expression: where its value counts as true, and where it is `#f`
-abbrev pub behind : (on_true on_false : NumberSet) → Behind
-behind on_true on_false x t = set.contains (cond t on_true on_false) x
 
 -- what is noted in a list of sets; nothing past its end
 abbrev pub noted_in : List NumberSet → Noted

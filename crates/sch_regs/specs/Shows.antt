@@ -4,6 +4,7 @@ use Rattle.std.specs.FinSet as set
 use Rattle.sch_sets.specs.Members.{NumberSet}
 use Rattle.sch_regs.specs.PlaceChoice.{Table, in_register, slots, in_order, choose_each, live_first}
 use Rattle.sch_regs.specs.declared.placing.Placing.{Placing}
+use Rattle.sch_regs.specs.declared.placing.TheConstants.{R8, R9, R10, RBX, RDI, RSI}
 
 -- a variable is in that register, by some entry of the table
 abbrev pub holds : Table → (register : ℕ) → ℕ → Bool
@@ -16,12 +17,12 @@ IsHeld t r s = (x : ℕ) → set.contains s x ≡ holds t r x
 
 -- all of it
 pub record ShowsAll {N : ℕ} (count : ℕ) (p : Placing N) (t : Table) : Type 0 where
-  pub rbx : IsHeld t 3 p.rbx
-  pub r8 : IsHeld t 8 p.r8
-  pub r9 : IsHeld t 9 p.r9
-  pub r10 : IsHeld t 10 p.r10
-  pub rsi : IsHeld t 6 p.rsi
-  pub rdi : IsHeld t 7 p.rdi
+  pub rbx : IsHeld t RBX p.rbx.value
+  pub r8 : IsHeld t R8 p.r8.value
+  pub r9 : IsHeld t R9 p.r9.value
+  pub r10 : IsHeld t R10 p.r10.value
+  pub rsi : IsHeld t RSI p.rsi.value
+  pub rdi : IsHeld t RDI p.rdi.value
   pub slots : p.slots ≡ slots t
   pub places : p.places.items ≡ in_order count t
 

@@ -8,7 +8,7 @@ ghost use Rattle.sch_control.specs.flow.Places.{in_slot};
 ghost use Rattle.sch_regs.specs.PlaceChoice as table;
 ghost use Rattle.sch_regs.specs.Shows.{Becomes, IsHeld, ShowsAll};
 
-use crate::placing::Placing;
+use crate::placing::{Placing, R8, R9, R10, RBX, RDI, RSI};
 use sch_sets::Set;
 use sch_word::Place;
 
@@ -44,18 +44,18 @@ fn first_free<const N: usize>(placing: &Placing<N>, live: &Set<N>) -> Place
         → result ≡ table.first_free (set.contains live.now) t argument_registers }
 {
     let slot = Place::Slot(placing.slots);
-    let rdi = unless_held(&placing.rdi, live, 7, slot);
-    let rsi = unless_held(&placing.rsi, live, 6, rdi);
-    let r10 = unless_held(&placing.r10, live, 10, rsi);
-    let r9 = unless_held(&placing.r9, live, 9, r10);
-    let r8 = unless_held(&placing.r8, live, 8, r9);
-    unless_held(&placing.rbx, live, 3, r8)
+    let rdi = unless_held(&placing.rdi, live, RDI, slot);
+    let rsi = unless_held(&placing.rsi, live, RSI, rdi);
+    let r10 = unless_held(&placing.r10, live, R10, rsi);
+    let r9 = unless_held(&placing.r9, live, R9, r10);
+    let r8 = unless_held(&placing.r8, live, R8, r9);
+    unless_held(&placing.rbx, live, RBX, r8)
 }
 
 // Adds a variable to those in a register, where that is its place.
-fn hold<const N: usize>(held: &mut Set<N>, register: u8, y: u32, p: Place)
+fn hold<const N: usize>(held: &mut Box<Set<N>>, register: u8, y: u32, p: Place)
     requires { y < 64 * N }
-    ensures { (t : table.Table) → IsHeld t register held.old → IsHeld ((y, p) ∷ t) register held.new }
+    ensures { (t : table.Table) → IsHeld t register held.old.value → IsHeld ((y, p) ∷ t) register held.new.value }
 {
     if is_register(register, p) {
         held.insert(y);
@@ -64,15 +64,16 @@ fn hold<const N: usize>(held: &mut Set<N>, register: u8, y: u32, p: Place)
 
 /// Gives a variable a place.
 pub(crate) fn give<const N: usize>(placing: &mut Placing<N>, y: u32, p: Place)
-    requires { y < 64 * N }
+    requires words { N < 2 ^ 60 }
+    requires within { y < 64 * N }
     ensures { Becomes placing.old placing.new (λ t. (y, p) ∷ t) }
 {
-    hold(&mut placing.rbx, 3, y, p);
-    hold(&mut placing.r8, 8, y, p);
-    hold(&mut placing.r9, 9, y, p);
-    hold(&mut placing.r10, 10, y, p);
-    hold(&mut placing.rsi, 6, y, p);
-    hold(&mut placing.rdi, 7, y, p);
+    hold(&mut placing.rbx, RBX, y, p);
+    hold(&mut placing.r8, R8, y, p);
+    hold(&mut placing.r9, R9, y, p);
+    hold(&mut placing.r10, R10, y, p);
+    hold(&mut placing.rsi, RSI, y, p);
+    hold(&mut placing.rdi, RDI, y, p);
     set_place(&mut placing.places, y, p);
     placing.slots = count_slot(placing.slots, p);
 }

@@ -1,11 +1,13 @@
 //! Copies of trees with what each call restores.
 
 ghost use Rattle.std.specs.Prelude.{◌≡◌, IfOk};
+ghost use Rattle.std.specs.FinSet as set;
+ghost use Rattle.sch_control.specs.Tree.{call};
 ghost use Rattle.sch_control.specs.flow.RestoredView.{restored, restored_listed};
 
 use sch_control::{
-    Exp, Restoring, boxed_bind, boxed_call, boxed_do, boxed_end, boxed_fix, boxed_if, boxed_return,
-    boxed_save, boxed_seq, boxed_tail_call, copy_application, copy_members, copy_operation,
+    Application, Exp, Restoring, boxed_bind, boxed_call, boxed_end, boxed_if, boxed_return,
+    boxed_seq, copied_do, copied_fix, copied_save, copied_tail_call, copy_application,
 };
 use sch_word::{List, Mem};
 use std::alloc::Global;
@@ -21,6 +23,21 @@ fn copy_restoring<const N: usize>(alloc: Global, r: &Restoring<N>) -> Result<Res
     })
 }
 
+// A copy of a call.
+#[inline(never)]
+fn copied_call<const N: usize>(
+    alloc: Global,
+    a: &Application<u32>,
+    r: &Restoring<N>,
+) -> Result<Box<Exp<Restoring<N>>>, Mem>
+    ensures same { IfOk result (λ e. restored_listed e.value ≡ call a.now (set.items r.now.live)) }
+    ensures tree { IfOk result (λ e. restored e.value ≡ call a.now r.now.restores) }
+{
+    let a = copy_application(alloc, a)?;
+    let r = copy_restoring(alloc, r)?;
+    boxed_call(alloc, a, r)
+}
+
 /// A copy of an expression.
 pub(crate) fn copy<const N: usize>(
     alloc: Global,
@@ -30,10 +47,7 @@ pub(crate) fn copy<const N: usize>(
     ensures tree { IfOk result (λ r. restored r.value ≡ restored e.now) }
 {
     match e {
-        Exp::Do(o) => {
-            let o = copy_operation(alloc, o)?;
-            boxed_do(alloc, o)
-        }
+        Exp::Do(o) => copied_do(alloc, o),
         Exp::Bind(x, a, b) => {
             let a = copy(alloc, a)?;
             let b = copy(alloc, b)?;
@@ -51,19 +65,11 @@ pub(crate) fn copy<const N: usize>(
             boxed_if(alloc, a, b, c)
         }
         Exp::Fix(members, e) => {
-            let members = copy_members(alloc, members)?;
             let e = copy(alloc, e)?;
-            boxed_fix(alloc, members, e)
+            copied_fix(alloc, members, e)
         }
-        Exp::Call(a, r) => {
-            let a = copy_application(alloc, a)?;
-            let r = copy_restoring(alloc, r)?;
-            boxed_call(alloc, a, r)
-        }
-        Exp::TailCall(a) => {
-            let a = copy_application(alloc, a)?;
-            boxed_tail_call(alloc, a)
-        }
+        Exp::Call(a, r) => copied_call(alloc, a, r),
+        Exp::TailCall(a) => copied_tail_call(alloc, a),
         Exp::Return(e) => {
             let e = copy(alloc, e)?;
             boxed_return(alloc, e)
@@ -73,9 +79,8 @@ pub(crate) fn copy<const N: usize>(
             boxed_end(alloc, e)
         }
         Exp::Save(saves, e) => {
-            let saves = List::from_slice(alloc, saves.as_slice())?;
             let e = copy(alloc, e)?;
-            boxed_save(alloc, saves, e)
+            copied_save(alloc, saves, e)
         }
     }
 }

@@ -1,33 +1,15 @@
 //! What is live directly after each binding, by one walk from the end.
 
-ghost use Rattle.std.specs.Prelude.{◌≡◌, ◌*◌, ◌<◌, ℕ, slice_set};
-ghost use Rattle.std.specs.FinSet as set;
-ghost use Rattle.sch_control.specs.flow.Live as flow;
+ghost use Rattle.std.specs.Prelude.{◌≡◌, ◌*◌, ◌<◌, slice_set};
 ghost use Rattle.sch_control.specs.flow.RestoredView.{restored};
-ghost use Rattle.sch_control.specs.flow.LiveTests.{by_result};
 ghost use Rattle.sch_control.specs.flow.Reads.{VariablesBelow};
-ghost use Rattle.sch_regs.specs.SetsAsTests.{IsNotedBack, behind, with_first};
+ghost use Rattle.sch_regs.specs.SetsAsTests.{IsNotedBack, with_first};
 
 use sch_control::{
-    Exp, Member, Operation, Restoring, known, read_application, read_members, read_operation,
+    Exp, Member, Restoring, after_operation, read_application, read_members, read_operation,
     remove_members,
 };
 use sch_sets::Set;
-
-// What is live behind an operation, by what is known of its value.
-fn after_operation<const N: usize>(
-    o: &Operation<u32>,
-    on_true: &Set<N>,
-    on_false: &Set<N>,
-) -> Set<N>
-    ensures { (x : ℕ) → set.contains result x ≡ by_result (flow.known o.now) (behind on_true.now on_false.now x) }
-{
-    match known(o) {
-        Some(true) => on_true.copy(),
-        Some(false) => on_false.copy(),
-        None => on_true.union(on_false),
-    }
-}
 
 // Notes a set under a variable.
 fn set_noted<const N: usize>(noted: &mut Vec<Set<N>>, y: u32, live: &Set<N>)

@@ -1,10 +1,11 @@
 //! The places of the variables of a body.
 
-ghost use Rattle.std.specs.Prelude.{◌≡◌, ◌+◌, ◌<◌, ◌^◌, ℕ, IfOk};
+ghost use Rattle.std.specs.Prelude.{◌≡◌, ◌+◌, ◌<◌, ℕ, IfOk};
 ghost use Rattle.sch_control.specs.flow.Places.{arrival, formals_of, place_of};
 ghost use Rattle.sch_control.specs.flow.RestoredView.{restored, restored_listed};
 ghost use Rattle.sch_regs.specs.PlaceChoice.{places};
-ghost use Rattle.sch_regs.specs.Promises.{KeepsRuns, RestoresEnough};
+ghost use Rattle.sch_paths.specs.EachSoonRestored.{EachSoonRestored};
+ghost use Rattle.sch_regs.specs.Promises.{KeepsRuns};
 ghost use Rattle.sch_regs.specs.Spills.{SlotsWhenFull};
 
 use crate::assigning::assign;
@@ -19,7 +20,6 @@ use std::alloc::Global;
 
 // The places of a body's variables, in the order of their numbers.
 fn places_of<const N: usize>(alloc: Global, b: &RestoredBody<N>) -> Result<List<Place>, Mem>
-    requires { N < 2 ^ 32 }
     ensures { IfOk result (λ ps. ps ≡ places b.now.entry b.now.variables (restored b.now.exp)) }
 {
     let mut noted = none_noted(alloc, b.variables)?;
@@ -35,13 +35,11 @@ fn places_of<const N: usize>(alloc: Global, b: &RestoredBody<N>) -> Result<List<
 /// The body with a place for each of its variables: the return address and the closure stay where they arrive, and so do the
 /// formals; any other variable has the first of six registers that holds nothing that is live directly after it is bound, and
 /// where all of them do, a slot of its own. Each call has to restore what is live after it and wanted before the next one.
-/// That a set is smaller than memory is asked for.
 pub fn assign_places<const N: usize>(
     alloc: Global,
     b: &RestoredBody<N>,
 ) -> Result<PlacedBody<N>, Mem>
-    requires words { N < 2 ^ 32 }
-    requires enough { RestoresEnough (restored b.now.exp) }
+    requires enough { EachSoonRestored (restored b.now.exp) }
     ensures name { IfOk result (λ r. r.name ≡ b.now.name) }
     ensures entry { IfOk result (λ r. r.entry ≡ b.now.entry) }
     ensures variables { IfOk result (λ r. r.variables ≡ b.now.variables) }

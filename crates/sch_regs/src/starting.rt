@@ -1,26 +1,27 @@
 //! What the walks over a body begin with.
 
-ghost use Rattle.std.specs.Prelude.{◌≡◌, ◌*◌, ◌+◌, ◌≤◌, IfOk, [], replicate};
+ghost use Rattle.std.specs.Prelude.{◌≡◌, ◌*◌, ◌+◌, ◌^◌, ◌<◌, ◌≤◌, IfOk, [], replicate};
 ghost use Rattle.std.specs.FinSet as set;
 ghost use Rattle.sch_word.specs.declared.place.Place.TheVariants.{Reg};
 ghost use Rattle.sch_control.specs.flow.Places as entry_places;
 ghost use Rattle.sch_regs.specs.PlaceChoice.{arrived};
+ghost use Rattle.sch_regs.specs.declared.placing.TheConstants.{RBX};
 ghost use Rattle.sch_regs.specs.Shows.{Shows};
 
 use crate::choice::give;
-use crate::placing::Placing;
+use crate::placing::{Placing, R8, R9, R10, RBX, RDI, RSI};
 use sch_control::Entry;
 use sch_sets::Set;
-use sch_word::{Mem, Place};
+use sch_word::{CLOSURE_REGISTER, LINK_REGISTER, Mem, Place};
 use std::alloc::Global;
 
 // A list in which each number counts as being in RBX.
 fn unplaced(alloc: Global, variables: u32) -> Result<Vec<Place>, Mem>
-    ensures { IfOk result (λ ps. ps.items ≡ replicate variables (Reg 3)) }
+    ensures { IfOk result (λ ps. ps.items ≡ replicate variables (Reg RBX)) }
 {
     let mut places = Vec::with_capacity(alloc, variables as usize)?;
     for done in 0..variables {
-        places.push(Place::Reg(3))?;
+        places.push(Place::Reg(RBX))?;
     }
     Ok(places)
 }
@@ -36,20 +37,34 @@ pub(crate) fn none_noted<const N: usize>(alloc: Global, variables: u32) -> Resul
     Ok(sets)
 }
 
+// An empty set on the heap.
+fn no_variables<const N: usize>(alloc: Global) -> Result<Box<Set<N>>, Mem>
+    ensures { IfOk result (λ b. b.value ≡ set.empty) }
+{
+    Ok(Box::new(alloc, Set::new())?)
+}
+
 // No variable has a place.
 fn none_placed<const N: usize>(alloc: Global, variables: u32) -> Result<Placing<N>, Mem>
+    requires { N < 2 ^ 60 }
     ensures { IfOk result (λ p. Shows variables p []) }
 {
     let places = unplaced(alloc, variables)?;
+    let rbx = no_variables(alloc)?;
+    let r8 = no_variables(alloc)?;
+    let r9 = no_variables(alloc)?;
+    let r10 = no_variables(alloc)?;
+    let rsi = no_variables(alloc)?;
+    let rdi = no_variables(alloc)?;
     Ok(Placing {
         places,
         slots: 0,
-        rbx: Set::new(),
-        r8: Set::new(),
-        r9: Set::new(),
-        r10: Set::new(),
-        rsi: Set::new(),
-        rdi: Set::new(),
+        rbx,
+        r8,
+        r9,
+        r10,
+        rsi,
+        rdi,
     })
 }
 
@@ -58,12 +73,12 @@ fn arrival(k: u32) -> Place
     ensures { result ≡ entry_places.arrival k }
 {
     match k {
-        0 => Place::Reg(3),
-        1 => Place::Reg(8),
-        2 => Place::Reg(9),
-        3 => Place::Reg(10),
-        4 => Place::Reg(6),
-        5 => Place::Reg(7),
+        0 => Place::Reg(RBX),
+        1 => Place::Reg(R8),
+        2 => Place::Reg(R9),
+        3 => Place::Reg(R10),
+        4 => Place::Reg(RSI),
+        5 => Place::Reg(RDI),
         _ => Place::Slot(k - 6),
     }
 }
@@ -84,13 +99,14 @@ pub(crate) fn all_arrived<const N: usize>(
     variables: u32,
     formals: u32,
 ) -> Result<Placing<N>, Mem>
+    requires words { N < 2 ^ 60 }
     requires within { 2 + formals ≤ variables }
     requires fits { variables ≤ 64 * N }
     ensures { IfOk result (λ p. Shows variables p (arrived formals)) }
 {
     let mut placing = none_placed(alloc, variables)?;
-    give(&mut placing, 0, Place::Reg(15));
-    give(&mut placing, 1, Place::Reg(14));
+    give(&mut placing, 0, Place::Reg(LINK_REGISTER));
+    give(&mut placing, 1, Place::Reg(CLOSURE_REGISTER));
     for k in 0..formals {
         give(&mut placing, 2 + k, arrival(k));
     }

@@ -1,3 +1,4 @@
 mod Examples
-pub mod AllRestored
+pub mod EagerSteps
+pub mod EagerTrees
 pub mod RestoredBodies

@@ -1,5 +1,5 @@
 -- A body with regions, and its tree with what each call restores.
-use Rattle.std.proofs.Common.{◌≡◌, ℕ, List, Bool, true, ap, sym, ◌∙◌, refl, subst}
+use Rattle.std.proofs.Common.{◌≡◌, ℕ, ◌<◌, ◌≤◌, ◌*◌, List, Bool, true, ap, sym, ◌∙◌, refl, subst, arith}
 use Rattle.std.specs.FinSet as set
 use Rattle.std.proofs.Math.Path.{fun_ext}
 use Rattle.sch_sets.specs.Members.{NumberSet}
@@ -9,25 +9,48 @@ use Rattle.sch_control.specs.Meaning.{no_region}
 use Rattle.sch_control.specs.Tree.{Expression, Code}
 use Rattle.sch_control.specs.flow.Bare.{erased}
 use Rattle.sch_control.specs.flow.LiveSets.{HasLiveSets}
+use Rattle.sch_control.specs.flow.LiveTests.{behind}
 use Rattle.sch_control.specs.flow.Middle.{code_with, listed}
-use Rattle.sch_control.specs.flow.Regions.{regions_apart, restores_saved}
+use Rattle.sch_control.specs.flow.Reads.{VariablesBelow}
+use Rattle.sch_control.specs.flow.Regions.{regions_apart, restores_saved, SavesBelow}
 use Rattle.sch_control.proofs.ExactSets.{exact}
+use Rattle.sch_control.proofs.SetTests.{one_set}
 use Rattle.sch_paths.specs.EachLiveSaved.{EachLiveSaved}
-use Rattle.sch_restores.specs.Restores.{all_restored, RestoresSuffice}
-use Rattle.sch_restores.proofs.AllRestored.{erased_all, apart_all, saved_all, all_live, suffices}
+use Rattle.sch_paths.specs.EachSoonRestored.{EachSoonRestored}
+use Rattle.sch_paths.specs.Exact.{EagerRestores}
+use Rattle.sch_paths.proofs.saves.VariablesBelow.{listed_below, some_below}
+use Rattle.sch_restores.specs.Restores.{eager, eagerly_restored, RestoresSuffice}
+use Rattle.sch_restores.proofs.EagerTrees.{all_eager, apart_below, apart_eager, erased_eager, saved_eager, soon_restored, suffices}
 
 -- the sets are those of the body with regions
 pub same_live : {N : ℕ} (b : SavedBody N) (r : Expression) → r ≡ listed b.exp → ∥ HasLiveSets r ∥₁
 same_live b r is = subst (λ z. ∥ HasLiveSets z ∥₁) (sym is) b.live
 
--- round a body stands no region
-pub of_none : {N : ℕ} (b : SavedBody N) (r : Expression) (s : NumberSet) → s ≡ set.empty
-    → r ≡ all_restored b.variables (λ x. set.contains s x) (listed b.exp) → r ≡ all_restored b.variables no_region (listed b.exp)
-of_none b r s none made = made ∙ ap (λ f. all_restored b.variables f (listed b.exp)) (fun_ext (λ x. ap (λ z. set.contains z x) none ∙ contains-empty x))
+none_there : (s : NumberSet) → s ≡ set.empty → (x : ℕ) → set.contains s x ≡ no_region x
+none_there s none x = ap (λ z. set.contains z x) none ∙ contains-empty x
 
-module _ {N : ℕ} (b : SavedBody N) (r : Expression) (made : r ≡ all_restored b.variables no_region (listed b.exp)) where
+-- round a body stands no region, and behind it nothing is wanted
+pub of_none : (n : ℕ) (e r : Expression) (s t : NumberSet) → s ≡ set.empty → t ≡ set.empty → r ≡ eager n (set.contains s) e (behind t t) → r ≡ eagerly_restored n e
+of_none n e r s t none none' made =
+    made
+    ∙ (ap (λ f. eager n f e (behind t t)) (fun_ext (none_there s none)) ∙ ap (eager n no_region e) (one_set t _ (none_there t none')))
+
+module _ {N : ℕ} (b : SavedBody N) where
+  abbrev code_of : Code
+  code_of = code_with b.name b.entry b.variables (erased (listed b.exp))
+
+  pub some_words : 0 < 64 * N
+  some_words = some_below code_of b.numbered (64 * N) b.fits
+
+  pub variables_within : VariablesBelow (64 * N) (listed b.exp)
+  variables_within = listed_below code_of b.numbered (64 * N) b.fits (listed b.exp) refl b.scoped
+
+  pub saves_within : SavesBelow (64 * N) (listed b.exp)
+  saves_within = apart_below b.variables (64 * N) b.fits (listed b.exp) no_region b.apart
+
+module _ {N : ℕ} (b : SavedBody N) (r : Expression) (made : r ≡ eagerly_restored b.variables (listed b.exp)) where
   same_erased : erased r ≡ erased (listed b.exp)
-  same_erased = ap erased made ∙ erased_all b.variables no_region (listed b.exp)
+  same_erased = ap erased made ∙ erased_eager b.variables no_region (listed b.exp) _
 
   -- what is true of the body's tree without its regions is true of this one
   pub kept : (name : List ℕ) → name ≡ b.name → (test : Code → Bool)
@@ -37,13 +60,16 @@ module _ {N : ℕ} (b : SavedBody N) (r : Expression) (made : r ≡ all_restored
       (subst (λ z. test (code_with b.name b.entry b.variables z) ≡ true) (sym same_erased) h)
 
   pub apart : regions_apart b.variables r no_region ≡ true
-  apart = ap (λ z. regions_apart b.variables z no_region) made ∙ (apart_all b.variables (listed b.exp) no_region no_region ∙ b.apart)
+  apart = ap (λ z. regions_apart b.variables z no_region) made ∙ (apart_eager b.variables (listed b.exp) no_region no_region _ ∙ b.apart)
 
   pub saved : restores_saved r no_region ≡ true
-  saved = ap (λ z. restores_saved z no_region) made ∙ saved_all b.variables (listed b.exp) no_region
+  saved = ap (λ z. restores_saved z no_region) made ∙ saved_eager b.variables (listed b.exp) no_region _
 
-  pub live : EachLiveSaved (listed b.exp) → HasLiveSets r
-  live saves = all_live (code_with b.name b.entry b.variables (erased (listed b.exp))) (listed b.exp) r refl b.scoped b.numbered (exact (listed b.exp) b.live) saves made
+  pub eagerly : EagerRestores r
+  eagerly = all_eager (code_of b) (listed b.exp) r refl b.scoped b.numbered (exact (listed b.exp) b.live) made
+
+  pub enough : EachLiveSaved (listed b.exp) → EachSoonRestored r
+  enough saves = soon_restored (code_of b) (listed b.exp) r refl b.scoped b.numbered (exact (listed b.exp) b.live) made saves
 
   pub runs : EachLiveSaved (listed b.exp) → RestoresSuffice (listed b.exp) r
-  runs saves = suffices (code_with b.name b.entry b.variables (erased (listed b.exp))) (listed b.exp) r refl b.scoped b.numbered (exact (listed b.exp) b.live) saves made
+  runs saves = suffices (code_of b) (listed b.exp) r refl b.scoped b.numbered (exact (listed b.exp) b.live) made saves

@@ -1,6 +1,10 @@
-//! Restores: each call restores all that is saved there and live after it.
+//! Eager restores: directly after each call, what is saved and will be wanted before the next one is restored
+//! (Burger, Waddell and Dybvig, PLDI 1995).
 #![tactic(auto)]
 
-mod restore;
+mod around;
+mod place;
+mod restoring;
+mod wanted;
 
-pub use restore::restore_all;
+pub use place::place_restores;

@@ -5,7 +5,7 @@ use Rattle.std.specs.Fmt.{digit_glyph, digits_onto}
 use Rattle.std.proofs.lemmas.Bool.{eqb-false}
 use Rattle.std.proofs.lemmas.Bool.Decides.{nat_tests}
 use Rattle.sch_insn.specs.declared.insn.Arg.TheVariants.{Reg, Base}
-use Rattle.sch_insn.specs.declared.insn.Insn.TheVariants.{MovNumber, Idiv, AddNumber, SubNumber, CmpNumber}
+use Rattle.sch_insn.specs.declared.insn.Insn.TheVariants.{MovNumber, Idiv, AddNumber8, SubNumber8, CmpNumber8}
 use Rattle.sch_insn.specs.declared.state.StuckCause.{StuckCause}
 use Rattle.sch_insn.specs.Machine.{set_register, add64, sub64, magnitude, difference_of, sum_of, unknown_flags, condition, when_ok, with_flags, with_register, with_place}
 use Rattle.sch_insn.specs.Step.{Runs, moved, perform, quotient_of, dividend_magnitude, is_quotient}
@@ -151,10 +151,10 @@ module _ (setting : Setting) where
         leads = leads_on setting.marks (leads_on setting.marks (leads_on setting.marks (leads_on setting.marks (leads_on setting.marks
             (goes setting x y1 (MovNumber (Reg RDX) (pos 0)) h.0 [] h.1 refl)
             (goes setting y1 y2 (Idiv (Reg RCX)) h1.0 [] h1.1 (divided y1 (y1.place + h1.0) (n / 10) (n % 10) (tenth n (x.registers RCX) ten small))))
-            (goes setting y2 y3 (AddNumber (Reg RDX) (pos 48)) h2.0 [] h2.1 refl))
-            (goes setting y3 y4 (SubNumber (Reg RSI) (pos 1)) h3.0 [] h3.1 refl))
+            (goes setting y2 y3 (AddNumber8 (Reg RDX) (pos 48)) h2.0 [] h2.1 refl))
+            (goes setting y3 y4 (SubNumber8 (Reg RSI) (pos 1)) h3.0 [] h3.1 refl))
             (stores_one_byte setting y4 RDX h4.0 a (Base RSI) [] h4.1 below (omega (arith, low)) (omega (arith, end, size, long, low))))
-            (goes setting y5 y6 (CmpNumber (Reg RAX) (pos 0)) h5.0 [] h5.1 refl);
+            (goes setting y5 y6 (CmpNumber8 (Reg RAX) (pos 0)) h5.0 [] h5.1 refl);
         begun = longer z x y6 piece room (digit_glyph false (n % 10)) b long below (ap (with_byte x.bytes a) glyph) refl refl (λ r e. let o = other_of r e in rw (o.0, o.2, o.3) refl) refl refl;
         rest = refl;
         ten = ten;

@@ -28,7 +28,7 @@ use Rattle.sch_asm.specs.Views.{text_at}
 use Rattle.sch_runtime.specs.Code.{routine_items}
 
 -- the routines take this many bytes at most
-routine_bytes : text_size routine_items ≡ 489
+routine_bytes : text_size routine_items ≡ 447
 routine_bytes = refl
 
 -- a program's text, with all jumps long

@@ -27,8 +27,8 @@ module _ (setting : Setting) where
         most = 2;
         leads = leads_on setting.marks (goes setting x y (MovNumber (Reg RDI) (pos status)) h.0 [] h.1 refl) (goes setting y z (MovNumber (Reg RAX) (pos 60)) h.2.0 [] h.2.1 refl);
         few = omega arith;
-        exits = stepped setting z Syscall h.2.2.0 _ h.2.2.1.0 refl ∙ ap (λ n. Exited n (full setting z)) same;
-        silent = h.2.2.1.1;
+        exits = stepped setting z Syscall h.2.2.0 [] _ h.2.2.1 refl ∙ ap (λ n. Exited n (full setting z)) same;
+        silent = h.2.2.1.3;
         output_is = refl;
         left_is = refl;
       }

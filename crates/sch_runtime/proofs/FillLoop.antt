@@ -5,7 +5,7 @@ use Rattle.std.specs.Int.{w64, to_le_bytes}
 use Rattle.std.proofs.lemmas.Bool.{ne_eqb}
 use Rattle.sch_insn.specs.declared.insn.Arg.TheVariants.{Reg, Base}
 use Rattle.sch_insn.specs.declared.insn.Insn.{Insn}
-use Rattle.sch_insn.specs.declared.insn.Insn.TheVariants.{AddNumber, SubNumber, CmpNumber, JumpTo}
+use Rattle.sch_insn.specs.declared.insn.Insn.TheVariants.{AddNumber8, SubNumber8, CmpNumber8, JumpTo}
 use Rattle.sch_insn.specs.Machine.{set_register, add64, sub64, difference_of, sum_of, condition, put_bytes, word}
 use Rattle.sch_insn.proofs.Paths.{leads_then, leads_on}
 use Rattle.sch_insn.specs.declared.register.TheConstants.{RAX, RCX, RDX, R11}
@@ -85,7 +85,7 @@ module _ (setting : Setting) where
           let y3 : View = record y2 { place = x.registers R11 } in
           record {
             y = y3;
-            leads = leads_on setting.marks (leads_on setting.marks (goes setting x y1 (CmpNumber (Reg RDX) (pos 0)) h.0 [] h.1 refl)
+            leads = leads_on setting.marks (leads_on setting.marks (goes setting x y1 (CmpNumber8 (Reg RDX) (pos 0)) h.0 [] h.1 refl)
                 (branches setting y1 NE turn (Plain (JumpTo (Reg R11)) ∷ []) [] false h.2 is))
                 (goes setting y2 y3 (JumpTo (Reg R11)) h2.0 [] h2.1 refl);
             at = refl;
@@ -134,11 +134,11 @@ module _ (setting : Setting) where
           record {
             y = y5;
             leads = leads_on setting.marks (leads_on setting.marks (leads_on setting.marks (leads_on setting.marks
-                (goes setting x y1 (CmpNumber (Reg RDX) (pos 0)) h.0 [] h.1 refl)
+                (goes setting x y1 (CmpNumber8 (Reg RDX) (pos 0)) h.0 [] h.1 refl)
                 (branches setting y1 NE turn (Plain (JumpTo (Reg R11)) ∷ []) [] true h.2 is))
                 (stores y2 h2.0 a h2.1 address q.element_is low (omega (arith, high, both))))
-                (goes setting y3 y4 (AddNumber (Reg RAX) (pos size)) h3.0 [] h3.1 refl))
-                (goes setting y4 y5 (SubNumber (Reg RDX) (pos 1)) h4.0 [] h4.1 refl);
+                (goes setting y3 y4 (AddNumber8 (Reg RAX) (pos size)) h3.0 [] h3.1 refl))
+                (goes setting y4 y5 (SubNumber8 (Reg RDX) (pos 1)) h4.0 [] h4.1 refl);
             ahead = record {
               at = sym h4.2.1;
               address = ap (add64 (x.registers RAX)) step_is ∙ omega (arith, address, low, high, top, both, size_is);

@@ -4,7 +4,7 @@ use Rattle.std.specs.Prelude.{pos, negsuc, ℤ, ◌≤ℤ◌}
 use Rattle.std.specs.Fmt.{decimal, digits, digits_onto, signed_decimal}
 use Rattle.std.proofs.lemmas.Int.{ints}
 use Rattle.sch_insn.specs.declared.insn.Arg.TheVariants.{Reg, Base}
-use Rattle.sch_insn.specs.declared.insn.Insn.TheVariants.{MovTo, MovNumber, SubTo, SubNumber, CmpNumber, Neg, Sar}
+use Rattle.sch_insn.specs.declared.insn.Insn.TheVariants.{MovTo, MovNumber, SubTo, SubNumber8, CmpNumber8, Neg, Sar}
 use Rattle.sch_insn.specs.Machine.{set_register, sub64, is_negative, difference_of, unknown_flags, shift_right_signed}
 use Rattle.sch_insn.proofs.Paths.{leads_then, leads_on, leads_within}
 use Rattle.sch_insn.specs.declared.register.TheConstants.{RAX, RCX, RDX, RSI, RDI, R11}
@@ -111,7 +111,7 @@ module _ (setting : Setting) where
         y = record y1 { place = place_of ready_label };
         least = 2;
         most = 2;
-        leads = leads_on setting.marks (goes setting x y1 (CmpNumber (Reg RDI) (pos 0)) h.0 [] h.1 refl)
+        leads = leads_on setting.marks (goes setting x y1 (CmpNumber8 (Reg RDI) (pos 0)) h.0 [] h.1 refl)
             (branches setting y1 GE ready_label minus_code [] true h.2 (ge_zero (x.registers RDI) false fits e));
         few = omega arith;
         begun = record {
@@ -149,9 +149,9 @@ module _ (setting : Setting) where
         least = 5;
         most = 5;
         leads = leads_on setting.marks (leads_on setting.marks (leads_on setting.marks (leads_on setting.marks
-            (goes setting x y1 (CmpNumber (Reg RDI) (pos 0)) h.0 [] h.1 refl)
+            (goes setting x y1 (CmpNumber8 (Reg RDI) (pos 0)) h.0 [] h.1 refl)
             (branches setting y1 GE ready_label minus_code [] false h1 (ge_zero (x.registers RDI) true fits e)))
-            (goes setting y2 y3 (SubNumber (Reg RSI) (pos 1)) h2.0 [] h2.1 refl))
+            (goes setting y2 y3 (SubNumber8 (Reg RSI) (pos 1)) h2.0 [] h2.1 refl))
             (goes setting y3 y4 (MovNumber (Reg RDX) (pos 45)) h3.0 [] h3.1 refl))
             (stores_one_byte setting y4 RDX h4.0 a (Base RSI) [] h4.1 below (omega (arith, low)) (omega (arith, end, size, long, low)));
         few = omega arith;
@@ -212,7 +212,7 @@ module _ (setting : Setting) where
             (stores_data setting y1 RDI kept_rdi (Plain (Sar (Reg RAX) 3) ∷ Plain (MovTo (Reg RDI) RAX) ∷ absolute_code) [] h.4 kept.inside_rdi))
             (goes setting y2 y3 (Sar (Reg RAX) 3) h.4.4.0 [] h.4.4.1 refl))
             (goes setting y3 y4 (MovTo (Reg RDI) RAX) h.4.4.2.0 [] h.4.4.2.1 refl))
-            (goes setting y4 y5 (CmpNumber (Reg RAX) (pos 0)) h.4.4.2.2.0 [] h.4.4.2.2.1 refl)
+            (goes setting y4 y5 (CmpNumber8 (Reg RAX) (pos 0)) h.4.4.2.2.0 [] h.4.4.2.2.1 refl)
 
         h5 : Stands setting [] y5.place (JumpIf GE positive_label ∷ Plain (Neg (Reg RAX)) ∷ Label positive_label ∷ positive_code)
         h5 = h.4.4.2.2.2

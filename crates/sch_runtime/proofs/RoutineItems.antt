@@ -2,7 +2,7 @@
 use Rattle.std.proofs.Common.{◌≡◌, ℕ, ◌<◌, List, [], ◌∷◌, ◌++◌, refl, arith}
 use Rattle.std.proofs.lemmas.Int.{ints}
 use Rattle.std.proofs.lemmas.List.Elements.{All-from_recursion}
-use Rattle.std.specs.Int.{w32}
+use Rattle.std.specs.Int.{w8, w32}
 use Rattle.std.specs.Prelude.{FitsSigned, IsTrue, nat_le, nat_lt, ℤ, pos, ◌||◌, ◌&&◌}
 use Rattle.sch_word.specs.declared.stop.Stop.TheVariants.{WrongType, OutOfRange, NotProcedure, WrongCount, DivideByZero, Overflow, HeapLimit, DepthLimit, Unset, OutputFailed}
 use Rattle.sch_insn.specs.declared.insn.Insn.{Insn}
@@ -17,6 +17,9 @@ use Rattle.sch_runtime.specs.Code.{byte_store, bytes_label, bytes_test, bytes_tu
 
 fits_by : (z : ℤ) (n : ℕ) → z ≡ pos n → n < 2147483648 → FitsSigned w32 z
 fits_by z n e lt = record { sfits = omega (arith, ints, e, lt) }
+
+fits_one : (z : ℤ) (n : ℕ) → z ≡ pos n → n < 128 → FitsSigned w8 z
+fits_one z n e lt = record { sfits = omega (arith, ints, e, lt) }
 
 -- an exit before other items
 exit_sound : (l s : ℕ) (rest : List Item) → s < 128 → AreItems rest → AreItems (Label l ∷ (exit_code s ++ rest))
@@ -33,10 +36,10 @@ fill_sound l size turn test store rest low s h = (
       (
         s,
         (
-          ((omega arith, fits_by (pos size) size refl (omega (arith, low))), tt),
+          ((omega arith, fits_one (pos size) size refl (omega (arith, low))), tt),
           (
-            ((omega arith, fits_by (pos 1) 1 refl (omega arith)), tt),
-            (tt, (((omega arith, fits_by (pos 0) 0 refl (omega arith)), tt), ((omega arith, λ e. omega (arith, e), λ e. omega (arith, e)), ((omega arith, tt), h)))),
+            ((omega arith, fits_one (pos 1) 1 refl (omega arith)), tt),
+            (tt, (((omega arith, fits_one (pos 0) 0 refl (omega arith)), tt), ((omega arith, λ e. omega (arith, e), λ e. omega (arith, e)), ((omega arith, tt), h)))),
           ),
         ),
       ),
@@ -65,7 +68,7 @@ put_sound = (
             (
               tt,
               (
-                ((omega arith, fits_by (pos 0) 0 refl (omega arith)), tt),
+                ((omega arith, fits_one (pos 0) 0 refl (omega arith)), tt),
                 (
                   (omega arith, λ e. omega (arith, e), λ e. omega (arith, e)),
                   (
@@ -75,7 +78,7 @@ put_sound = (
                       (
                         (tt, tt),
                         (
-                          ((omega arith, fits_by (pos 0) 0 refl (omega arith)), tt),
+                          ((omega arith, fits_one (pos 0) 0 refl (omega arith)), tt),
                           (
                             (omega arith, λ e. omega (arith, e), λ e. omega (arith, e)),
                             (
@@ -105,7 +108,7 @@ put_sound = (
                                                     (
                                                       ((omega arith, omega arith), tt),
                                                       (
-                                                        ((omega arith, fits_by (pos 0) 0 refl (omega arith)), tt),
+                                                        ((omega arith, fits_one (pos 0) 0 refl (omega arith)), tt),
                                                         (
                                                           (omega arith, λ e. omega (arith, e), λ e. omega (arith, e)),
                                                           (
@@ -123,21 +126,21 @@ put_sound = (
                                                                       (
                                                                         (omega arith, tt),
                                                                         (
-                                                                          ((omega arith, fits_by (pos 48) 48 refl (omega arith)), tt),
+                                                                          ((omega arith, fits_one (pos 48) 48 refl (omega arith)), tt),
                                                                           (
-                                                                            ((omega arith, fits_by (pos 1) 1 refl (omega arith)), tt),
+                                                                            ((omega arith, fits_one (pos 1) 1 refl (omega arith)), tt),
                                                                             (
                                                                               (((omega arith, λ e. omega (arith, e)), omega arith, refl), tt),
                                                                               (
-                                                                                ((omega arith, fits_by (pos 0) 0 refl (omega arith)), tt),
+                                                                                ((omega arith, fits_one (pos 0) 0 refl (omega arith)), tt),
                                                                                 (
                                                                                   (omega arith, λ e. omega (arith, e), λ e. omega (arith, e)),
                                                                                   (
-                                                                                    ((omega arith, fits_by (pos 0) 0 refl (omega arith)), tt),
+                                                                                    ((omega arith, fits_one (pos 0) 0 refl (omega arith)), tt),
                                                                                     (
                                                                                       (omega arith, λ e. omega (arith, e), λ e. omega (arith, e)),
                                                                                       (
-                                                                                        ((omega arith, fits_by (pos 1) 1 refl (omega arith)), tt),
+                                                                                        ((omega arith, fits_one (pos 1) 1 refl (omega arith)), tt),
                                                                                         (
                                                                                           ((omega arith, fits_by (pos 45) 45 refl (omega arith)), tt),
                                                                                           (

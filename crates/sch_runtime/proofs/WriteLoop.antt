@@ -9,7 +9,7 @@ use Rattle.sch_word.specs.values.Put.{put}
 use Rattle.sch_word.specs.declared.answer.Answer.{Answer}
 use Rattle.sch_word.specs.declared.answer.Answer.TheVariants.{Took, Failed}
 use Rattle.sch_insn.specs.declared.insn.Arg.TheVariants.{Reg}
-use Rattle.sch_insn.specs.declared.insn.Insn.TheVariants.{MovNumber, AddTo, SubTo, CmpNumber, Syscall}
+use Rattle.sch_insn.specs.declared.insn.Insn.TheVariants.{MovNumber, AddTo, SubTo, CmpNumber8, Syscall}
 use Rattle.sch_insn.specs.Machine.{set_register, add64, sub64, difference_of, sum_of, unknown_flags, condition, head_or_0}
 use Rattle.sch_insn.specs.Step.{Runs, answered, rest_of, write_row, piece_written}
 use Rattle.sch_insn.proofs.Paths.{leads_then, leads_on}
@@ -117,7 +117,7 @@ module _ (setting : Setting) where
         record {
           next = next;
           leads = leads_on setting.marks (leads_on setting.marks
-              (leads_on setting.marks (leads_on setting.marks (goes setting x y1 (CmpNumber (Reg RDX) (pos 0)) h.0 [] h.1 refl) (branches setting y1 E done_label ask_code [] false h.2 is))
+              (leads_on setting.marks (leads_on setting.marks (goes setting x y1 (CmpNumber8 (Reg RDX) (pos 0)) h.0 [] h.1 refl) (branches setting y1 E done_label ask_code [] false h.2 is))
               (goes setting y2 y3 (MovNumber (Reg RAX) (pos 1)) h2.0 [] h2.1 refl))
               (goes setting y3 y4 (MovNumber (Reg RDI) (pos 1)) h2.2.0 [] h2.2.1 refl))
               (goes setting y4 (wrote (asking x) next rax taken left) Syscall h2.2.2.0 [] h2.2.2.1 (offered y4 next b bs size piece ∙ ap Runs (answer y4 next refl)));
@@ -135,7 +135,7 @@ module _ (setting : Setting) where
           y = record y1 { place = place_of done_label };
           least = 2;
           most = 2;
-          leads = leads_on setting.marks (goes setting x y1 (CmpNumber (Reg RDX) (pos 0)) h.0 [] h.1 refl) (branches setting y1 E done_label ask_code [] true h.2 is);
+          leads = leads_on setting.marks (goes setting x y1 (CmpNumber8 (Reg RDX) (pos 0)) h.0 [] h.1 refl) (branches setting y1 E done_label ask_code [] true h.2 is);
           few = omega arith;
           at = refl;
           kept = λ k e. refl;
@@ -169,7 +169,7 @@ module _ (setting : Setting) where
         record {
           y = record y4 { place = place_of loop_label };
           leads = leads_on setting.marks (leads_on setting.marks (leads_on setting.marks (leads_on setting.marks (leads_on setting.marks q.leads
-              (goes setting y0 y1 (CmpNumber (Reg RAX) (pos 0)) h.0 [] h.1 refl))
+              (goes setting y0 y1 (CmpNumber8 (Reg RAX) (pos 0)) h.0 [] h.1 refl))
               (branches setting y1 LE failed_label next_code [] false h.2 (passes_le m some (omega arith))))
               (goes setting y2 y3 (AddTo (Reg RSI) RAX) h2.0 [] h2.1 refl))
               (goes setting y3 y4 (SubTo (Reg RDX) RAX) h2.2.0 [] h2.2.1 refl))
@@ -211,7 +211,7 @@ module _ (setting : Setting) where
         let y1 : View = record y0 { flags = (difference_of rax 0).flags; place = q.next + h.0 } in
         let y2 : View = record y1 { place = place_of failed_label } in
         stops_after setting x y2 7 7 3 12 74 (x.output ++ []) left
-        (leads_on setting.marks (leads_on setting.marks q.leads (goes setting y0 y1 (CmpNumber (Reg RAX) (pos 0)) h.0 [] h.1 refl)) (branches setting y1 LE failed_label next_code [] true h.2 taken))
+        (leads_on setting.marks (leads_on setting.marks q.leads (goes setting y0 y1 (CmpNumber8 (Reg RAX) (pos 0)) h.0 [] h.1 refl)) (branches setting y1 LE failed_label next_code [] true h.2 taken))
         (fails y2 refl) (let f = ap length e in omega (arith, f))
 
     answered_by : (b : ℕ) (bs : List ℕ) (rax : ℕ) (taken : List ℕ) (left answers : List Answer)

@@ -3,7 +3,7 @@
 use Rattle.std.specs.Prelude.{ℕ, ◌+◌, ◌%◌, List, [], ◌∷◌, ◌++◌, pos}
 use Rattle.sch_insn.specs.declared.insn.Arg.TheVariants.{Reg, Base}
 use Rattle.sch_insn.specs.declared.insn.Insn.{Insn}
-use Rattle.sch_insn.specs.declared.insn.Insn.TheVariants.{MovTo, MovNumber, StoreByte, AddTo, SubTo, AddNumber, SubNumber, CmpNumber, Neg, Idiv, Sar, JumpTo, Syscall}
+use Rattle.sch_insn.specs.declared.insn.Insn.TheVariants.{MovTo, MovNumber, StoreByte, AddTo, SubTo, AddNumber8, SubNumber8, CmpNumber8, Neg, Idiv, Sar, JumpTo, Syscall}
 use Rattle.sch_insn.specs.declared.condition.TheConstants.{E, NE, GE, LE}
 use Rattle.sch_insn.specs.declared.register.TheConstants.{RAX, RCX, RDX, RSI, RDI, R11}
 use Rattle.sch_word.specs.runs.ProgramLayout.{data_address}
@@ -96,14 +96,14 @@ abbrev pub next_code : List Item
 next_code = Plain (AddTo (Reg RSI) RAX) ∷ Plain (SubTo (Reg RDX) RAX) ∷ Jump loop_label ∷ []
 
 abbrev pub count_code : List Item
-count_code = Plain (CmpNumber (Reg RAX) (pos 0)) ∷ JumpIf LE failed_label ∷ next_code
+count_code = Plain (CmpNumber8 (Reg RAX) (pos 0)) ∷ JumpIf LE failed_label ∷ next_code
 
 -- the kernel is asked
 abbrev pub ask_code : List Item
 ask_code = Plain (MovNumber (Reg RAX) (pos 1)) ∷ Plain (MovNumber (Reg RDI) (pos 1)) ∷ Plain Syscall ∷ count_code
 
 abbrev pub loop_code : List Item
-loop_code = Plain (CmpNumber (Reg RDX) (pos 0)) ∷ JumpIf E done_label ∷ ask_code
+loop_code = Plain (CmpNumber8 (Reg RDX) (pos 0)) ∷ JumpIf E done_label ∷ ask_code
 
 -- From here on rsi has the address of what is left and rdx its size.
 abbrev pub write_code : List Item
@@ -123,23 +123,23 @@ ready_code = Plain (MovNumber (Reg RDX) (pos digits_end)) ∷ Plain (SubTo (Reg 
 
 -- a sign stands before the digits of a number below zero
 abbrev pub minus_code : List Item
-minus_code = Plain (SubNumber (Reg RSI) (pos 1)) ∷ Plain (MovNumber (Reg RDX) (pos 45)) ∷ Plain (StoreByte (Base RSI) RDX) ∷ Label ready_label ∷ ready_code
+minus_code = Plain (SubNumber8 (Reg RSI) (pos 1)) ∷ Plain (MovNumber (Reg RDX) (pos 45)) ∷ Plain (StoreByte (Base RSI) RDX) ∷ Label ready_label ∷ ready_code
 
 abbrev pub sign_code : List Item
-sign_code = Plain (CmpNumber (Reg RDI) (pos 0)) ∷ JumpIf GE ready_label ∷ minus_code
+sign_code = Plain (CmpNumber8 (Reg RDI) (pos 0)) ∷ JumpIf GE ready_label ∷ minus_code
 
 -- The last digit of rax goes before rsi, and rax loses it.
 abbrev pub digit_code : List Item
 digit_code =
-    Plain (MovNumber (Reg RDX) (pos 0)) ∷ Plain (Idiv (Reg RCX)) ∷ Plain (AddNumber (Reg RDX) (pos 48))
-    ∷ Plain (SubNumber (Reg RSI) (pos 1)) ∷ Plain (StoreByte (Base RSI) RDX) ∷ Plain (CmpNumber (Reg RAX) (pos 0)) ∷ JumpIf NE digit_label ∷ sign_code
+    Plain (MovNumber (Reg RDX) (pos 0)) ∷ Plain (Idiv (Reg RCX)) ∷ Plain (AddNumber8 (Reg RDX) (pos 48))
+    ∷ Plain (SubNumber8 (Reg RSI) (pos 1)) ∷ Plain (StoreByte (Base RSI) RDX) ∷ Plain (CmpNumber8 (Reg RAX) (pos 0)) ∷ JumpIf NE digit_label ∷ sign_code
 
 abbrev pub positive_code : List Item
 positive_code = Plain (MovNumber (Reg RSI) (pos digits_end)) ∷ Plain (MovNumber (Reg RCX) (pos 10)) ∷ Label digit_label ∷ digit_code
 
 -- rdi has the fixnum, and rax its absolute value
 abbrev pub absolute_code : List Item
-absolute_code = Plain (CmpNumber (Reg RAX) (pos 0)) ∷ JumpIf GE positive_label ∷ Plain (Neg (Reg RAX)) ∷ Label positive_label ∷ positive_code
+absolute_code = Plain (CmpNumber8 (Reg RAX) (pos 0)) ∷ JumpIf GE positive_label ∷ Plain (Neg (Reg RAX)) ∷ Label positive_label ∷ positive_code
 
 abbrev pub fixnum_code : List Item
 fixnum_code = StoreWord kept_rsi RSI ∷ StoreWord kept_rdi RDI ∷ Plain (Sar (Reg RAX) 3) ∷ Plain (MovTo (Reg RDI) RAX) ∷ absolute_code
@@ -148,11 +148,11 @@ fixnum_code = StoreWord kept_rsi RSI ∷ StoreWord kept_rdi RDI ∷ Plain (Sar (
 
 -- the fill ends where none is left
 abbrev pub test_code : ℕ → List Item
-test_code turn = Plain (CmpNumber (Reg RDX) (pos 0)) ∷ JumpIf NE turn ∷ Plain (JumpTo (Reg R11)) ∷ []
+test_code turn = Plain (CmpNumber8 (Reg RDX) (pos 0)) ∷ JumpIf NE turn ∷ Plain (JumpTo (Reg R11)) ∷ []
 
 -- An element of this size is written by a store of rcx.
 abbrev pub turn_code : Insn → ℕ → ℕ → ℕ → List Item
-turn_code store size turn test = Plain store ∷ Plain (AddNumber (Reg RAX) (pos size)) ∷ Plain (SubNumber (Reg RDX) (pos 1)) ∷ Label test ∷ test_code turn
+turn_code store size turn test = Plain store ∷ Plain (AddNumber8 (Reg RAX) (pos size)) ∷ Plain (SubNumber8 (Reg RDX) (pos 1)) ∷ Label test ∷ test_code turn
 
 abbrev pub fill_code : Insn → ℕ → ℕ → ℕ → List Item
 fill_code store size turn test = Jump test ∷ Label turn ∷ turn_code store size turn test

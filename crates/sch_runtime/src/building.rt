@@ -1,11 +1,13 @@
 //! The items of the run-time routines, made.
 
-ghost use Rattle.std.specs.Prelude.{◌≡◌, ◌≤◌, ◌%◌, [], ◌∷◌, ◌++◌, IfOk, IsTrue};
+ghost use Rattle.std.specs.Prelude.{◌≡◌, ◌<◌, ◌≤◌, ◌%◌, [], ◌∷◌, ◌++◌, IfOk, IsTrue};
+ghost use Rattle.std.specs.List.{list_all};
 ghost use Rattle.sch_asm.specs.declared.item.Item.TheVariants as item;
 ghost use Rattle.sch_asm.specs.Items.{AreRoutines};
 ghost use Rattle.sch_asm.specs.Routines.{label_of};
 ghost use Rattle.sch_asm.specs.Codes.{text_size};
 ghost use Rattle.sch_asm.specs.Effects.{AreEffective};
+ghost use Rattle.sch_asm.specs.Narrow.{is_narrow_item};
 ghost use Rattle.sch_runtime.specs.Form.{keeps_form};
 ghost use Rattle.sch_runtime.specs.Code.{digit_code, digit_label, done_code, done_label, exit_code, fixnum_code, put_code, fill_code, routine_items};
 
@@ -61,6 +63,8 @@ pub fn routines(alloc: Global, limits: Limits) -> Result<Asm, Mem>
     ensures joined { IfOk result (λ r. AreRoutines r.items r.words r.zeros) }
     ensures effective { IfOk result (λ r. AreEffective r.items) }
     ensures short { IfOk result (λ r. text_size r.items ≤ 1024) }
+    // Each instruction has its shortest form.
+    ensures narrow { IfOk result (λ r. IsTrue (list_all is_narrow_item r.items)) }
     // Their text alone shows where each of them returns.
     ensures form { IfOk result (λ r. IsTrue (keeps_form r.items)) }
 {
@@ -125,12 +129,12 @@ fn put_items() -> [Item; 17]
         Item::Label(WRITE),
         Item::StoreWord(KEPT_R11, R11),
         Item::Label(LOOP),
-        Item::Plain(Insn::CmpNumber(Arg::Reg(RDX), 0)),
+        Item::Plain(Insn::CmpNumber8(Arg::Reg(RDX), 0)),
         Item::JumpIf(E, DONE),
         Item::Plain(Insn::MovNumber(Arg::Reg(RAX), 1)),
         Item::Plain(Insn::MovNumber(Arg::Reg(RDI), 1)),
         Item::Plain(Insn::Syscall),
-        Item::Plain(Insn::CmpNumber(Arg::Reg(RAX), 0)),
+        Item::Plain(Insn::CmpNumber8(Arg::Reg(RAX), 0)),
         Item::JumpIf(LE, Routine::Stop(Stop::OutputFailed).label()),
         Item::Plain(Insn::AddTo(Arg::Reg(RSI), RAX)),
         Item::Plain(Insn::SubTo(Arg::Reg(RDX), RAX)),
@@ -161,7 +165,7 @@ fn fixnum_items() -> [Item; 11]
         Item::StoreWord(KEPT_RDI, RDI),
         Item::Plain(Insn::Sar(Arg::Reg(RAX), 3)),
         Item::Plain(Insn::MovTo(Arg::Reg(RDI), RAX)),
-        Item::Plain(Insn::CmpNumber(Arg::Reg(RAX), 0)),
+        Item::Plain(Insn::CmpNumber8(Arg::Reg(RAX), 0)),
         Item::JumpIf(GE, POSITIVE),
         Item::Plain(Insn::Neg(Arg::Reg(RAX))),
         Item::Label(POSITIVE),
@@ -178,14 +182,14 @@ fn digit_items() -> [Item; 17]
         Item::Label(DIGIT),
         Item::Plain(Insn::MovNumber(Arg::Reg(RDX), 0)),
         Item::Plain(Insn::Idiv(Arg::Reg(RCX))),
-        Item::Plain(Insn::AddNumber(Arg::Reg(RDX), 48)),
-        Item::Plain(Insn::SubNumber(Arg::Reg(RSI), 1)),
+        Item::Plain(Insn::AddNumber8(Arg::Reg(RDX), 48)),
+        Item::Plain(Insn::SubNumber8(Arg::Reg(RSI), 1)),
         Item::Plain(Insn::StoreByte(Arg::Base(RSI), RDX)),
-        Item::Plain(Insn::CmpNumber(Arg::Reg(RAX), 0)),
+        Item::Plain(Insn::CmpNumber8(Arg::Reg(RAX), 0)),
         Item::JumpIf(NE, DIGIT),
-        Item::Plain(Insn::CmpNumber(Arg::Reg(RDI), 0)),
+        Item::Plain(Insn::CmpNumber8(Arg::Reg(RDI), 0)),
         Item::JumpIf(GE, READY),
-        Item::Plain(Insn::SubNumber(Arg::Reg(RSI), 1)),
+        Item::Plain(Insn::SubNumber8(Arg::Reg(RSI), 1)),
         Item::Plain(Insn::MovNumber(Arg::Reg(RDX), 45)),
         Item::Plain(Insn::StoreByte(Arg::Base(RSI), RDX)),
         Item::Label(READY),
@@ -197,6 +201,7 @@ fn digit_items() -> [Item; 17]
 
 // A fill by stores of elements of a size. Each turn writes one element at the address, until none is left.
 fn fill_items(routine: Routine, store: Insn, size: u8, turn: u32, test: u32) -> [Item; 10]
+    requires { size < 128 }
     ensures { result ≡ item.Label (label_of routine) ∷ fill_code store size turn test }
 {
     let address = Arg::Reg(RAX);
@@ -206,10 +211,10 @@ fn fill_items(routine: Routine, store: Insn, size: u8, turn: u32, test: u32) -> 
         Item::Jump(test),
         Item::Label(turn),
         Item::Plain(store),
-        Item::Plain(Insn::AddNumber(address, size as i32)),
-        Item::Plain(Insn::SubNumber(left, 1)),
+        Item::Plain(Insn::AddNumber8(address, size as i8)),
+        Item::Plain(Insn::SubNumber8(left, 1)),
         Item::Label(test),
-        Item::Plain(Insn::CmpNumber(left, 0)),
+        Item::Plain(Insn::CmpNumber8(left, 0)),
         Item::JumpIf(NE, turn),
         Item::Plain(Insn::JumpTo(Arg::Reg(R11))),
     ]

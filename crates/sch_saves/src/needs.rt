@@ -11,202 +11,184 @@ ghost use Rattle.sch_saves.specs.SetsOfNeeds.{AreSavedBy};
 use crate::regions::with_region;
 use crate::variables::Variables;
 use sch_control::{
-    Application, Exp, Operation, boxed_bind, boxed_call, boxed_do, boxed_end, boxed_fix, boxed_if,
-    boxed_return, boxed_seq, boxed_tail_call, copy_application, copy_members, copy_operation,
-    known, members_of,
+    Application, Exp, Operation, boxed_bind, boxed_call, boxed_end, boxed_if, boxed_return,
+    boxed_seq, copied_do, copied_fix, copied_tail_call, copy_application, known, members_of,
 };
 use sch_sets::Set;
 use sch_word::Mem;
 use std::alloc::Global;
 
-/// What is live after a call on each path through an expression: on each that gives a value that counts as true, and on
-/// each that gives `#f`.
-#[derive(Drop)]
-pub(crate) struct Needs<const N: usize> {
-    pub on_true: Set<N>,
-    pub on_false: Set<N>,
+/// What all paths through an expression need.
+#[inline(never)]
+pub(crate) fn settle<const N: usize>(on_true: &mut Set<N>, on_false: &mut Set<N>)
+    ensures on_true { on_true.new ≡ set.intersection on_true.old on_false.old }
+    ensures on_false { on_false.new ≡ set.intersection on_true.old on_false.old }
+{
+    *on_true = on_true.meet(on_false);
+    *on_false = on_true.copy();
 }
 
-impl<const N: usize> Needs<N> {
-    /// Nothing.
-    pub fn none() -> Needs<N>
-        ensures on_true { result.on_true ≡ set.empty }
-        ensures on_false { result.on_false ≡ set.empty }
-    {
-        Needs {
-            on_true: Set::new(),
-            on_false: Set::new(),
-        }
-    }
+// Nothing is needed.
+#[inline(never)]
+fn clear<const N: usize>(on_true: &mut Set<N>, on_false: &mut Set<N>)
+    ensures on_true { on_true.new ≡ set.empty }
+    ensures on_false { on_false.new ≡ set.empty }
+{
+    *on_true = Set::new();
+    *on_false = Set::new();
+}
 
-    /// What all paths need.
-    pub fn both(&self) -> Set<N>
-        ensures { result ≡ set.intersection self.now.on_true self.now.on_false }
-    {
-        self.on_true.meet(&self.on_false)
-    }
+// What an expression and then another one need, for a result of the other one.
+#[inline(never)]
+fn need_then<const N: usize>(on_true: &Set<N>, on_false: &Set<N>, next: &mut Set<N>)
+    ensures { next.new ≡ set.union (set.intersection on_true.now on_false.now) next.old }
+{
+    *next = on_true.meet(on_false).union(next);
+}
 
-    /// Whatever the value is, the same.
-    pub fn set_both(&mut self, s: &Set<N>)
-        ensures on_true { self.new.on_true ≡ s.now }
-        ensures on_false { self.new.on_false ≡ s.now }
-    {
-        self.on_true = s.copy();
-        self.on_false = s.copy();
-    }
-
-    /// An expression, and then another one.
-    pub fn then(&mut self, next: &Needs<N>)
-        ensures on_true { self.new.on_true ≡ set.union (set.intersection self.old.on_true self.old.on_false) next.now.on_true }
-        ensures on_false { self.new.on_false ≡ set.union (set.intersection self.old.on_true self.old.on_false) next.now.on_false }
-    {
-        let both = self.both();
-        self.on_true = both.union(&next.on_true);
-        self.on_false = both.union(&next.on_false);
-    }
-
-    /// A test, and then one of two arms.
-    pub fn choose(&mut self, first: &Needs<N>, second: &Needs<N>)
-        ensures on_true { self.new.on_true
-            ≡ set.intersection (set.union self.old.on_true first.now.on_true) (set.union self.old.on_false second.now.on_true) }
-        ensures on_false { self.new.on_false
-            ≡ set.intersection (set.union self.old.on_true first.now.on_false) (set.union self.old.on_false second.now.on_false) }
-    {
-        let on_true = self.on_true.union(&first.on_true);
-        let on_false = self.on_true.union(&first.on_false);
-        self.on_true = on_true.meet(&self.on_false.union(&second.on_true));
-        self.on_false = on_false.meet(&self.on_false.union(&second.on_false));
-    }
+// What a test and then one of two arms need, for a result of the arms.
+#[inline(never)]
+fn need_either<const N: usize>(
+    on_true: &Set<N>,
+    on_false: &Set<N>,
+    first: &mut Set<N>,
+    second: &Set<N>,
+)
+    ensures { first.new ≡ set.intersection (set.union on_true.now first.old) (set.union on_false.now second.now) }
+{
+    *first = on_true.union(first).meet(&on_false.union(second));
 }
 
 // What an operation needs: nothing, or everything for a result that it does not have.
-fn of_operation<const N: usize>(variables: &Variables<N>, o: &Operation<u32>) -> Needs<N>
-    ensures { AreSavedBy variables.now.count (tree.perform o.now) result.on_true result.on_false }
+#[inline(never)]
+fn need_value<const N: usize>(
+    variables: &Variables<'_, N>,
+    o: &Operation<u32>,
+    on_true: &mut Set<N>,
+    on_false: &mut Set<N>,
+)
+    ensures { AreSavedBy variables.now.count (tree.perform o.now) on_true.new on_false.new }
 {
+    clear(on_true, on_false);
     match known(o) {
-        Some(true) => Needs {
-            on_true: Set::new(),
-            on_false: variables.all.copy(),
-        },
-        Some(false) => Needs {
-            on_true: variables.all.copy(),
-            on_false: Set::new(),
-        },
-        None => Needs::none(),
+        Some(true) => *on_false = variables.all.copy(),
+        Some(false) => *on_true = variables.all.copy(),
+        None => {}
     }
 }
 
-fn operation<const N: usize>(
-    alloc: Global,
-    variables: &Variables<N>,
-    o: &Operation<u32>,
-    needs: &mut Needs<N>,
-) -> Result<Box<Exp<Set<N>>>, Mem>
-    ensures made { IfOk result (λ r. listed r.value ≡ tree.perform o.now) }
-    ensures sets { OnOk result (AreSavedBy variables.now.count (tree.perform o.now) needs.new.on_true needs.new.on_false) }
+// What a call needs.
+#[inline(never)]
+fn need_live<const N: usize>(
+    variables: &Variables<'_, N>,
+    live: &Set<N>,
+    on_true: &mut Set<N>,
+    on_false: &mut Set<N>,
+)
+    ensures on_true { on_true.new ≡ set.intersection live.now variables.now.all.now }
+    ensures on_false { on_false.new ≡ set.intersection live.now variables.now.all.now }
 {
-    *needs = of_operation(variables, o);
-    let o = copy_operation(alloc, o)?;
-    boxed_do(alloc, o)
+    *on_true = live.meet(variables.all);
+    *on_false = on_true.copy();
 }
 
-fn call<const N: usize>(
+// A copy of a call.
+#[inline(never)]
+fn copied_call<const N: usize>(
     alloc: Global,
-    variables: &Variables<N>,
     a: &Application<u32>,
     live: &Set<N>,
-    needs: &mut Needs<N>,
 ) -> Result<Box<Exp<Set<N>>>, Mem>
-    ensures made { IfOk result (λ r. listed r.value ≡ tree.call a.now (set.items live.now)) }
-    ensures sets { OnOk result (AreSavedBy variables.now.count (tree.call a.now (set.items live.now)) needs.new.on_true needs.new.on_false) }
+    ensures { IfOk result (λ r. listed r.value ≡ tree.call a.now (set.items live.now)) }
 {
-    needs.set_both(&live.meet(&variables.all));
     let a = copy_application(alloc, a)?;
     boxed_call(alloc, a, live.copy())
 }
 
-fn tail_call<const N: usize>(
-    alloc: Global,
-    a: &Application<u32>,
-    needs: &mut Needs<N>,
-) -> Result<Box<Exp<Set<N>>>, Mem>
-    ensures made { IfOk result (λ r. listed r.value ≡ tree.tail_call a.now) }
-    ensures sets { OnOk result ((needs.new.on_true ≡ set.empty) × (needs.new.on_false ≡ set.empty)) }
-{
-    *needs = Needs::none();
-    let a = copy_application(alloc, a)?;
-    boxed_tail_call(alloc, a)
-}
-
 /// A region round an expression of all that it needs.
+#[inline(never)]
 pub(crate) fn surround<const N: usize>(
     alloc: Global,
-    variables: &Variables<N>,
-    needs: &Needs<N>,
+    variables: &Variables<'_, N>,
+    on_true: &Set<N>,
+    on_false: &Set<N>,
     e: Box<Exp<Set<N>>>,
 ) -> Result<Box<Exp<Set<N>>>, Mem>
     ensures { IfOk result (λ r. listed r.value ≡ lazily.round
-        (filter (set.contains (set.intersection needs.now.on_true needs.now.on_false)) (numbers 0 variables.now.count))
+        (filter (set.contains (set.intersection on_true.now on_false.now)) (numbers 0 variables.now.count))
         (listed e.entry.value)) }
 {
-    let saves = members_of(alloc, variables.count, &needs.both())?;
+    let saves = members_of(alloc, variables.count, &on_true.meet(on_false))?;
     with_region(alloc, saves, e)
 }
 
-/// A copy of an expression with a region round each arm of all that the arm needs; `needs` gets what the whole needs.
+/// A copy of an expression with a region round each arm of all that the arm needs. `on_true` and `on_false` get what the whole
+/// needs: what is live after a call on each path that gives a value that counts as true, and on each that gives `#f`.
 pub(crate) fn with_needs<const N: usize>(
     alloc: Global,
-    variables: &Variables<N>,
+    variables: &Variables<'_, N>,
     e: &Exp<Set<N>>,
-    needs: &mut Needs<N>,
+    on_true: &mut Set<N>,
+    on_false: &mut Set<N>,
 ) -> Result<Box<Exp<Set<N>>>, Mem>
     ensures made { IfOk result (λ r. listed r.value ≡ lazily.with_needs variables.now.count (listed e.now)) }
-    ensures sets { OnOk result (AreSavedBy variables.now.count (listed e.now) needs.new.on_true needs.new.on_false) }
+    ensures sets { OnOk result (AreSavedBy variables.now.count (listed e.now) on_true.new on_false.new) }
 {
-    let mut next = Needs::none();
+    let mut before_true = Set::new();
+    let mut before_false = Set::new();
     match e {
-        Exp::Do(o) => operation(alloc, variables, o, needs),
+        Exp::Do(o) => {
+            need_value(variables, o, on_true, on_false);
+            copied_do(alloc, o)
+        }
         Exp::Bind(x, a, b) => {
-            let a = with_needs(alloc, variables, a, needs)?;
-            let b = with_needs(alloc, variables, b, &mut next)?;
-            needs.then(&next);
+            let a = with_needs(alloc, variables, a, &mut before_true, &mut before_false)?;
+            let b = with_needs(alloc, variables, b, on_true, on_false)?;
+            need_then(&before_true, &before_false, on_true);
+            need_then(&before_true, &before_false, on_false);
             boxed_bind(alloc, *x, a, b)
         }
         Exp::Seq(a, b) => {
-            let a = with_needs(alloc, variables, a, needs)?;
-            let b = with_needs(alloc, variables, b, &mut next)?;
-            needs.then(&next);
+            let a = with_needs(alloc, variables, a, &mut before_true, &mut before_false)?;
+            let b = with_needs(alloc, variables, b, on_true, on_false)?;
+            need_then(&before_true, &before_false, on_true);
+            need_then(&before_true, &before_false, on_false);
             boxed_seq(alloc, a, b)
         }
         Exp::If(a, b, c) => {
-            let mut other = Needs::none();
-            let a = with_needs(alloc, variables, a, needs)?;
-            let first = with_needs(alloc, variables, b, &mut next)?;
-            let b = surround(alloc, variables, &next, first)?;
-            let second = with_needs(alloc, variables, c, &mut other)?;
-            let c = surround(alloc, variables, &other, second)?;
-            needs.choose(&next, &other);
+            let mut other_true = Set::new();
+            let mut other_false = Set::new();
+            let a = with_needs(alloc, variables, a, &mut before_true, &mut before_false)?;
+            let first = with_needs(alloc, variables, b, on_true, on_false)?;
+            let b = surround(alloc, variables, on_true, on_false, first)?;
+            let second = with_needs(alloc, variables, c, &mut other_true, &mut other_false)?;
+            let c = surround(alloc, variables, &other_true, &other_false, second)?;
+            need_either(&before_true, &before_false, on_true, &other_true);
+            need_either(&before_true, &before_false, on_false, &other_false);
             boxed_if(alloc, a, b, c)
         }
         Exp::Fix(members, e) => {
-            let members = copy_members(alloc, members)?;
-            let e = with_needs(alloc, variables, e, needs)?;
-            boxed_fix(alloc, members, e)
+            let e = with_needs(alloc, variables, e, on_true, on_false)?;
+            copied_fix(alloc, members, e)
         }
-        Exp::Call(a, live) => call(alloc, variables, a, live, needs),
-        Exp::TailCall(a) => tail_call(alloc, a, needs),
+        Exp::Call(a, live) => {
+            need_live(variables, live, on_true, on_false);
+            copied_call(alloc, a, live)
+        }
+        Exp::TailCall(a) => {
+            clear(on_true, on_false);
+            copied_tail_call(alloc, a)
+        }
         Exp::Return(e) => {
-            let e = with_needs(alloc, variables, e, needs)?;
-            let both = needs.both();
-            needs.set_both(&both);
+            let e = with_needs(alloc, variables, e, on_true, on_false)?;
+            settle(on_true, on_false);
             boxed_return(alloc, e)
         }
         Exp::End(e) => {
-            let e = with_needs(alloc, variables, e, needs)?;
-            let both = needs.both();
-            needs.set_both(&both);
+            let e = with_needs(alloc, variables, e, on_true, on_false)?;
+            settle(on_true, on_false);
             boxed_end(alloc, e)
         }
-        Exp::Save(_, e) => with_needs(alloc, variables, e, needs),
+        Exp::Save(_, e) => with_needs(alloc, variables, e, on_true, on_false),
     }
 }

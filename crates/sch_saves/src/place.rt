@@ -1,6 +1,6 @@
 //! Where a body saves its variables.
 
-ghost use Rattle.std.specs.Prelude.{◌≡◌, ◌≤◌, ◌<◌, ◌*◌, ◌^◌, true, IsTrue, IfOk};
+ghost use Rattle.std.specs.Prelude.{◌≡◌, ◌≤◌, ◌*◌, true, IsTrue, IfOk};
 ghost use Rattle.sch_control.specs.flow.Bare.{unsaved};
 ghost use Rattle.sch_control.specs.flow.Middle.{listed};
 ghost use Rattle.sch_paths.specs.Exact.{LazySaves};
@@ -10,9 +10,9 @@ ghost use Rattle.sch_paths.specs.EachLiveSaved.{EachLiveSaved};
 ghost use Rattle.sch_paths.specs.PlainlySame.{PlainlySame};
 ghost use Rattle.sch_saves.specs.Promises.{EachSaveFollowed};
 
-use crate::needs::{Needs, surround, with_needs};
+use crate::needs::{surround, with_needs};
 use crate::outermost::outermost;
-use crate::variables::first_variables;
+use crate::variables::{Variables, first_variables};
 use sch_control::{Exp, LiveBody, SavedBody};
 use sch_sets::Set;
 use sch_word::{List, Mem};
@@ -24,21 +24,20 @@ fn lazily_saved<const N: usize>(
     e: &Exp<Set<N>>,
 ) -> Result<Box<Exp<Set<N>>>, Mem>
     requires fits { count ≤ 64 * N }
-    requires words { N < 2 ^ 32 }
     ensures { IfOk result (λ r. listed r.value ≡ lazily.lazily_saved count (listed e.now)) }
 {
-    let variables = first_variables(count);
-    let mut needs = Needs::none();
-    let marked = with_needs(alloc, &variables, e, &mut needs)?;
-    let whole = surround(alloc, &variables, &needs, marked)?;
+    let all = first_variables(count);
+    let variables = Variables { count, all: &all };
+    let mut on_true = Set::new();
+    let mut on_false = Set::new();
+    let marked = with_needs(alloc, &variables, e, &mut on_true, &mut on_false)?;
+    let whole = surround(alloc, &variables, &on_true, &on_false, marked)?;
     outermost(alloc, whole, &Set::new())
 }
 
 /// The body with regions that save, each round the body or an arm of a test: of what each path through it has a call
-/// after which it is live, without what a region round it saves. The live sets stay. That a set is smaller than memory is
-/// asked for.
+/// after which it is live, without what a region round it saves. The live sets stay.
 pub fn place_saves<const N: usize>(alloc: Global, b: &LiveBody<N>) -> Result<SavedBody<N>, Mem>
-    requires words { N < 2 ^ 32 }
     ensures name { IfOk result (λ r. r.name ≡ b.now.name) }
     ensures entry { IfOk result (λ r. r.entry ≡ b.now.entry) }
     ensures variables { IfOk result (λ r. r.variables ≡ b.now.variables) }

@@ -8,6 +8,7 @@ pub mod ProgramSound
 pub mod ProgramMarks
 pub mod ProgramKnown
 pub mod TextSize
+pub mod NarrowProgram
 pub mod SameSize
 pub mod ProgramFacts
 pub mod BareItems

@@ -9,6 +9,7 @@ use Rattle.sch_insn.specs.declared.insn.Insn.TheVariants.{MovWord}
 use Rattle.sch_insn.specs.declared.register.TheConstants.{RBP, R12, R13}
 use Rattle.sch_asm.specs.declared.item.Item.{Item}
 use Rattle.sch_asm.specs.declared.item.Item.TheVariants as item
+use Rattle.sch_asm.specs.Narrow.{narrowed}
 use Rattle.sch_word.specs.declared.mark.MarkKind.TheVariants.{Enter}
 use Rattle.sch_asm.specs.declared.routine.Routine.TheVariants as routine
 use Rattle.sch_asm.specs.Routines.{label_of}
@@ -86,8 +87,13 @@ laid_code words heap_end literals heap depth count bodies =
     ∷ forms_code words heap_end literals 0 (body_label count) bodies
     (item.Jump (label_of routine.End) ∷ own_code heap_end)))
 
+-- the items that its instructions are selected to
+abbrev pub selected_code : Source → (heap depth : ℕ) → List Item
+selected_code p heap depth = laid_code p.words (heap_of p + heap) (count_literals p.statics.literals) (heap_of p) depth (length p.bodies) p.bodies
+
+-- and its items: each instruction has its shortest form
 abbrev pub program_code : Source → (heap depth : ℕ) → List Item
-program_code p heap depth = laid_code p.words (heap_of p + heap) (count_literals p.statics.literals) (heap_of p) depth (length p.bodies) p.bodies
+program_code p heap depth = narrowed (selected_code p heap depth)
 
 -- the heap and the stack
 abbrev pub program_zeros : Source → (heap depth : ℕ) → ℕ

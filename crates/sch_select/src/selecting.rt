@@ -6,6 +6,7 @@ ghost use Rattle.sch_word.specs.declared.limits.TheConstants.{MAX_DEPTH};
 ghost use Rattle.sch_word.specs.runs.Runs.{max_statics};
 ghost use Rattle.sch_asm.specs.Codes.{text_size};
 ghost use Rattle.sch_asm.specs.Items.{AreOwn};
+ghost use Rattle.sch_asm.specs.Narrow.{is_narrow_item, narrowed};
 ghost use Rattle.sch_asm.specs.Routines.{label_of};
 ghost use Rattle.sch_asm.specs.declared.routine.Routine.TheVariants as routine;
 ghost use Rattle.sch_asm.specs.declared.item.Item.TheVariants as item;
@@ -27,7 +28,7 @@ ghost use Rattle.sch_select.specs.MarkedStores.{stores_marked};
 ghost use Rattle.sch_select.specs.Sizes.{instructions_in, kinds_in, kinds_of, steps_size};
 
 use crate::body_items::{Frames, forms};
-use sch_asm::{Asm, Item, Routine};
+use sch_asm::{Asm, Item, Routine, narrowed};
 use sch_frames::{FrameBody, FrameProgram};
 use sch_insn::Insn;
 use sch_insn::register::{R12, R13, RBP};
@@ -83,8 +84,8 @@ fn put_bodies(
     own_routines(items, frames.heap_end)
 }
 
-/// The items of a program whose heap and stack begin so.
-fn items_of(alloc: Global, p: &FrameProgram, ends: Ends) -> Result<List<Item>, Mem>
+/// What the instructions of a program are selected to, whose heap and stack begin so.
+fn selected_items(alloc: Global, p: &FrameProgram, ends: Ends) -> Result<List<Item>, Mem>
     requires heap { ends.heap < 2 ^ 31 }
     requires stack { ends.stack ≤ max_heap_end }
     requires depth { ends.depth ≤ MAX_DEPTH }
@@ -113,6 +114,20 @@ fn items_of(alloc: Global, p: &FrameProgram, ends: Ends) -> Result<List<Item>, M
     Ok(items)
 }
 
+/// Its items: each instruction has its shortest form.
+fn items_of(alloc: Global, p: &FrameProgram, ends: Ends) -> Result<List<Item>, Mem>
+    requires heap { ends.heap < 2 ^ 31 }
+    requires stack { ends.stack ≤ max_heap_end }
+    requires depth { ends.depth ≤ MAX_DEPTH }
+    requires reached { IsTrue (list_all is_reached_code (codes_of p.now.bodies)) }
+    requires few { length p.now.statics.literals ≤ max_statics }
+    ensures { IfOk result (λ items. items ≡ narrowed (laid_code p.now.words ends.stack (length p.now.statics.literals) ends.heap
+        ends.depth (length p.now.bodies) (codes_of p.now.bodies))) }
+{
+    let items = selected_items(alloc, p, ends)?;
+    narrowed(alloc, items.as_slice())
+}
+
 /// The items and data of a frame program under limits of heap and depth. RBP, R12 and R13 are set, the bodies
 /// follow one after the other, those of procedures jumped over, and behind them the program's own routines.
 ///
@@ -130,6 +145,8 @@ pub fn select(alloc: Global, p: &FrameProgram, limits: Limits) -> Result<Asm, Me
     ensures entries { IfOk result (λ a. EntersFrames (source p.now) limits.heap limits.depth a.items a.words a.zeros) }
     // The items are those that the program is defined to have.
     ensures items { IfOk result (λ a. a.items ≡ program_code (source p.now) limits.heap limits.depth) }
+    // No displacement and no number of an instruction has four bytes where one byte has it too.
+    ensures narrow { IfOk result (λ a. IsTrue (list_all is_narrow_item a.items)) }
     ensures takes { IfOk result (λ a. TakesFrames (source p.now) limits.heap limits.depth a.items a.words a.zeros) }
     ensures own { IfOk result (λ a. AreOwn a.items) }
     ensures text { IfOk result (λ a. text_size a.items ≤ 2048 + (64 * program_work (source p.now) + 8 * program_copies (source p.now))) }
@@ -137,7 +154,7 @@ pub fn select(alloc: Global, p: &FrameProgram, limits: Limits) -> Result<Asm, Me
     ensures instructions { IfOk result (λ a. steps_size (source p.now) ≤ 3 * instructions_in a.items) }
     ensures ahead { IfOk result (λ a. IsTrue (jumps_ahead (own_label (source p.now)) a.items)) }
     ensures marks { IfOk result (λ a. kinds_in a.items ≡ kinds_of 0 (source p.now).bodies) }
-    // Where each mark of a body stands at its instruction, each write of a word of a frame stands behind one.
+    // Where each mark of a body stands at its instruction, each write of memory that RBP names stands behind one.
     ensures stores { IfOk result (λ a. IsTrue (all_marks_stand (source p.now).bodies) → IsTrue (stores_marked None a.items)) }
     // The words end where the heap begins.
     ensures words { IfOk result (λ a. 0x10000000 + 8 * length a.words ≡ heap_of (source p.now)) }

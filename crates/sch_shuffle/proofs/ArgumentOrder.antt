@@ -11,7 +11,7 @@ use Rattle.sch_shuffle.specs.declared.choice.Choice.TheVariants.{Direct, Aside}
 use Rattle.sch_shuffle.specs.Tree.{Tree}
 use Rattle.sch_shuffle.specs.Assignment.{place_at, Transfer}
 use Rattle.sch_shuffle.specs.Plans.{onward, transfer, transfers}
-use Rattle.sch_shuffle.specs.Greedy.{uses_target, is_in, all_choices, evaluations, onwards, made}
+use Rattle.sch_shuffle.specs.Greedy.{uses_target, is_in, number_of, all_choices, evaluations, onwards, made}
 use Rattle.sch_shuffle.specs.GreedySteps.{order, IsOrdered, onward_from, GoesOnInOrder}
 use Rattle.sch_shuffle.proofs.WaitingArguments.{members, choice_members, length_choices, in_numbers}
 
@@ -38,6 +38,15 @@ module _ (args : List Tree) (targets free : List Place) where
       ap (λ ts. map (λ t. t.argument) (take n ts)) (map-append (transfer args targets) (evaluations free 0 cs) (onwards free 0 cs))
       ∙ ap (map (λ t. t.argument)) (take_at (transfers args targets (evaluations free 0 cs)) (transfers args targets (onwards free 0 cs)) n len)
       ∙ evaluated_numbers cs 0
+
+  members_are : (cs : List Choice) → members cs ≡ map number_of cs
+  members_are [] = refl
+  members_are (c ∷ cs) = ap (λ js. number_of c ∷ js) (members_are cs)
+
+  -- the order in which arguments are evaluated is that of the choices, whatever places are free
+  pub order_chosen : (n : ℕ) (cs : List Choice) → length args ≡ n → cs ≡ all_choices args targets → map number_of cs ≡ order n (made args targets free)
+  order_chosen n cs l e =
+      ap (map number_of) e ∙ (sym (members_are (all_choices args targets)) ∙ (sym order_is ∙ ap (λ m. order m (made args targets free)) l))
 
   pub ordered : IsOrdered (length args) (made args targets free)
   ordered =

@@ -9,11 +9,10 @@ use Rattle.sch_word.specs.trees.Bindings.{numbers}
 use Rattle.sch_word.specs.declared.place.Place.{Place}
 use Rattle.sch_word.proofs.facts.NumberSets.{numbers_length}
 use Rattle.sch_shuffle.specs.declared.choice.Choice.{Choice}
-use Rattle.sch_shuffle.specs.declared.choice.Choice.TheVariants.{Direct, Aside}
 use Rattle.sch_shuffle.specs.Tree.{Tree, place, fixed, literal, read, uses}
 use Rattle.sch_shuffle.specs.Assignment.{operand_at, place_at, AreDistinct, temps}
-use Rattle.sch_shuffle.specs.Plans.{Act, AreAtoms, IsAtom}
-use Rattle.sch_shuffle.specs.Greedy.{uses_target, needed, next_of, is_in, without, chosen, choices, all_choices, evaluations, onwards, acts, made}
+use Rattle.sch_shuffle.specs.Plans.{AreAtoms, IsAtom}
+use Rattle.sch_shuffle.specs.Greedy.{uses_target, needed, next_of, is_in, without, chosen, choices, all_choices, acts, made}
 use Rattle.sch_shuffle.specs.GreedySteps.{IsMostUsed}
 use Rattle.sch_shuffle.specs.CycleSearch.{successor, ring, is_ring, all_rings}
 use Rattle.sch_shuffle.proofs.WaitingArguments.{Rising, AllBelow, Once, members, below_in, length_without, rising_numbers, below_numbers, next_of_in, choice_once, choice_members, rising_without, below_without, not_above, rising_rest}
@@ -22,6 +21,7 @@ use Rattle.sch_shuffle.proofs.Paths.{walk, ring_walk}
 use Rattle.sch_shuffle.proofs.GreedyMoves.{chosen_most}
 use Rattle.sch_shuffle.proofs.ExactCycles.{length_le, few, successor_is, ring_is, rings_complete}
 use Rattle.sch_shuffle.proofs.AtLeastRings.{asides, temps_asides, in_at_index}
+use Rattle.sch_shuffle.proofs.SetAside.{acts_asides, asides_in, asides_in_members, asides_in_once, needed_some}
 
 pub rising_once : (ws : List ℕ) → Rising ws → Once ws
 rising_once [] r = tt
@@ -33,22 +33,6 @@ used_atom (place q) p a h = ap place (same_from q p h)
 used_atom (fixed n) p a h = absurd (cc)
 used_atom (literal k) p a h = absurd (cc)
 used_atom (read primitive xs) p a h = absurd a
-
--- who needs the target of j
-needed_some : (W : ℕ → ℕ → Bool) (js : List ℕ) (j : ℕ) → 0 < needed W js j → (i : ℕ) × (is_in i js ≡ true) × (i ≢ j) × (W i j ≡ true)
-needed_some W [] j h = absurd (omega (arith, h))
-needed_some W (i ∷ js) j h = go (cases_Bool (nat_eq i j)) (cases_Bool (W i j)) (needed_some W js j)
-  where
-    more : (0 < needed W js j → (x : ℕ) × (is_in x js ≡ true) × (x ≢ j) × (W x j ≡ true)) → 0 < needed W js j
-        → (x : ℕ) × (is_in x (i ∷ js) ≡ true) × (x ≢ j) × (W x j ≡ true)
-    more rest h = let f = rest h in (f.0, rw f.1 (or-true (nat_eq i f.0)), f.2, f.3)
-
-    go : ((nat_eq i j ≡ true) ⊎ (nat_eq i j ≡ false)) → ((W i j ≡ true) ⊎ (W i j ≡ false))
-        → (0 < needed W js j → (x : ℕ) × (is_in x js ≡ true) × (x ≢ j) × (W x j ≡ true)) → (x : ℕ) × (is_in x (i ∷ js) ≡ true) × (x ≢ j) × (W x j ≡ true)
-    go (inl same) w rest = more rest (rw same at h)
-    go (inr other) (inl yes_) rest =
-        (i, (let t = eq-eqb i i refl in rw t refl), (λ e. let t = eq-eqb i j e in let both : true ≡ false = sym t ∙ other in cc), yes_)
-    go (inr other) (inr no_) rest = more rest (rw (other, no_) at h)
 
 needed_none : (W : ℕ → ℕ → Bool) (js : List ℕ) (j : ℕ) → ((i : ℕ) → is_in i js ≡ true → W i j ≡ true → ⊥) → needed W js j ≡ 0
 needed_none W [] j h = refl
@@ -227,28 +211,6 @@ module _ (args : List Tree) (targets free : List Place) (l : length targets ≡ 
       let whole : ring S n k ≡ walk S n k (n - 1) (k ∷ []) (S k) = ring_walk S n k kn ∙ ap (λ c. walk S n k c [] k) e ∙ rw (no_, a, b) refl in
       ap is_ring whole ∙ grind (arith, nat_tests, back)
 
-  abbrev asides_in : List Choice → List ℕ
-  asides_in [] = []
-  asides_in (Direct k ∷ cs) = asides_in cs
-  asides_in (Aside k ∷ cs) = k ∷ asides_in cs
-
-  asides_in_members : (cs : List Choice) (j : ℕ) → is_in j (asides_in cs) ≡ true → is_in j (members cs) ≡ true
-  asides_in_members [] j e = e
-  asides_in_members (Direct k ∷ cs) j e = let r = asides_in_members cs j e in rw r (or-true (nat_eq k j))
-  asides_in_members (Aside k ∷ cs) j e =
-      elim (cases_eq k j) [
-        | inl same ↦ let yes_ = eq-eqb k j same in rw yes_ refl
-        | inr other ↦ let no_ = ne_eqb k j other in rw no_ (asides_in_members cs j (rw no_ at e))
-      ]
-
-  asides_in_once : (cs : List Choice) → Once (members cs) → Once (asides_in cs)
-  asides_in_once [] o = tt
-  asides_in_once (Direct k ∷ cs) o = asides_in_once cs o.1
-  asides_in_once (Aside k ∷ cs) o = (
-    elim (cases_Bool (is_in k (asides_in cs))) [ inl there ↦ let bad = asides_in_members cs k there in absurd (let both : true ≡ false = sym bad ∙ o.0 in cc) | inr not_ ↦ not_ ],
-    asides_in_once cs o.1,
-  )
-
   aside_starts_ring_once : (k r : ℕ) (cs : List Choice) → ((r' : ℕ) → r ≡ suc r' → is_ring (ring S n k) ≡ true) → ((j : ℕ) → is_in j (asides_in cs) ≡ true → is_ring (ring S n j) ≡ true)
       → (j : ℕ) → is_in j (asides_in (chosen r k ∷ cs)) ≡ true → is_ring (ring S n j) ≡ true
   aside_starts_ring_once k zero cs here rest j e = rest j e
@@ -265,22 +227,12 @@ module _ (args : List Tree) (targets free : List Place) (l : length targets ≡ 
       (λ r f. stuck_ring ws k rising below (chosen_most W ws r rising (omega (arith, e)) f))
       (aside_starts_ring c (without k ws) (omega (arith, less, e)) (rising_without k ws rising) (below_without n k ws below))
 
-  asides_evaluations : (u : ℕ) (cs : List Choice) (tail : List Act) → asides tail ≡ [] → asides (evaluations free u cs ++ tail) ≡ asides_in cs
-  asides_evaluations u [] tail e = e
-  asides_evaluations u (Direct k ∷ cs) tail e = asides_evaluations u cs tail e
-  asides_evaluations u (Aside k ∷ cs) tail e = ap (λ js. k ∷ js) (asides_evaluations (suc u) cs tail e)
-
-  asides_onwards : (u : ℕ) (cs : List Choice) → asides (onwards free u cs) ≡ []
-  asides_onwards u [] = refl
-  asides_onwards u (Direct k ∷ cs) = asides_onwards u cs
-  asides_onwards u (Aside k ∷ cs) = asides_onwards (suc u) cs
-
   pub at_most : temps (made args targets free) ≤ length (all_rings args targets)
   at_most =
       let cs : List Choice = all_choices args targets in
       let rs : List (List ℕ) = all_rings args targets in
       let count_ = temps_asides args targets (acts free cs) in
-      let who : asides (acts free cs) ≡ asides_in cs = asides_evaluations 0 cs (onwards free 0 cs) (asides_onwards 0 cs) in
+      let who : asides (acts free cs) ≡ asides_in cs = acts_asides free cs in
       let once = asides_in_once cs (choice_once W (length args) (numbers 0 (length args)) (numbers_length 0 (length args)) (rising_numbers (length args) 0)) in
       let below : AllBelow n (numbers 0 (length args)) = below_numbers (length args) 0 n (omega (arith, l)) in
       let each = aside_starts_ring (length args) (numbers 0 (length args)) (numbers_length 0 (length args)) (rising_numbers (length args) 0) below in

@@ -9,6 +9,7 @@ pub mod WalkTurns
 pub mod ExactCycles
 pub mod RingNeedsTemporary
 pub mod AtLeastRings
+pub mod SetAside
 pub mod AtMostRings
 pub mod Promises
 pub mod Examples

@@ -2,7 +2,6 @@
 use Rattle.std.proofs.Common.{◌≡◌, ◌≢◌, ℕ, zero, suc, ◌+◌, ◌<◌, ◌≤◌, Bool, true, false, List, [], ◌∷◌, ◌++◌, length, refl, ap, sym, ◌∙◌, arith, inl, inr, ◌⊎◌}
 use Rattle.std.specs.Prelude.{nat_eq}
 use Rattle.std.proofs.lemmas.Bool.{cases_eq, eq-eqb, ne_eqb, eqb-true}
-use Rattle.std.proofs.lemmas.List.{map-append}
 use Rattle.std.proofs.Math.Bool.{or-true}
 use Rattle.sch_word.specs.trees.Bindings.{numbers}
 use Rattle.sch_word.specs.declared.place.Place.{Place}
@@ -13,8 +12,9 @@ use Rattle.sch_shuffle.specs.declared.choice.Choice.TheVariants.{Direct, Aside}
 use Rattle.sch_shuffle.specs.Tree.{Tree, Trees, place, fixed, literal, read, no_trees, and_tree, same_place, uses, uses_one}
 use Rattle.sch_shuffle.specs.Meaning.{Reading, given, each_given}
 use Rattle.sch_shuffle.specs.Assignment.{operand_at, place_at, Transfer, moved, after, Assigns, Carries, AreDistinct, AreSpare}
-use Rattle.sch_shuffle.specs.Plans.{Act, direct, aside, onward, transfer, transfers}
-use Rattle.sch_shuffle.specs.Greedy.{uses_target, needed, next_of, is_in, without, chosen, choices, all_choices, evaluations, onwards, made}
+use Rattle.sch_shuffle.specs.Plans.{Act, direct, aside, across, onward, transfer, transfers}
+use Rattle.sch_shuffle.specs.ActValues.{Depends, EachBrings, acted, after_acts, brings, goes_to}
+use Rattle.sch_shuffle.specs.Greedy.{uses_target, needed, next_of, is_in, without, chosen, choices, all_choices, evaluations, onwards, acts, made}
 use Rattle.sch_shuffle.proofs.WaitingArguments.{Rising, AllBelow, below_in, without_other, without_gone, rising_without, below_without, length_without, next_of_in, in_numbers, rising_numbers, below_numbers, length_choices, members, Once, not_in, choice_members, choice_once, clear, all_below}
 
 -- ## Places
@@ -77,39 +77,46 @@ module _ {V : Type 0} (m : Reading V) where
   Takes args start now [] = Unit {0}
   Takes args start now (t ∷ ts) = (given m now t.from ≡ given m start (operand_at args t.argument)) × Takes args start (moved m t now) ts
 
-  takes_both : (args : List Tree) (start now : Place → V) (ts us : List Transfer) → Takes args start now ts → Takes args start (after m ts now) us
-      → Takes args start now (ts ++ us)
-  takes_both args start now [] us h k = k
-  takes_both args start now (t ∷ ts) us h k = (h.0, takes_both args start (moved m t now) ts us h.1 k)
-
   takes_at : (args : List Tree) (start now : Place → V) (before later : List Transfer) (t : Transfer) → Takes args start now (before ++ t ∷ later)
       → given m (after m before now) t.from ≡ given m start (operand_at args t.argument)
   takes_at args start now [] later t h = h.0
   takes_at args start now (b ∷ before) later t h = takes_at args start (moved m b now) before later t h.1
 
-  pub after_both : (ts us : List Transfer) (s : Place → V) → after m (ts ++ us) s ≡ after m us (after m ts s)
-  after_both [] us s = refl
-  after_both (t ∷ ts) us s = after_both ts us (moved m t s)
+-- ## Acts
 
--- ## The moves
+module _ {V : Type 0} (targets : List Place) (value : ℕ → (Place → V) → V) where
+  acted_here : (a : Act) (s : Place → V) (p : Place) → p ≡ goes_to targets value a → acted targets value a s p ≡ brings targets value a s
+  acted_here a s p e = let yes_ = place_same p (goes_to targets value a) e in rw yes_ refl
 
-module _ {V : Type 0} (m : Reading V) (args : List Tree) (targets free : List Place) (n : ℕ)
+  acted_else : (a : Act) (s : Place → V) (p : Place) → p ≢ goes_to targets value a → acted targets value a s p ≡ s p
+  acted_else a s p e = let no_ = place_other p (goes_to targets value a) e in rw no_ refl
+
+  brings_both : (start now : Place → V) (list more : List Act) → EachBrings targets value start now list
+      → EachBrings targets value start (after_acts targets value list now) more → EachBrings targets value start now (list ++ more)
+  brings_both start now [] more h k = k
+  brings_both start now (a ∷ list) more h k = (h.0, brings_both start (acted targets value a now) list more h.1 k)
+
+  acts_both : (list more : List Act) (s : Place → V) → after_acts targets value (list ++ more) s ≡ after_acts targets value more (after_acts targets value list s)
+  acts_both [] more s = refl
+  acts_both (a ∷ list) more s = acts_both list more (acted targets value a s)
+
+module _ {V : Type 0} (value : ℕ → (Place → V) → V) (args : List Tree) (targets free : List Place) (n : ℕ)
     (apart : (i j : ℕ) → i < n → j < n → place_at targets i ≡ place_at targets j → i ≡ j)
     (free_apart : (u v : ℕ) → u < n → v < n → place_at free u ≡ place_at free v → u ≡ v)
     (off : (u i : ℕ) → u < n → i < n → place_at targets i ≢ place_at free u)
     (unused : (u i : ℕ) → u < n → i < n → uses (operand_at args i) (place_at free u) ≡ false)
-    (s : Place → V) where
+    (same : Depends args value) (s : Place → V) where
   abbrev val : ℕ → V
-  val i = given m s (operand_at args i)
+  val i = value i s
 
   abbrev run : List Act → (Place → V) → Place → V
-  run list t = after m (transfers args targets list) t
+  run = after_acts targets value
 
   abbrev W : ℕ → ℕ → Bool
   W = uses_target args targets
 
   abbrev Taken : List Act → (Place → V) → Type 0
-  Taken list t = Takes m args s t (transfers args targets list)
+  Taken list t = EachBrings targets value s t list
 
   -- what is not written is kept
   kept_evaluations : (cs : List Choice) (u : ℕ) (t : Place → V) (p : Place) → ((j : ℕ) → is_in j (members cs) ≡ true → p ≢ place_at targets j)
@@ -118,11 +125,11 @@ module _ {V : Type 0} (m : Reading V) (args : List Tree) (targets free : List Pl
   kept_evaluations (Direct i ∷ cs) u t p h k =
       let later : (j : ℕ) → is_in j (members cs) ≡ true → p ≢ place_at targets j = λ j e. h j (rw e (or-true (nat_eq i j))) in
       kept_evaluations cs u _ p later (λ v a b. k v a (omega (arith, b)))
-      ∙ moved_else m (transfer args targets (direct i)) t p (h i (let yes_ = eq-eqb i i refl in rw yes_ refl))
+      ∙ acted_else targets value (direct i) t p (h i (let yes_ = eq-eqb i i refl in rw yes_ refl))
   kept_evaluations (Aside i ∷ cs) u t p h k =
       let later : (j : ℕ) → is_in j (members cs) ≡ true → p ≢ place_at targets j = λ j e. h j (rw e (or-true (nat_eq i j))) in
       kept_evaluations cs (suc u) _ p later (λ v a b. k v (omega (arith, a)) (omega (arith, b)))
-      ∙ moved_else m (transfer args targets (aside i (place_at free u))) t p (k u (omega arith) (omega arith))
+      ∙ acted_else targets value (aside i (place_at free u)) t p (k u (omega arith) (omega arith))
 
   -- each value is in its target or in its temporary
   abbrev Good : List Choice → ℕ → (Place → V) → Type 0
@@ -140,35 +147,35 @@ module _ {V : Type 0} (m : Reading V) (args : List Tree) (targets free : List Pl
       → (r : ℕ) → needed W ws k ≡ r
       → Good (chosen r k ∷ rest) u (run (evaluations free u (chosen r k ∷ rest)) t) × Taken (evaluations free u (chosen r k ∷ rest)) t
   good_step ws k rest c u t kn below inside gone later len room ready ih zero none =
-      let t1 = moved m (transfer args targets (direct k)) t in
-      let takes = given_same m s t (operand_at args k) (λ p e. ready k inside p e) in
+      let t1 = acted targets value (direct k) t in
+      let takes = same k s t (λ p e. ready k inside p e) in
       let lands = kept_evaluations rest u t1 (place_at targets k)
       (λ j e same. (later j e).1 (sym (apart k j kn (below_in n ws below j (later j e).0) same)))
       (λ v a b. off v k (omega (arith, b, len, room)) kn)
-      ∙ moved_here m (transfer args targets (direct k)) t (place_at targets k) refl
+      ∙ acted_here targets value (direct k) t (place_at targets k) refl
       ∙ takes in
       let more = ih u t1 (omega (arith, room)) (λ j e p uses_p.
       let ne : j ≢ k = gone j e in
       let old : is_in j ws ≡ true = sym (without_other j k ws ne) ∙ e in
       elim (cases_place p (place_at targets k)) [
         | inl same ↦ absurd (let no_ = clear W ws k none j old ne in let yes_ : W j k ≡ true = rw (← same) uses_p in cc)
-        | inr other ↦ moved_else m (transfer args targets (direct k)) t p other ∙ ready j old p uses_p
+        | inr other ↦ acted_else targets value (direct k) t p other ∙ ready j old p uses_p
       ]) in
       ((lands, more.0), (takes, more.1))
   good_step ws k rest c u t kn below inside gone later len room ready ih (suc r) some =
-      let t1 = moved m (transfer args targets (aside k (place_at free u))) t in
-      let takes = given_same m s t (operand_at args k) (λ p e. ready k inside p e) in
+      let t1 = acted targets value (aside k (place_at free u)) t in
+      let takes = same k s t (λ p e. ready k inside p e) in
       let lands = kept_evaluations rest (suc u) t1 (place_at free u)
       (λ j e same. off u j (omega (arith, room)) (below_in n ws below j (later j e).0) (sym same))
       (λ v a b same. absurd (let x = free_apart u v (omega (arith, room)) (omega (arith, b, len, room)) same in omega (arith, x, a)))
-      ∙ moved_here m (transfer args targets (aside k (place_at free u))) t (place_at free u) refl
+      ∙ acted_here targets value (aside k (place_at free u)) t (place_at free u) refl
       ∙ takes in
       let more = ih (suc u) t1 (omega (arith, room)) (λ j e p uses_p.
       let ne : j ≢ k = gone j e in
       let old : is_in j ws ≡ true = sym (without_other j k ws ne) ∙ e in
       elim (cases_place p (place_at free u)) [
         | inl same ↦ absurd (let no_ = unused u j (omega (arith, room)) (below_in n ws below j old) in let yes_ = rw same at uses_p in cc)
-        | inr other ↦ moved_else m (transfer args targets (aside k (place_at free u))) t p other ∙ ready j old p uses_p
+        | inr other ↦ acted_else targets value (aside k (place_at free u)) t p other ∙ ready j old p uses_p
       ]) in
       ((lands, more.0), (takes, more.1))
 
@@ -207,7 +214,7 @@ module _ {V : Type 0} (m : Reading V) (args : List Tree) (targets free : List Pl
   kept_onwards (Aside i ∷ cs) u k t no_ kn below =
       let apart_ = not_in i k (members cs) no_ in
       kept_onwards cs (suc u) k _ apart_.1 kn below.1
-      ∙ moved_else m (transfer args targets (onward i (place_at free u))) t (place_at targets k) (λ e. apart_.0 (sym (apart k i kn below.0 e)))
+      ∙ acted_else targets value (onward i (place_at free u)) t (place_at targets k) (λ e. apart_.0 (sym (apart k i kn below.0 e)))
 
   finish : (cs : List Choice) (u : ℕ) (t : Place → V) → Once (members cs) → AllBelow n (members cs) → u + length cs ≤ n → Good cs u t
       → (j : ℕ) → is_in j (members cs) ≡ true → run (onwards free u cs) t (place_at targets j) ≡ val j
@@ -218,14 +225,14 @@ module _ {V : Type 0} (m : Reading V) (args : List Tree) (targets free : List Pl
         | inr other ↦ let no_ = ne_eqb k j other in finish cs u t once.1 below.1 (omega (arith, room)) good.1 j (rw no_ at e)
       ]
   finish (Aside k ∷ cs) u t once below room good j e =
-      let move : Transfer = transfer args targets (onward k (place_at free u)) in
-      let t1 = moved m move t in
+      let move : Act = onward k (place_at free u) in
+      let t1 = acted targets value move t in
       elim (cases_eq k j) [
-        | inl same ↦ rw (← same) (kept_onwards cs (suc u) k t1 once.0 below.0 below.1 ∙ moved_here m move t (place_at targets k) refl ∙ good.0)
+        | inl same ↦ rw (← same) (kept_onwards cs (suc u) k t1 once.0 below.0 below.1 ∙ acted_here targets value move t (place_at targets k) refl ∙ good.0)
         | inr other ↦
             let no_ = ne_eqb k j other in
             finish cs (suc u) t1 once.1 below.1 (omega (arith, room))
-            (good_kept cs (suc u) k t t1 once.0 below.0 below.1 (omega (arith, room)) (λ p h. moved_else m move t p h) good.1) j (rw no_ at e)
+            (good_kept cs (suc u) k t t1 once.0 below.0 below.1 (omega (arith, room)) (λ p h. acted_else targets value move t p h) good.1) j (rw no_ at e)
       ]
 
   -- and takes what was set aside
@@ -234,18 +241,22 @@ module _ {V : Type 0} (m : Reading V) (args : List Tree) (targets free : List Pl
   onwards_taken [] u t once below room good = tt
   onwards_taken (Direct k ∷ cs) u t once below room good = onwards_taken cs u t once.1 below.1 (omega (arith, room)) good.1
   onwards_taken (Aside k ∷ cs) u t once below room good =
-      let move : Transfer = transfer args targets (onward k (place_at free u)) in
-      let t1 = moved m move t in (
+      let move : Act = onward k (place_at free u) in
+      let t1 = acted targets value move t in (
         good.0,
         onwards_taken cs (suc u) t1 once.1 below.1 (omega (arith, room))
-            (good_kept cs (suc u) k t t1 once.0 below.0 below.1 (omega (arith, room)) (λ p h. moved_else m move t p h) good.1),
+            (good_kept cs (suc u) k t t1 once.0 below.0 below.1 (omega (arith, room)) (λ p h. acted_else targets value move t p h) good.1),
       )
 
-module _ {V : Type 0} (m : Reading V) (args : List Tree) (targets free : List Place) (t : length targets ≡ length args) (f : length free ≡ length args)
-    (apart : AreDistinct targets) (free_apart : AreDistinct free) (spare : AreSpare args targets free) where
-  made_do : (s : Place → V) → ((i : ℕ) → i < length args → after m (made args targets free) s (place_at targets i) ≡ given m s (operand_at args i))
-      × Takes m args s s (made args targets free)
-  made_do s =
+module _ {V : Type 0} (value : ℕ → (Place → V) → V) (args : List Tree) (targets free : List Place) (t : length targets ≡ length args) (f : length free ≡ length args)
+    (apart : AreDistinct targets) (free_apart : AreDistinct free) (spare : AreSpare args targets free) (same : Depends args value) where
+  abbrev all_acts : List Act
+  all_acts = acts free (all_choices args targets)
+
+  -- whatever places hold, as cells of a frame or values that may be missing
+  pub acts_bring : (s : Place → V) → EachBrings targets value s s all_acts
+      × ((i : ℕ) → i < length args → after_acts targets value all_acts s (place_at targets i) ≡ value i s)
+  acts_bring s =
       let n : ℕ = length args in
       let ws : List ℕ = numbers 0 n in
       let cs : List Choice = all_choices args targets in
@@ -255,25 +266,57 @@ module _ {V : Type 0} (m : Reading V) (args : List Tree) (targets free : List Pl
       let off : (u i : ℕ) → u < n → i < n → place_at targets i ≢ place_at free u = λ u i a b. (spare u (omega (arith, a, f)) i b).0 in
       let unused : (u i : ℕ) → u < n → i < n → uses (operand_at args i) (place_at free u) ≡ false = λ u i a b. (spare u (omega (arith, a, f)) i b).1 in
       let below : AllBelow n ws = below_numbers n 0 n (omega arith) in
-      let good = good_all m args targets free n near far off unused s n ws 0 s (numbers_length 0 n) (rising_numbers n 0) below (omega arith) (λ j e p h. refl) in
+      let good = good_all value args targets free n near far off unused same s n ws 0 s (numbers_length 0 n) (rising_numbers n 0) below (omega arith) (λ j e p h. refl) in
       let once : Once (members cs) = choice_once W n ws (numbers_length 0 n) (rising_numbers n 0) in
       let inside : (j : ℕ) → is_in j (members cs) ≡ is_in j ws = choice_members W n ws (numbers_length 0 n) in
       let small : AllBelow n (members cs) = all_below n (members cs) (λ j e. below_in n ws below j (sym (inside j) ∙ e)) in
       let room : 0 + length cs ≤ n = let l = length_choices W n ws in omega (arith, l) in
-      let first : List Transfer = transfers args targets (evaluations free 0 cs) in
-      let second : List Transfer = transfers args targets (onwards free 0 cs) in
-      let both : made args targets free ≡ first ++ second = map-append (transfer args targets) (evaluations free 0 cs) (onwards free 0 cs) in
-      let taken = onwards_taken m args targets free n near far off unused s cs 0 (after m first s) once small room good.0 in (
+      let first : List Act = evaluations free 0 cs in
+      let second : List Act = onwards free 0 cs in
+      let middle : Place → V = after_acts targets value first s in
+      let brought = onwards_taken value args targets free n near far off unused same s cs 0 middle once small room good.0 in (
+        brings_both targets value s s first second good.1 brought,
         λ i lt.
             let there : is_in i (members cs) ≡ true = inside i ∙ in_numbers n 0 i (omega arith) (omega (arith, lt)) in
-            let last = finish m args targets free n near far off unused s cs 0 (after m first s) once small room good.0 i there in
-            ap (λ ts. after m ts s (place_at targets i)) both ∙ ap (λ st. st (place_at targets i)) (after_both m first second s) ∙ last,
-        rw both (takes_both m args s s first second good.1 taken),
+            let last = finish value args targets free n near far off unused same s cs 0 middle once small room good.0 i there in
+            ap (λ st. st (place_at targets i)) (acts_both targets value first second s) ∙ last,
       )
 
-  -- whatever places hold, as cells of a frame or values that may be missing
+-- ## Moves
+
+module _ {V : Type 0} (m : Reading V) (args : List Tree) (targets : List Place) where
+  -- what an argument gives, by its number
+  abbrev read_at : ℕ → (Place → V) → V
+  read_at k s = given m s (operand_at args k)
+
+  moved_acted : (a : Act) (s : Place → V) → moved m (transfer args targets a) s ≡ acted targets read_at a s
+  moved_acted (direct k) s = refl
+  moved_acted (aside k p) s = refl
+  moved_acted (across k p q) s = refl
+  moved_acted (onward k p) s = refl
+
+  after_acted : (list : List Act) (s : Place → V) → after m (transfers args targets list) s ≡ after_acts targets read_at list s
+  after_acted [] s = refl
+  after_acted (a ∷ list) s = ap (after m (transfers args targets list)) (moved_acted a s) ∙ after_acted list (acted targets read_at a s)
+
+  takes_acted : (start now : Place → V) (list : List Act) → EachBrings targets read_at start now list → Takes m args start now (transfers args targets list)
+  takes_acted start now [] h = tt
+  takes_acted start now (direct k ∷ list) h = (h.0, takes_acted start (acted targets read_at (direct k) now) list h.1)
+  takes_acted start now (aside k p ∷ list) h = (h.0, takes_acted start (acted targets read_at (aside k p) now) list h.1)
+  takes_acted start now (across k p q ∷ list) h = (h.0, takes_acted start (acted targets read_at (across k p q) now) list h.1)
+  takes_acted start now (onward k p ∷ list) h = (h.0, takes_acted start (acted targets read_at (onward k p) now) list h.1)
+
+module _ {V : Type 0} (m : Reading V) (args : List Tree) (targets free : List Place) (t : length targets ≡ length args) (f : length free ≡ length args)
+    (apart : AreDistinct targets) (free_apart : AreDistinct free) (spare : AreSpare args targets free) where
+  reads_same : Depends args (read_at m args targets)
+  reads_same k s t h = given_same m s t (operand_at args k) h
+
   pub assigns : Assigns m args targets (made args targets free)
-  assigns s = (made_do s).0
+  assigns s i lt =
+      ap (λ st. st (place_at targets i)) (after_acted m args targets (acts free (all_choices args targets)) s)
+      ∙ (acts_bring (read_at m args targets) args targets free t f apart free_apart spare reads_same s).1 i lt
 
   pub carries : Carries m args (made args targets free)
-  carries s before later t e = takes_at m args s s before later t (rw (← e) (made_do s).1)
+  carries s before later move e =
+      takes_at m args s s before later move
+      (rw (← e) (takes_acted m args targets s s (acts free (all_choices args targets)) (acts_bring (read_at m args targets) args targets free t f apart free_apart spare reads_same s).0))

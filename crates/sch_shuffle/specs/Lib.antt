@@ -3,6 +3,7 @@ pub mod View
 pub mod Meaning
 pub mod Assignment
 pub mod Plans
+pub mod ActValues
 pub mod Greedy
 pub mod GreedySteps
 pub mod Cycles

@@ -5,20 +5,24 @@ ghost use Rattle.std.specs.Prelude.{◌≡◌, ◌<◌, ◌^◌, length, All, If
 ghost use Rattle.sch_shuffle.specs.View.{arguments, transfers_of};
 ghost use Rattle.sch_shuffle.specs.Assignment.{AlwaysAssigns, AlwaysCarries, AreDistinct, AreSpare, temps};
 ghost use Rattle.sch_shuffle.specs.Plans.{ArePlanned, AreAtoms, IsMove, NeedsTemporaries};
+ghost use Rattle.sch_shuffle.specs.ActValues.{ActsBring, FewSetAside};
 ghost use Rattle.sch_shuffle.specs.Greedy.{made};
 ghost use Rattle.sch_shuffle.specs.GreedySteps.{IsGreedy, IsOrdered, GoesOnInOrder};
 ghost use Rattle.sch_shuffle.specs.Cycles.{AreTheCycles};
+ghost use Rattle.sch_shuffle.specs.CycleSearch.{cycles};
 
 mod choice;
+mod evaluations;
 mod moves;
 mod operand;
 mod place;
 mod rings;
 
-use crate::moves::make_moves;
-use crate::rings::cycles;
-pub use moves::{Move, Moves};
-pub use operand::Operand;
+pub use evaluations::evaluation_order;
+pub use moves::{Move, Moves, make_moves};
+pub use operand::{Operand, uses};
+pub use place::is_same;
+pub use rings::cycles;
 use sch_word::{Mem, Place};
 use std::alloc::Global;
 
@@ -62,6 +66,8 @@ pub fn shuffle(
     ensures onward { IfOk result (λ moves. GoesOnInOrder (length (arguments args.now)) targets.now (transfers_of moves.list)) }
     // The cycles are listed, each once, by their least arguments.
     ensures cycles { IfOk result (λ moves. AreTheCycles (arguments args.now) targets.now moves.cycles) }
+    // They are a function of the arguments too.
+    ensures listed { IfOk result (λ moves. moves.cycles ≡ cycles (arguments args.now) targets.now) }
     // Where no argument reads by a primitive there are as many moves into temporaries as cycles,
     ensures few { IfOk result (λ moves. AreAtoms (arguments args.now) → temps (transfers_of moves.list) ≡ length moves.cycles) }
     // and no plan has fewer, whatever the arguments are, not even one that moves values between temporaries.
@@ -73,3 +79,15 @@ pub fn shuffle(
     let cycles = cycles(alloc, args, targets)?;
     Ok(Moves { list, cycles })
 }
+
+/// The law that the moves bring each argument to its target however it gives its value, if that depends on no more than what
+/// the places hold that its operand uses. It is a call that does nothing.
+pub fn acts_bring()
+    ensures { ActsBring }
+{}
+
+/// The law that one argument at least goes straight to its target, and that each which is set aside has a target that another
+/// uses.
+pub fn few_are_set_aside()
+    ensures { FewSetAside }
+{}

@@ -42,7 +42,7 @@ procedure_row : scope_in (abstracting vs false) true true (None ∷ []) ≡ Some
 unfolding vs
 procedure_row = refl
 
-operand_row : scope_in calling false true (None ∷ []) ≡ None ∷ []
+operand_row : scope_in (calling []) false true (None ∷ []) ≡ None ∷ []
 operand_row = refl
 
 -- Only the truth is asked for of a test, and of what a tested form ends with; all else has its value.
@@ -75,7 +75,7 @@ formals_row : width (abstracting vs true) 1 ≡ 2
 unfolding vs
 formals_row = refl
 
-call_row : width calling 3 ≡ 2
+call_row : width (calling []) 3 ≡ 2
 call_row = refl
 
 operation_row : width (operating Add) 2 ≡ 2
@@ -108,7 +108,7 @@ lambda_row : assemble (abstracting vs true) (and_draft (number 5) no_drafts) ≡
 unfolding vs
 lambda_row = refl
 
-called_row : assemble calling numbers ≡ call (number 5) (and_draft (number 6) (and_draft (number 7) no_drafts))
+called_row : assemble (calling vs) numbers ≡ call vs (number 5) (and_draft (number 6) (and_draft (number 7) no_drafts))
 unfolding numbers
 called_row = refl
 

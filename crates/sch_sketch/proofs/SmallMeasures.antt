@@ -87,7 +87,7 @@ leaf_some (sequence es) = omega arith
 leaf_some (bind vs es e) = omega arith
 leaf_some (letrec vs p es e) = omega arith
 leaf_some (lambda n r e) = omega arith
-leaf_some (call f es) = omega arith
+leaf_some (call vs f es) = omega arith
 leaf_some (operation p es) = omega arith
 
 -- ## Against the weight of the text

@@ -35,8 +35,8 @@ choice_by s false k k' h h' = h'
 pub near : (v : Option (List ℕ)) (s : Scope) → 0 < length (v ∷ s)
 near v s = omega arith
 
-pub call_sound : (s : Scope) (at : ℕ) (k : Sketch) (ks : Sketches) → IsSound s k → AreSound calling false s ks → IsSound s (node calling at (and_sketch k ks))
-call_sound s at k ks h g = (omega arith, (tt, (h, g)))
+pub call_sound : (vs : Names) (s : Scope) (at : ℕ) (k : Sketch) (ks : Sketches) → IsSound s k → AreSound (calling vs) false s ks → IsSound s (node (calling vs) at (and_sketch k ks))
+call_sound vs s at k ks h g = (omega arith, (tt, (h, g)))
 
 pub quoted_sound : (s : Scope) (at : ℕ) (d : Datum) → IsSound s (quoted at d)
 quoted_sound s at (atom q (boolean b)) = refl

@@ -11,7 +11,8 @@ Names = List (Option (List ℕ))
 
 -- A symbol is named, and a literal is the datum that is quoted: each is an object of its own. A `letrec`
 -- knows whether each of its inits is a procedure by its form. A procedure has this many formals, the last
--- of which takes a list where there is a rest.
+-- of which takes a list where there is a rest. The operands of a call that begins a loop (R5RS 4.2.4) are the
+-- inits of variables of these names; any other call has no names.
 mutual
   pub data Draft : Type 0 where
     constant : Const → Draft
@@ -27,7 +28,7 @@ mutual
     bind : Names → Drafts → Draft → Draft
     letrec : Names → (procedures : Bool) → Drafts → Draft → Draft
     lambda : (formals : ℕ) → (rest : Bool) → Draft → Draft
-    call : Draft → Drafts → Draft
+    call : Names → Draft → Drafts → Draft
     operation : Primitive → Drafts → Draft
 
   pub data Drafts : Type 0 where

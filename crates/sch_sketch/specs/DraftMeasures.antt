@@ -20,7 +20,7 @@ module _ {A : Type 0} (nothing : A) (join : A → A → A) (here : Draft → A) 
     over (bind vs es e) = join (here (bind vs es e)) (join (over_each es) (over e))
     over (letrec vs p es e) = join (here (letrec vs p es e)) (join (over_each es) (over e))
     over (lambda n r e) = join (here (lambda n r e)) (over e)
-    over (call f es) = join (here (call f es)) (join (over f) (over_each es))
+    over (call vs f es) = join (here (call vs f es)) (join (over f) (over_each es))
     over (operation p es) = join (here (operation p es)) (over_each es)
 
     pub over_each : Drafts → A

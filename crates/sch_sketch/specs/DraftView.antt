@@ -22,7 +22,7 @@ draft_view (Draft-F.Seq es) = sequence (drafts es)
 draft_view (Draft-F.Let vs es e) = bind (given_names vs) (drafts es) e.value
 draft_view (Draft-F.Letrec vs p es e) = letrec (given_names vs) p (drafts es) e.value
 draft_view (Draft-F.Lambda n r e) = lambda n r e.value
-draft_view (Draft-F.Call f es) = call f.value (drafts es)
+draft_view (Draft-F.Call vs f es) = call (given_names vs) f.value (drafts es)
 draft_view (Draft-F.Prim p es) = operation p (drafts es)
 
 -- the tree of a draft, and the trees of a list of them

@@ -12,14 +12,14 @@ use Rattle.sch_sketch.specs.declared.sketch.Row.{Row}
 use Rattle.sch_sketch.specs.Draft.{Names, Draft, Drafts, no_drafts, and_draft, constant, set_local, set_global, define, branch, sequence, bind, letrec, lambda, call, operation}
 
 -- What is made of parts. The inits of a `letrec` may all be procedures by their forms; the last of a
--- procedure's variables may take a list of what is left.
+-- procedure's variables may take a list of what is left; the operands of a call may be the inits of variables.
 pub data Kind : Type 0 where
   choosing : Kind
   sequencing : Kind
   binding : Names → Kind
   recurring : Names → (procedures : Bool) → Kind
   abstracting : Names → (rest : Bool) → Kind
-  calling : Kind
+  calling : Names → Kind
   operating : Primitive → Kind
   setting : (nearer : ℕ) → Kind
   setting_global : (name : List ℕ) → Kind
@@ -81,7 +81,7 @@ abbrev pub width : Kind → (parts : ℕ) → ℕ
 width (binding vs) n = but_one n
 width (recurring vs procedures) n = but_one n
 width (abstracting vs more) n = length vs
-width calling n = but_one n
+width (calling vs) n = but_one n
 width (operating p) n = n
 width _ n = zero
 
@@ -121,7 +121,7 @@ assemble sequencing es = sequence es
 assemble (binding vs) es = bind vs (front es) (last es)
 assemble (recurring vs procedures) es = letrec vs procedures (front es) (last es)
 assemble (abstracting vs more) es = lambda (length vs) more (last es)
-assemble calling es = call (first es) (but_first es)
+assemble (calling vs) es = call vs (first es) (but_first es)
 assemble (operating p) es = operation p es
 assemble (setting k) es = set_local k (last es)
 assemble (setting_global x) es = set_global x (last es)

@@ -27,7 +27,7 @@ pub enum Draft<'a> {
     Letrec(List<Name<'a>>, bool, List<Draft<'a>>, Box<Draft<'a>>),
     /// The number of formals, and whether the last of them takes a list of what is left.
     Lambda(usize, bool, Box<Draft<'a>>),
-    /// The operator, and the operands.
-    Call(Box<Draft<'a>>, List<Draft<'a>>),
+    /// The names of the variables whose inits the operands are, if they are such, the operator, and the operands.
+    Call(List<Name<'a>>, Box<Draft<'a>>, List<Draft<'a>>),
     Prim(Primitive, List<Draft<'a>>),
 }

@@ -25,6 +25,7 @@ pub use groups::{Bindings, group};
 pub use sketch::{Kind, Leaf, Position, Row, Sketch, Wrong};
 pub use small::{
     add_texts, alone, and_texts, bad, bind_fresh, choice, constant, either_of, fresh_each, limited,
-    local, node, one, place_of, quoted, rest, text, texts_and, texts_only, truth, two, unspecified,
+    local, node, one, place_of, plain_call, quoted, rest, text, texts_and, texts_only, truth, two,
+    unspecified,
 };
 pub use words::{is_lambda, word};

@@ -70,8 +70,9 @@ pub enum Kind<'a> {
     /// The names of the formals, and whether the last of them takes a list of what is left. The one part
     /// is the body.
     Lambda(List<Name<'a>>, bool),
-    /// The first part is the operator.
-    Call,
+    /// The first part is the operator. The names are those of the variables whose inits the others are, if they
+    /// are such.
+    Call(List<Name<'a>>),
     Prim(Primitive),
     /// The variable with this number of variables bound nearer is set to the value of the last part.
     SetLocal(u32),

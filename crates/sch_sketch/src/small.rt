@@ -83,6 +83,13 @@ pub fn node<'a>(kind: Kind<'a>, at: u32, parts: List<Sketch<'a>>) -> Sketch<'a>
     Sketch::Node(kind, at, parts)
 }
 
+/// A call whose operands are no inits of variables.
+pub fn plain_call<'a>(alloc: Global) -> Kind<'a>
+    ensures { kind_of result ≡ words.calling [] }
+{
+    Kind::Call(List::new(alloc))
+}
+
 pub fn limited<'a>(
     alloc: Global,
     at: u32,

@@ -260,9 +260,9 @@ fn calls_take_many_operands(rt: HostRuntime) -> Result<(), Fail> {
 #[test]
 fn frames_past_the_limit_are_refused(rt: HostRuntime) -> Result<(), Fail> {
     let source =
-        b"(define (f a b c d e g h i j k l m n o p q) (begin (f a b c d e g h i j k l m n o p q) (+ a b c d e g h i j k l m n o p q)))";
+        b"(define (f a b c d e g h i j k l m n o p q) (begin (f a b c d e g h i j k l m n o p q) (vector a b c d e g h i j k l m n o p q)))";
     let words: [&str; 5] = ["compile", "a", "b", "--depth", "10000000"];
-    let outcome = call(rt.alloc(), &words, source, &[], &[])?;
+    let outcome = call(rt.alloc(), &words, source)?;
     assert_eq!(rt; outcome.status, 7);
     assert_eq!(rt; outcome.said.as_slice(), b"a: limit stack\n".as_slice());
     assert!(rt; outcome.target.is_none());

@@ -6,11 +6,23 @@ mod calls;
 #[cfg(test)]
 mod cells;
 #[cfg(test)]
+mod counted;
+#[cfg(test)]
+mod defaults;
+#[cfg(test)]
+mod failing;
+#[cfg(test)]
 mod generated;
+#[cfg(test)]
+mod hostile;
 #[cfg(test)]
 mod listings;
 #[cfg(test)]
+mod outside;
+#[cfg(test)]
 mod program;
+#[cfg(test)]
+mod refusals;
 #[cfg(test)]
 mod registers;
 #[cfg(test)]

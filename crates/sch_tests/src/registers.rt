@@ -3,7 +3,7 @@
 use crate::straight::check_printed;
 use sch_asm::Mark;
 use sch_driver::{Compiled, MAX_SOURCE_SIZE, compile};
-use sch_word::{Bytes, Limits, MarkKind, Mem};
+use sch_word::{Bytes, Limits, MarkKind, Mem, Place};
 use std::alloc::Global;
 use std::test::Fail;
 
@@ -68,6 +68,20 @@ fn body_marks(alloc: Global, text: &[u8], name: &[u8]) -> Result<Vec<(u8, u32)>,
     marks_of(alloc, made.listing.marks.as_slice(), body)
 }
 
+// The site of the last tail call of a body.
+fn last_tail(marks: &[Mark], body: u32) -> u32 {
+    let mut inside = false;
+    let mut last = 0;
+    for mark in marks {
+        match mark.kind {
+            MarkKind::Enter(other) => inside = other == body,
+            MarkKind::Tail(site) if inside => last = site,
+            _ => {}
+        }
+    }
+    last
+}
+
 // How many bytes lie between the first two saves of a body.
 fn gap(marks: &[Mark], body: u32) -> u64 {
     let mut inside = false;
@@ -96,13 +110,11 @@ fn saves_in_an_arm(rt: HostRuntime) -> Result<(), Fail> {
         (b's', 0),
         (b's', 2),
         (b's', 3),
-        (b't', 0),
         (b'c', 0),
         (b'r', 0),
         (b'r', 2),
         (b'r', 3),
         (b'.', 0),
-        (b't', 0),
         (b'c', 0),
         (b'r', 0),
         (b'.', 0),
@@ -113,6 +125,66 @@ fn saves_in_an_arm(rt: HostRuntime) -> Result<(), Fail> {
     let made = compiled(rt.alloc(), text)?;
     let body = body_of(made.listing.bodies.as_slice(), b"g");
     assert!(rt; gap(made.listing.marks.as_slice(), body) > 7);
+    Ok(())
+}
+
+// The arm that calls saves the return address and the operand, and the other one nothing.
+#[test]
+fn saves_in_one_arm(rt: HostRuntime) -> Result<(), Fail> {
+    let text = b"(define (fact n) (if (= n 0) 1 (* n (fact (- n 1)))))(display (fact 5))";
+    let marks = body_marks(rt.alloc(), text, b"fact")?;
+    let wanted = [
+        (b'.', 0),
+        (b's', 0),
+        (b's', 2),
+        (b'c', 0),
+        (b'r', 0),
+        (b'r', 2),
+        (b'.', 0),
+    ];
+    assert_eq!(rt; marks.as_slice(), wanted.as_slice());
+    Ok(())
+}
+
+// Nothing is wanted between the two calls.
+#[test]
+fn restores_behind_the_last_call(rt: HostRuntime) -> Result<(), Fail> {
+    let text = b"(define (g x) x)(define (k x) (g 1) (g 2) (+ x 1))(display (k 4))";
+    let marks = body_marks(rt.alloc(), text, b"k")?;
+    let wanted = [
+        (b's', 0),
+        (b's', 2),
+        (b'c', 0),
+        (b'c', 0),
+        (b'r', 0),
+        (b'r', 2),
+        (b'.', 0),
+    ];
+    assert_eq!(rt; marks.as_slice(), wanted.as_slice());
+    check_printed(rt.alloc(), text, b"5")?;
+    Ok(())
+}
+
+// Two operands change places, by way of one register.
+#[test]
+fn swaps_by_one_temporary(rt: HostRuntime) -> Result<(), Fail> {
+    let text = b"(define (swap a b n) (if (= n 0) (display a) (swap b a (- n 1))))(swap 1 2 3)";
+    let marks = body_marks(rt.alloc(), text, b"swap")?;
+    let wanted = [(b'j', 0), (b't', 0), (b'j', 0)];
+    assert_eq!(rt; marks.as_slice(), wanted.as_slice());
+    // Of the second call there is one cycle, of RBX and R8.
+    let made = compiled(rt.alloc(), text)?;
+    let body = body_of(made.listing.bodies.as_slice(), b"swap");
+    let site = last_tail(made.listing.marks.as_slice(), body);
+    let mut found = 0u64;
+    for cycle in made.listing.cycles.as_slice() {
+        if let [Place::Reg(3), Place::Reg(8)] = cycle.places.as_slice() {
+            if cycle.site == site {
+                found = found.saturating_add(1);
+            }
+        }
+    }
+    assert_eq!(rt; found, 1);
     Ok(())
 }
 

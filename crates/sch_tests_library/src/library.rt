@@ -127,10 +127,8 @@ fn library_procedures_stop(rt: HostRuntime) -> Result<(), Fail> {
     Ok(())
 }
 
-// What people write: a tally, a counter, a loop (R5RS 4 and 6).
-#[test]
-fn an_ordinary_program(rt: HostRuntime) -> Result<(), Fail> {
-    let source = b"(define (tally l)
+/// What people write: a tally, a counter, a loop (R5RS 4 and 6).
+const ORDINARY: &[u8] = b"(define (tally l)
   (let loop ((l l) (t '()))
     (cond ((null? l) t)
           ((assv (car l) t) => (lambda (p) (set-cdr! p (+ (cdr p) 1)) (loop (cdr l) t)))
@@ -145,9 +143,71 @@ fn an_ordinary_program(rt: HostRuntime) -> Result<(), Fail> {
 (do ((i 0 (+ i 1))) ((= i 3)) (display i))
 (newline)
 ";
+
+#[test]
+fn an_ordinary_program(rt: HostRuntime) -> Result<(), Fail> {
     check_printed(
         rt.alloc(),
-        source,
+        ORDINARY,
         b"((c . 1) (a . 1) (b . 2)) \"x\\\"y\" #(1 3 (#\\a . #f)) (1 4 9) 012\n",
     )
+}
+
+// The same text cut off at each of its line feeds: the list that is open is said, or what stands before is done.
+#[test]
+fn an_ordinary_program_is_cut_off(rt: HostRuntime) -> Result<(), Fail> {
+    let rows: [(usize, u8, &[u8], &[u8]); 14] = [
+        (17, 4, b"", b"a: byte 0: unclosed\n"),
+        (45, 4, b"", b"a: byte 20: unclosed\n"),
+        (69, 4, b"", b"a: byte 50: unclosed\n"),
+        (158, 4, b"", b"a: byte 50: unclosed\n"),
+        (219, 0, b"", b""),
+        (288, 0, b"", b""),
+        (314, 0, b"", b""),
+        (362, 0, b"((c . 1) (a . 1) (b . 2)) ", b""),
+        (398, 0, b"((c . 1) (a . 1) (b . 2)) \"x\\\"y\" ", b""),
+        (406, 0, b"((c . 1) (a . 1) (b . 2)) \"x\\\"y\" ", b""),
+        (
+            462,
+            0,
+            b"((c . 1) (a . 1) (b . 2)) \"x\\\"y\" #(1 3 (#\\a . #f)) ",
+            b"",
+        ),
+        (
+            527,
+            0,
+            b"((c . 1) (a . 1) (b . 2)) \"x\\\"y\" #(1 3 (#\\a . #f)) (1 4 9) ",
+            b"",
+        ),
+        (
+            570,
+            0,
+            b"((c . 1) (a . 1) (b . 2)) \"x\\\"y\" #(1 3 (#\\a . #f)) (1 4 9) 012",
+            b"",
+        ),
+        (
+            580,
+            0,
+            b"((c . 1) (a . 1) (b . 2)) \"x\\\"y\" #(1 3 (#\\a . #f)) (1 4 9) 012\n",
+            b"",
+        ),
+    ];
+    assert_eq!(rt; feeds_in(ORDINARY), rows.len());
+    for (length, status, printed, said) in rows {
+        assert_eq!(rt; ORDINARY.get(length).copied(), Some(b'\n'), "at {length}");
+        let text = ORDINARY.get(..length).ok_or("too short")?;
+        check_stop(rt.alloc(), text, status, printed, said)?;
+    }
+    Ok(())
+}
+
+// How many line feeds are in a text.
+fn feeds_in(text: &[u8]) -> usize {
+    let mut count = 0usize;
+    for byte in text {
+        if *byte == b'\n' {
+            count = count.saturating_add(1);
+        }
+    }
+    count
 }

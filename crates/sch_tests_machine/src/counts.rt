@@ -2,7 +2,7 @@
 ghost use Rattle.std.specs.Prelude.{◌≤◌, length};
 
 use sch_asm::Mark;
-use sch_count::count;
+use sch_count::{Extent, count};
 use sch_elf::program_image;
 use sch_io::NullOutlet;
 use sch_step::{Machine, load};
@@ -59,7 +59,11 @@ fn counts(rt: HostRuntime) -> Result<(), Fail> {
     ];
     let mut m = machine(rt.alloc())?;
     let mut out = NullOutlet::new();
-    let counts = count(rt.alloc(), &mut m, &mut out, &marks, 2, 7)?;
+    let extent = Extent {
+        bodies: 2,
+        steps: 7,
+    };
+    let counts = count(rt.alloc(), &mut m, &mut out, &marks, extent)?;
     assert_eq!(rt; counts.status, 7);
     let rows = counts.rows.as_slice();
     assert_eq!(rt; rows.len(), 2);
@@ -67,7 +71,9 @@ fn counts(rt: HostRuntime) -> Result<(), Fail> {
     assert_eq!(rt; first.activations, 1);
     assert_eq!(rt; first.leaves, 0);
     assert_eq!(rt; first.saves, 2);
+    assert_eq!(rt; first.leaf_saves, 0);
     let last = rows.last().ok_or("no row")?;
+    assert_eq!(rt; last.activations, 1);
     assert_eq!(rt; last.leaves, 1);
     assert_eq!(rt; last.saves, 1);
     assert_eq!(rt; last.leaf_saves, 1);

@@ -28,7 +28,7 @@ fn shown(alloc: Global) -> Result<Body, Mem>
 fn lays_out_a_form(rt: HostRuntime) -> Result<(), Fail> {
     let alloc = rt.alloc();
     let b = shown(alloc)?;
-    let f = frame_body(alloc, &b)?;
+    let f = frame_body(alloc, &b, &mut List::new(alloc))?;
     // Nothing is called and nothing saved, so that no word of a frame is used.
     assert_eq!(rt; f.words, 0);
     assert!(rt; !f.instructions.is_empty());

@@ -1,6 +1,6 @@
 //! What is live after the calls of a body.
 
-ghost use Rattle.std.specs.Prelude.{◌^◌, ◌<◌, ◌≤◌, ◌≡◌, IfOk};
+ghost use Rattle.std.specs.Prelude.{◌≡◌, IfOk};
 
 use sch_control::{Atom, Body, Exp, Operand, Operation};
 use sch_live::live;
@@ -23,21 +23,15 @@ fn shown(alloc: Global) -> Result<Body, Mem>
     })
 }
 
-// How many variables the form has with its live sets.
-fn variables_left<const N: usize>(alloc: Global) -> Result<u32, Mem>
-    requires few { 1 ≤ N }
-    requires words { N < 2 ^ 32 }
-{
-    let body = shown(alloc)?;
-    let live = live::<N>(alloc, &body)?;
-    Ok(live.variables)
-}
-
 #[test]
 fn live_sets(rt: HostRuntime) -> Result<(), Fail> {
     let alloc = rt.alloc();
-    assert_eq!(rt; variables_left::<1>(alloc)?, 2);
-    assert_eq!(rt; variables_left::<4>(alloc)?, 2);
-    assert_eq!(rt; variables_left::<16>(alloc)?, 2);
+    let body = shown(alloc)?;
+    let few = live::<1>(alloc, &body)?;
+    assert_eq!(rt; few.variables, 2);
+    let more = live::<4>(alloc, &body)?;
+    assert_eq!(rt; more.variables, 2);
+    let most = live::<16>(alloc, &body)?;
+    assert_eq!(rt; most.variables, 2);
     Ok(())
 }

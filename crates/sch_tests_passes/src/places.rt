@@ -1,8 +1,8 @@
 //! Where the variables of a body live.
 
-ghost use Rattle.std.specs.Prelude.{◌^◌, ◌<◌, ◌≤◌, IfOk};
+ghost use Rattle.std.specs.Prelude.{◌≤◌, IfOk};
 ghost use Rattle.sch_control.specs.flow.RestoredView.{restored};
-ghost use Rattle.sch_regs.specs.Promises.{RestoresEnough};
+ghost use Rattle.sch_paths.specs.EachSoonRestored.{EachSoonRestored};
 
 use sch_control::{Atom, Exp, Operand, Operation, RestoredBody};
 use sch_regs::assign_places;
@@ -13,8 +13,8 @@ use std::test::Fail;
 // The form `(let ((x unset)) x)`, in which x is variable 2.
 fn bound<const N: usize>(alloc: Global) -> Result<RestoredBody<N>, Mem>
     requires few { 1 ≤ N }
-    requires words { N < 2 ^ 32 }
-    ensures { IfOk result (λ b. RestoresEnough (restored b.exp)) }
+    requires many { N ≤ 16 }
+    ensures { IfOk result (λ b. EachSoonRestored (restored b.exp)) }
 {
     let value = Box::new(alloc, Exp::Do(Operation::UnsetCell))?;
     let read = Operation::Operand(Operand::Atom(Atom::Variable(2)));
@@ -30,7 +30,7 @@ fn bound<const N: usize>(alloc: Global) -> Result<RestoredBody<N>, Mem>
 // The register of a variable of the form.
 fn register_of<const N: usize>(alloc: Global, x: usize) -> Result<Option<u8>, Mem>
     requires few { 1 ≤ N }
-    requires words { N < 2 ^ 32 }
+    requires many { N ≤ 16 }
 {
     let body = bound::<N>(alloc)?;
     let placed = assign_places(alloc, &body)?;

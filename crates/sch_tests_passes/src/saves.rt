@@ -1,9 +1,9 @@
 //! Where a body saves its variables, and what its calls restore.
 
-ghost use Rattle.std.specs.Prelude.{◌^◌, ◌<◌, ◌≤◌};
+ghost use Rattle.std.specs.Prelude.{◌≤◌};
 
 use sch_control::{Atom, Exp, LiveBody, Operand, Operation};
-use sch_restores::restore_all;
+use sch_restores::place_restores;
 use sch_saves::place_saves;
 use sch_word::{Const, List, Mem, Primitive};
 use std::alloc::Global;
@@ -12,7 +12,7 @@ use std::test::Fail;
 // The form `(display #\a)`, in which nothing is live.
 fn shown<const N: usize>(alloc: Global) -> Result<LiveBody<N>, Mem>
     requires few { 1 ≤ N }
-    requires words { N < 2 ^ 32 }
+    requires many { N ≤ 16 }
 {
     let mut operands = List::new(alloc);
     operands.push(Operand::Atom(Atom::Constant(Const::Character(97))))?;
@@ -28,11 +28,11 @@ fn shown<const N: usize>(alloc: Global) -> Result<LiveBody<N>, Mem>
 // How many variables the form has once it has regions and restores.
 fn variables_left<const N: usize>(alloc: Global) -> Result<u32, Mem>
     requires few { 1 ≤ N }
-    requires words { N < 2 ^ 32 }
+    requires many { N ≤ 16 }
 {
     let live = shown::<N>(alloc)?;
     let saved = place_saves(alloc, &live)?;
-    let restored = restore_all(alloc, &saved)?;
+    let restored = place_restores(alloc, &saved)?;
     Ok(restored.variables)
 }
 

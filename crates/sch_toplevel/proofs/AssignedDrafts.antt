@@ -16,8 +16,8 @@ module _ (n0 : List (List ℕ)) {d : Draft} {n1 n2 : List (List ℕ)} where
   pub letrec_assigned : {vs : Names} {g : Bool} {es : Drafts} {e : Draft} → d ≡ letrec vs g es e → n1 ≡ firsts n0 (assigned_in_each es) → n2 ≡ firsts n1 (assigned_in e) → n2 ≡ firsts n0 (assigned_in d)
   letrec_assigned {es = es} {e} h p q = rw h (then_named (assigned_in_each es) (assigned_in e) n0 p q)
 
-  pub call_assigned : {f : Draft} {es : Drafts} → d ≡ call f es → n1 ≡ firsts n0 (assigned_in f) → n2 ≡ firsts n1 (assigned_in_each es) → n2 ≡ firsts n0 (assigned_in d)
-  call_assigned {f} {es} h p q = rw h (then_named (assigned_in f) (assigned_in_each es) n0 p q)
+  pub call_assigned : {vs : Names} {f : Draft} {es : Drafts} → d ≡ call vs f es → n1 ≡ firsts n0 (assigned_in f) → n2 ≡ firsts n1 (assigned_in_each es) → n2 ≡ firsts n0 (assigned_in d)
+  call_assigned {f = f} {es} h p q = rw h (then_named (assigned_in f) (assigned_in_each es) n0 p q)
 
   pub branch_assigned : {a b c : Draft} {n3 : List (List ℕ)} → d ≡ branch a b c → n1 ≡ firsts n0 (assigned_in a) → n2 ≡ firsts n1 (assigned_in b) → n3 ≡ firsts n2 (assigned_in c) →
       n3 ≡ firsts n0 (assigned_in d)

@@ -66,7 +66,7 @@ unfolding keyword_of
 own_row = refl
 
 -- `(f (set! x (lambda (y) (set! y (set! f x)))))`: `y` is local
-assigned_row : assigned_in (call (global f) (and_draft (set_global x (lambda 1 false (set_local 0 (set_global f (global x))))) no_drafts)) ≡ x ∷ f ∷ []
+assigned_row : assigned_in (call [] (global f) (and_draft (set_global x (lambda 1 false (set_local 0 (set_global f (global x))))) no_drafts)) ≡ x ∷ f ∷ []
 assigned_row = refl
 
 -- an item of a library defines a procedure of a new name, and is bad otherwise

@@ -47,7 +47,7 @@ fn add_assigned(alloc: Global, e: &Draft<'_>, names: &mut Names) -> Result<(), M
             Ok(())
         }
         Draft::Lambda(_, _, e) => add_assigned(alloc, e, names),
-        Draft::Call(f, es) => {
+        Draft::Call(_, f, es) => {
             add_assigned(alloc, f, names)?;
             add_assigned_each(alloc, es.as_slice(), names)?;
             Ok(())

@@ -37,7 +37,7 @@ node_levels (operating p) es h = omega arith
 node_levels (binding vs) es h = omega (arith, parts_levels es (omega (arith, h)))
 node_levels (recurring vs p) es h = omega (arith, parts_levels es (omega (arith, h)))
 node_levels (abstracting vs more) es h = omega (arith, last_levels es (omega (arith, h)))
-node_levels calling es h = omega (arith, first_levels es h)
+node_levels (calling vs) es h = omega (arith, first_levels es h)
 node_levels (setting k) es h = omega (arith, last_levels es (omega (arith, h)))
 node_levels (setting_global x) es h = omega (arith, last_levels es h)
 node_levels (defining x) es h = omega (arith, last_levels es (omega (arith, h)))
@@ -56,7 +56,7 @@ atom_levels m (sequence es) h = absurd h
 atom_levels m (bind vs es e) h = absurd h
 atom_levels m (letrec vs p es e) h = absurd h
 atom_levels m (lambda n r e) h = absurd h
-atom_levels m (call f es) h = absurd h
+atom_levels m (call vs f es) h = absurd h
 atom_levels m (operation p es) h = absurd h
 
 within : (n : ℕ) → IsLevel n → n ≤ 2000

@@ -44,8 +44,8 @@ node_sound : (k : Kind) (s : Scope) (ks : Sketches) (es : Drafts) → HasParts k
 node_sound choosing s ks es c w i g p = branch_sound (length s) es c (all_in choosing true (length s) s es (λ f l. refl) p)
 node_sound sequencing s ks es c w i g p = (c, all_in sequencing true (length s) s es (λ f l. refl) p)
 node_sound (operating q) s ks es c w i g p = (c, all_in (operating q) true (length s) s es (λ f l. refl) p)
-node_sound calling s ks es c w i g p =
-    let a = all_in calling true (length s) s es (λ f l. refl) p in
+node_sound (calling vs) s ks es c w i g p =
+    let a = all_in (calling vs) true (length s) s es (λ f l. refl) p in
     (omega (arith, but_first_count es, leb-true _ _ w), first_sound (length s) es c a, but_first_sound (length s) es a)
 node_sound (setting k) s ks es c w i g p =
     (i, last_sound (length s) es (omega (arith, c)) (all_in (setting k) true (length s) s es (λ f l. refl) p))
@@ -89,7 +89,7 @@ atom_sound m (sequence es) h = absurd h
 atom_sound m (bind vs es e) h = absurd h
 atom_sound m (letrec vs p es e) h = absurd h
 atom_sound m (lambda n r e) h = absurd h
-atom_sound m (call f es) h = absurd h
+atom_sound m (call vs f es) h = absurd h
 atom_sound m (operation p es) h = absurd h
 
 abstracts : (k : Kind) (es : Drafts) → is_abstracting k ≡ true → IsProcedure (assemble k es)
@@ -98,7 +98,7 @@ abstracts choosing es h = cc
 abstracts sequencing es h = cc
 abstracts (binding vs) es h = cc
 abstracts (recurring vs p) es h = cc
-abstracts calling es h = cc
+abstracts (calling vs) es h = cc
 abstracts (operating p) es h = cc
 abstracts (setting k) es h = cc
 abstracts (setting_global x) es h = cc

@@ -37,7 +37,7 @@ defines v (branch a b c) h = absurd h
 defines v (sequence es) h = absurd h
 defines v (bind vs es e) h = absurd h
 defines v (letrec vs p es e) h = absurd h
-defines v (call f es) h = absurd h
+defines v (call vs f es) h = absurd h
 defines v (operation p es) h = absurd h
 
 -- ## Names
@@ -64,7 +64,7 @@ module _ (globals : Globals) (before : List (List ℕ)) (at : ℕ) (xs : Data) (
   shaped (node (binding vs) q ks) p = absurd (no_draft p)
   shaped (node (recurring vs more) q ks) p = absurd (no_draft p)
   shaped (node (abstracting vs more) q ks) p = absurd (no_draft p)
-  shaped (node calling q ks) p = absurd (no_draft p)
+  shaped (node (calling vs) q ks) p = absurd (no_draft p)
   shaped (node (operating o) q ks) p = absurd (no_draft p)
   shaped (node (setting n) q ks) p = absurd (no_draft p)
   shaped (node (setting_global x) q ks) p = absurd (no_draft p)

@@ -72,7 +72,7 @@ mutual
   has_constants (bind vs es e) h = (have_constants es h.0, has_constants e h.1)
   has_constants (letrec vs p es e) h = (have_constants es h.0, has_constants e h.1)
   has_constants (lambda n r e) h = has_constants e h
-  has_constants (call f es) h = (has_constants f h.0, have_constants es h.1)
+  has_constants (call vs f es) h = (has_constants f h.0, have_constants es h.1)
   has_constants (operation p es) h = have_constants es h
 
   pub have_constants : (es : Drafts) → FitsDrafts in_range es → HaveConstants es
@@ -94,7 +94,7 @@ mutual
   quotable (bind vs es e) h = quotable_append (quotes_in_each es) _ (all_quotable es h.0) (quotable e h.1)
   quotable (letrec vs p es e) h = quotable_append (quotes_in_each es) _ (all_quotable es h.0) (quotable e h.1)
   quotable (lambda n r e) h = quotable e h
-  quotable (call f es) h = quotable_append (quotes_in f) _ (quotable f h.0) (all_quotable es h.1)
+  quotable (call vs f es) h = quotable_append (quotes_in f) _ (quotable f h.0) (all_quotable es h.1)
   quotable (operation p es) h = all_quotable es h
 
   all_quotable : (es : Drafts) → FitsDrafts in_range es → AreQuotable (quotes_in_each es)
@@ -133,7 +133,7 @@ mutual
   bytes (bind vs es e) h = bytes_append (symbols_in_each es) _ (all_bytes es h.0) (bytes e h.1)
   bytes (letrec vs p es e) h = bytes_append (symbols_in_each es) _ (all_bytes es h.0) (bytes e h.1)
   bytes (lambda n r e) h = bytes e h
-  bytes (call f es) h = bytes_append (symbols_in f) _ (bytes f h.0) (all_bytes es h.1)
+  bytes (call vs f es) h = bytes_append (symbols_in f) _ (bytes f h.0) (all_bytes es h.1)
   bytes (operation p es) h = all_bytes es h
 
   all_bytes : (es : Drafts) → FitsDrafts in_range es → AreBytes (symbols_in_each es)

@@ -27,7 +27,7 @@ abbrev mutual
   FitsDraft n (bind vs es e) = FitsDrafts n es × FitsDraft n e
   FitsDraft n (letrec vs p es e) = FitsDrafts n es × FitsDraft n e
   FitsDraft n (lambda m r e) = FitsDraft n e
-  FitsDraft n (call f es) = FitsDraft n f × FitsDrafts n es
+  FitsDraft n (call vs f es) = FitsDraft n f × FitsDrafts n es
   FitsDraft n (operation p es) = FitsDrafts n es
 
   pub FitsDrafts : Notion → Drafts → Type 0
@@ -76,7 +76,7 @@ module _ (globals : Globals) (n : Notion) (c : IsKept globals n) where
   leaf_fits m (bind vs es e) h g = absurd h
   leaf_fits m (letrec vs p es e) h g = absurd h
   leaf_fits m (lambda k r e) h g = absurd h
-  leaf_fits m (call f es) h g = absurd h
+  leaf_fits m (call vs f es) h g = absurd h
   leaf_fits m (operation p es) h g = absurd h
 
   parts_fit : (k : Kind) (at : ℕ) (ks : Sketches) → IsFit n (node k at ks) → AreFit n ks
@@ -87,7 +87,7 @@ module _ (globals : Globals) (n : Notion) (c : IsKept globals n) where
   parts_fit (binding vs) at ks h = h
   parts_fit (recurring vs p) at ks h = h
   parts_fit (abstracting vs more) at ks h = h
-  parts_fit calling at ks h = h
+  parts_fit (calling vs) at ks h = h
   parts_fit (operating p) at ks h = h
   parts_fit (setting k) at ks h = h
 
@@ -107,7 +107,7 @@ module _ (globals : Globals) (n : Notion) (c : IsKept globals n) where
   node_fits (binding vs) at ks es f i h = (front_fits es h, last_fits es h)
   node_fits (recurring vs p) at ks es f i h = (front_fits es h, last_fits es h)
   node_fits (abstracting vs more) at ks es f i h = last_fits es h
-  node_fits calling at ks es f i h = (first_fits es h, but_first_fits es h)
+  node_fits (calling vs) at ks es f i h = (first_fits es h, but_first_fits es h)
   node_fits (operating p) at ks es f i h = h
   node_fits (setting k) at ks es f i h = last_fits es h
   node_fits (setting_global x) at ks es f i h = (f x i.0, last_fits es h)

@@ -51,7 +51,7 @@ module _ (own all : List (List ℕ)) where
     named (bind vs es e) h = both_among all (globals_in_each own es) _ (named_each es h.0) (named e h.1)
     named (letrec vs p es e) h = both_among all (globals_in_each own es) _ (named_each es h.0) (named e h.1)
     named (lambda n r e) h = named e h
-    named (call f es) h = both_among all (globals_in own f) _ (named f h.0) (named_each es h.1)
+    named (call vs f es) h = both_among all (globals_in own f) _ (named f h.0) (named_each es h.1)
     named (operation p es) h = named_each es h
 
     pub named_each : (es : Drafts) → FitsDrafts naming es → AreAmong all (globals_in_each own es)

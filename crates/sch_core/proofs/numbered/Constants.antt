@@ -42,7 +42,7 @@ module _ (own globals symbols : List (List ℕ)) where
         hold_grouped (λ x. constant_in_range (shape x)) (is_group p es e) _ _ s (group_lambdas own globals symbols p es e vs _ l h.1) (in_range_grouped (is_group p es e) _ _ s)
         (all_constants_kept es vs (m + count es) _ l h.2 k.0) (constants_kept e _ (m + count es) _ _ h.3 k.1)
     constants_kept (lambda n r e) v m s l h k = constants_kept e _ (m + n) s l h.2 k
-    constants_kept (call f es) v m s l h k = and_from _ _ (constants_kept f _ m (s + 1) l h.1 k.0) (all_constants_kept es [] m _ _ h.2 k.1)
+    constants_kept (call vs f es) v m s l h k = and_from _ _ (constants_kept f _ m (s + 1) l h.1 k.0) (all_constants_kept es vs m _ _ h.2 k.1)
     constants_kept (operation p es) v m s l h k = all_constants_kept es [] m (s + 1) l h.1 k
 
     pub all_constants_kept : (es : Drafts) (vs : Names) (m s l : ℕ) → AreSound m es → HaveConstants es →

@@ -97,9 +97,9 @@ module _ (own globals symbols : List (List ℕ)) where
     fitting (lambda n r e) v m s l h k =
         let f = few_lambda (body_name v) n r (numbered own globals symbols None e s l) k in
         and_from _ _ (and_from _ _ (rest_fits r n h.0) (and_from _ _ (le-leb _ _ h.1) (and_from _ _ f.0 f.1))) (fitting e None (m + n) s l h.2 f.2)
-    fitting (call f es) v m s l h k =
-        and_from _ _ (le-leb _ _ (omega (arith, count_numbered own globals symbols es [] (s + 1 + length (widths f)) (l + length (quotes_in f)), h.0)))
-        (and_from _ _ (fitting f _ m (s + 1) l h.1 (first_of_two _ _ _ _ k)) (fitting_each es [] m _ _ h.2 (second_of_two _ _ _ _ k)))
+    fitting (call vs f es) v m s l h k =
+        and_from _ _ (le-leb _ _ (omega (arith, count_numbered own globals symbols es vs (s + 1 + length (widths f)) (l + length (quotes_in f)), h.0)))
+        (and_from _ _ (fitting f _ m (s + 1) l h.1 (first_of_two _ _ _ _ k)) (fitting_each es vs m _ _ h.2 (second_of_two _ _ _ _ k)))
     fitting (operation p es) v m s l h k =
         and_from _ _ (le-leb _ _ (omega (arith, count_numbered own globals symbols es [] (s + 1) l, h.0, few_operands p))) (fitting_each es [] m (s + 1) l h.1 k)
 
@@ -138,7 +138,7 @@ module _ (own globals symbols : List (List ℕ)) where
         levels_grouped (is_group p es e) _ _ s _ _ (group_lambdas own globals symbols p es e vs _ l h.1)
         (levels_each_kept es vs (m + count es) _ l h.2) (levels_kept e _ (m + count es) _ _ h.3)
     levels_kept (lambda n r e) v m s l h = ap (λ k. 1 + k) (levels_kept e _ (m + n) s l h.2)
-    levels_kept (call f es) v m s l h = ap (λ k. 1 + k) (two_levels (levels_kept f _ m (s + 1) l h.1) (levels_each_kept es [] m _ _ h.2))
+    levels_kept (call vs f es) v m s l h = ap (λ k. 1 + k) (two_levels (levels_kept f _ m (s + 1) l h.1) (levels_each_kept es vs m _ _ h.2))
     levels_kept (operation p es) v m s l h = ap (λ k. 1 + k) (levels_each_kept es [] m (s + 1) l h.1)
 
     pub levels_each_kept : (es : Drafts) (vs : Names) (m s l : ℕ) → AreSound m es → measures.levels_each (numbered_each own globals symbols vs es s l) ≡ levels_each es

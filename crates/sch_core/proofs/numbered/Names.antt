@@ -124,10 +124,10 @@ module _ (own globals symbols : List (List ℕ)) (literals : ℕ) where
         (named_each es vs (m + count es) _ l h.2 (left globals (globals_in_each own es) _ g) (left symbols (symbols_in_each es) _ y) (omega (arith, q, c)))
         (named e _ (m + count es) _ _ h.3 (right globals (globals_in_each own es) _ g) (right symbols (symbols_in_each es) _ y) (omega (arith, q, c)))
     named (lambda n r e) v m s l h g y q = named e _ (m + n) s l h.2 g y q
-    named (call f es) v m s l h g y q =
+    named (call vs f es) v m s l h g y q =
         let c = length-append (quotes_in f) (quotes_in_each es) in
         and_from _ _ (named f _ m (s + 1) l h.1 (left globals (globals_in own f) _ g) (left symbols (symbols_in f) _ y) (omega (arith, q, c)))
-        (named_each es [] m _ _ h.2 (right globals (globals_in own f) _ g) (right symbols (symbols_in f) _ y) (omega (arith, q, c)))
+        (named_each es vs m _ _ h.2 (right globals (globals_in own f) _ g) (right symbols (symbols_in f) _ y) (omega (arith, q, c)))
     named (operation p es) v m s l h g y q = named_each es [] m (s + 1) l h.1 g y q
 
     pub named_each : (es : Drafts) (vs : Names) (m s l : ℕ) → AreSound m es → AreAmong globals (globals_in_each own es) → AreAmong symbols (symbols_in_each es) → l + length (quotes_in_each es) ≤ literals →

@@ -50,7 +50,7 @@ module _ (own globals symbols : List (List ℕ)) where
         scope_grouped (is_group p es e) _ _ s m (count es) (group_lambdas own globals symbols p es e vs _ l h.1) (count_numbered own globals symbols es vs _ l)
         (scoped_each es vs (m + count es) _ l h.2) (scoped e _ (m + count es) _ _ h.3)
     scoped (lambda n r e) v m s l h = scoped e _ (m + n) s l h.2
-    scoped (call f es) v m s l h = and_from _ _ (scoped f _ m (s + 1) l h.1) (scoped_each es [] m _ _ h.2)
+    scoped (call vs f es) v m s l h = and_from _ _ (scoped f _ m (s + 1) l h.1) (scoped_each es vs m _ _ h.2)
     scoped (operation p es) v m s l h = scoped_each es [] m (s + 1) l h.1
 
     pub scoped_each : (es : Drafts) (vs : Names) (m s l : ℕ) → AreSound m es → each_in_scope (numbered_each own globals symbols vs es s l) m ≡ true
@@ -76,7 +76,7 @@ module _ (own globals symbols : List (List ℕ)) where
         assigns_grouped (is_group p es e) _ _ s (count es) j _ _ (group_lambdas own globals symbols p es e vs _ l h.1) (count_numbered own globals symbols es vs _ l)
         (assigns_each_kept es vs (m + count es) _ l (j + count es) h.2) (assigns_kept e _ (m + count es) _ _ (j + count es) h.3)
     assigns_kept (lambda n r e) v m s l j h = assigns_kept e _ (m + n) s l (j + n) h.2
-    assigns_kept (call f es) v m s l j h = either (assigns_kept f _ m (s + 1) l j h.1) (assigns_each_kept es [] m _ _ j h.2)
+    assigns_kept (call vs f es) v m s l j h = either (assigns_kept f _ m (s + 1) l j h.1) (assigns_each_kept es vs m _ _ j h.2)
     assigns_kept (operation p es) v m s l j h = assigns_each_kept es [] m (s + 1) l j h.1
 
     pub assigns_each_kept : (es : Drafts) (vs : Names) (m s l j : ℕ) → AreSound m es → variables.assigns_each (numbered_each own globals symbols vs es s l) j ≡ assigns_each es j

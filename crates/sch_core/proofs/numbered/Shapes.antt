@@ -64,7 +64,7 @@ module _ (own globals symbols : List (List ℕ)) where
         (λ j. assigns_kept own globals symbols e _ (m + count es) _ _ j h.3)
         (shaped_each es vs (m + count es) _ l h.2) (shaped e _ (m + count es) _ _ h.3)
     shaped (lambda n r e) v m s l h = shaped e _ (m + n) s l h.2
-    shaped (call f es) v m s l h = and_from _ _ (shaped f _ m (s + 1) l h.1) (shaped_each es [] m _ _ h.2)
+    shaped (call vs f es) v m s l h = and_from _ _ (shaped f _ m (s + 1) l h.1) (shaped_each es vs m _ _ h.2)
     shaped (operation p es) v m s l h =
         and_from _ _ (eq-eqb _ _ (count_numbered own globals symbols es [] (s + 1) l ∙ h.0)) (shaped_each es [] m (s + 1) l h.1)
 

@@ -58,9 +58,9 @@ module _ (own globals symbols : List (List ℕ)) where
         sites_grouped (is_group p es e) (count es) s _ _ (widths_of_each es) (widths e) (group_lambdas own globals symbols p es e vs _ l h.1) (count_numbered es vs _ l)
         (sites_each es vs (m + count es) _ l h.2) (sites e _ (m + count es) _ _ h.3)
     sites (lambda n r e) v m s l h = sites e _ (m + n) s l h.2
-    sites (call f es) v m s l h =
-        headed s _ _ (widths f ++ widths_of_each es) _ (ap suc (count_numbered es [] (s + 1 + length (widths f)) _))
-        (joined (s + 1) (widths f) (widths_of_each es) _ _ (sites f _ m (s + 1) l h.1) (sites_each es [] m _ _ h.2))
+    sites (call vs f es) v m s l h =
+        headed s _ _ (widths f ++ widths_of_each es) _ (ap suc (count_numbered es vs (s + 1 + length (widths f)) _))
+        (joined (s + 1) (widths f) (widths_of_each es) _ _ (sites f _ m (s + 1) l h.1) (sites_each es vs m _ _ h.2))
     sites (operation p es) v m s l h = headed s _ _ (widths_of_each es) _ (count_numbered es [] (s + 1) l) (sites_each es [] m (s + 1) l h.1)
 
     pub sites_each : (es : Drafts) (vs : Names) (m s l : ℕ) → AreSound m es → over_each [] (λ a b. a ++ b) site_here (numbered_each own globals symbols vs es s l) ≡ order.numbered s (widths_of_each es)

@@ -68,7 +68,7 @@ module _ (own globals symbols : List (List ℕ)) where
         nodes_grouped (is_group p es e) _ _ s (count es) (size_each es) (size e) (group_lambdas own globals symbols p es e vs _ l h.1) (count_numbered own globals symbols es vs _ l)
         (all_nodes_kept es vs (m + count es) _ l h.2) (nodes_kept e _ (m + count es) _ _ h.3)
     nodes_kept (lambda n r e) v m s l h = omega (arith, nodes_kept e None (m + n) s l h.2)
-    nodes_kept (call f es) v m s l h = omega (arith, nodes_kept f None m (s + 1) l h.1, all_nodes_kept es [] m (s + 1 + length (widths f)) (l + length (quotes_in f)) h.2)
+    nodes_kept (call vs f es) v m s l h = omega (arith, nodes_kept f None m (s + 1) l h.1, all_nodes_kept es vs m (s + 1 + length (widths f)) (l + length (quotes_in f)) h.2)
     nodes_kept (operation p es) v m s l h = omega (arith, all_nodes_kept es [] m (s + 1) l h.1)
 
     pub all_nodes_kept : (es : Drafts) (vs : Names) (m s l : ℕ) → AreSound m es → over_each 0 (λ a b. a + b) node_and_bound (numbered_each own globals symbols vs es s l) ≤ size_each es
@@ -97,7 +97,7 @@ node_nodes (operating p) es h = omega arith
 node_nodes (binding vs) es h = omega (arith, front_count es (length vs) h, front_nodes es (omega (arith, h)))
 node_nodes (recurring vs p) es h = omega (arith, front_count es (length vs) h, front_nodes es (omega (arith, h)))
 node_nodes (abstracting vs more) es h = omega (arith, front_nodes es (omega (arith, h)))
-node_nodes calling es h = omega (arith, first_nodes es h)
+node_nodes (calling vs) es h = omega (arith, first_nodes es h)
 node_nodes (setting k) es h = omega (arith, front_nodes es (omega (arith, h)))
 node_nodes (setting_global x) es h = omega (arith, front_nodes es h)
 node_nodes (defining x) es h = omega (arith, front_nodes es (omega (arith, h)))
@@ -116,7 +116,7 @@ atom_nodes m (sequence es) h = absurd h
 atom_nodes m (bind vs es e) h = absurd h
 atom_nodes m (letrec vs p es e) h = absurd h
 atom_nodes m (lambda n r e) h = absurd h
-atom_nodes m (call f es) h = absurd h
+atom_nodes m (call vs f es) h = absurd h
 atom_nodes m (operation p es) h = absurd h
 
 -- ## Sketches

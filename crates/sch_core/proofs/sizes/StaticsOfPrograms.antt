@@ -158,7 +158,7 @@ module _ (symbols : List (List ℕ)) where
     quotes_named (letrec vs p es e) h =
         named_append (quotes_in_each es) _ (quotes_each_named es (left symbols (symbols_in_each es) _ h)) (quotes_named e (right symbols (symbols_in_each es) _ h))
     quotes_named (lambda n r e) h = quotes_named e h
-    quotes_named (call f es) h =
+    quotes_named (call vs f es) h =
         named_append (quotes_in f) _ (quotes_named f (left symbols (symbols_in f) _ h)) (quotes_each_named es (right symbols (symbols_in f) _ h))
     quotes_named (operation p es) h = quotes_each_named es h
 
@@ -256,7 +256,7 @@ module _ (own symbols : List (List ℕ)) where
     statics_below (letrec vs p es e) =
         omega (arith, sizes_append symbols (symbols_in_each es) (symbols_in e) (quotes_in_each es) (quotes_in e) (globals_in_each own es) (globals_in own e), all_statics_below es, statics_below e)
     statics_below (lambda n r e) = omega (arith, statics_below e)
-    statics_below (call f es) =
+    statics_below (call vs f es) =
         omega (arith, sizes_append symbols (symbols_in f) (symbols_in_each es) (quotes_in f) (quotes_in_each es) (globals_in own f) (globals_in_each own es), statics_below f, all_statics_below es)
     statics_below (operation p es) = omega (arith, all_statics_below es)
 

@@ -48,7 +48,7 @@ node_size (operating p) es h = omega arith
 node_size (binding vs) es h = omega (arith, front_count es (length vs) h, parts_size es (omega (arith, h)))
 node_size (recurring vs p) es h = omega (arith, front_count es (length vs) h, parts_size es (omega (arith, h)))
 node_size (abstracting vs more) es h = omega (arith, parts_size es (omega (arith, h)))
-node_size calling es h = omega (arith, first_size es h)
+node_size (calling vs) es h = omega (arith, first_size es h)
 node_size (setting k) es h = omega (arith, parts_size es (omega (arith, h)))
 node_size (setting_global x) es h = omega (arith, parts_size es h)
 node_size (defining x) es h = omega (arith, parts_size es (omega (arith, h)))
@@ -67,7 +67,7 @@ atom_size m (sequence es) h = absurd h
 atom_size m (bind vs es e) h = absurd h
 atom_size m (letrec vs p es e) h = absurd h
 atom_size m (lambda n r e) h = absurd h
-atom_size m (call f es) h = absurd h
+atom_size m (call vs f es) h = absurd h
 atom_size m (operation p es) h = absurd h
 
 -- ## Sketches

@@ -14,6 +14,8 @@ use Rattle.sch_driver.proofs.ProgramFits.{program_fits}
 use Rattle.sch_driver.proofs.LibraryCount.{library_within}
 use Rattle.sch_driver.proofs.Images.{bound_chain, frame_chain, kept_error, names_of_codes, too_large}
 use Rattle.sch_driver.proofs.PrintableListing.{printable}
+use Rattle.sch_driver.proofs.RoundSteps.{in_time}
+use Rattle.sch_driver.proofs.SmallTexts.{completed}
 use Rattle.sch_driver.proofs.compile.Goals as goal
 
 pub read_program-requires : goal.read_program-requires
@@ -45,7 +47,7 @@ returns-in_err-assembled-clause-refused c =
     let depth = c.args.limits.depth in
     let cause = c.in_err-assembled.field-0.0 in
     let made = c.in_ok-control.ensures in
-    let fits : FitsProgram (source c.in_ok-program.program) (control.source c.in_ok-control.control) = program_fits (source c.in_ok-program.program) c.in_ok-control.control made.made made.runs made.fits made.covered made.statics made.library made.names made.each_variables made.calls made.tests made.dropped in
+    let fits : FitsProgram (source c.in_ok-program.program) (control.source c.in_ok-control.control) = program_fits (source c.in_ok-program.program) c.in_ok-control.control made.made made.runs made.covered made.statics made.library made.names made.each_variables made.calls made.tests made.dropped in
     let means = subst (λ l. Means l text (source c.in_ok-program.program)) c.library_text.ensures.is c.in_ok-program.ensures.means in
     kept_error c.from_residual-in_err-assembled.result cause (IsErrorOf library_text text depth) c.from_residual-in_err-assembled.ensures.1
     (too_large library_text text (source c.in_ok-program.program) (control.source c.in_ok-control.control) depth cause means
@@ -55,13 +57,13 @@ pub returns-clause-compiled : goal.returns-clause-compiled
 returns-clause-compiled c =
     let p = source c.in_ok-program.program in
     let control_bodies = (control.source c.in_ok-control.control).bodies in
-    let orders = c.in_ok-orders.orders in
+    let orders = c.in_ok-assembled.assembled.orders in
     let runs = c.in_ok-control.ensures.runs in
     let made = c.in_ok-control.ensures in
-    let fits : FitsProgram (source c.in_ok-program.program) (control.source c.in_ok-control.control) = program_fits (source c.in_ok-program.program) c.in_ok-control.control made.made made.runs made.fits made.covered made.statics made.library made.names made.each_variables made.calls made.tests made.dropped in
+    let fits : FitsProgram (source c.in_ok-program.program) (control.source c.in_ok-control.control) = program_fits (source c.in_ok-program.program) c.in_ok-control.control made.made made.runs made.covered made.statics made.library made.names made.each_variables made.calls made.tests made.dropped in
     let does = c.in_ok-assembled.ensures.does in
     let limits = c.args.limits in
-    let same = runs.same orders c.in_ok-orders.ensures.fits limits.heap limits.depth in
+    let same = runs.same orders c.in_ok-assembled.ensures.table limits.heap limits.depth in
     record {
       program = p;
       means = subst (λ l. Means l c.args.text.now p) c.library_text.ensures.is c.in_ok-program.ensures.means;
@@ -71,7 +73,7 @@ returns-clause-compiled c =
           laid_out = does.laid_out;
           follows = record {
             runs = does.follows (run p orders limits.heap limits.depth) same;
-            orders = subst (λ sites. IsTrue (is_order_table sites orders)) runs.sites c.in_ok-orders.ensures.permutations;
+            orders = subst (λ sites. IsTrue (is_order_table sites orders)) runs.sites c.in_ok-assembled.ensures.permutations;
           };
         };
         bytes = c.in_ok-file.ensures.bytes;
@@ -80,12 +82,13 @@ returns-clause-compiled c =
       listed = record {
         program = control.source c.in_ok-control.control;
         fits_program = fits;
-        given = c.in_ok-orders.ensures.orders;
-        cycles = c.new.ensures;
+        orders = c.in_ok-assembled.ensures.orders;
+        cycles = c.in_ok-assembled.ensures.cycles;
         words = does.frame.largest;
         few = omega (arith, ap length fits.names, length-map control_bodies (λ b. b.name), length-map (bodies_of p) (λ b. b.name), bodies_within_nodes p, c.in_ok-program.ensures.size);
         marks = c.in_ok-assembled.ensures.marks;
         stand = c.in_ok-assembled.ensures.stand;
+        made = c.in_ok-assembled.ensures.chain;
       };
       size = does.size;
       bound = bound_chain p (control.source c.in_ok-control.control) does.laid_out.code does.bound c.in_ok-control.ensures.work;
@@ -104,3 +107,13 @@ returns-clause-compiled c =
 
 pub returns-clause-printable : goal.returns-clause-printable
 returns-clause-printable c = printable library_text c.args.text.now c.args.limits.heap c.args.limits.depth c.in_ok-file.file _ (returns-clause-compiled c)
+
+pub returns-in_err-program-clause-complete : goal.returns-in_err-program-clause-complete
+returns-in_err-program-clause-complete c = completed c.from_residual.result library_text c.args.text.now c.args.limits.depth (returns-in_err-program-clause-refused c)
+
+pub returns-in_err-assembled-clause-complete : goal.returns-in_err-assembled-clause-complete
+returns-in_err-assembled-clause-complete c =
+    completed c.from_residual-in_err-assembled.result library_text c.args.text.now c.args.limits.depth (returns-in_err-assembled-clause-refused c)
+
+pub returns-clause-in_time : goal.returns-clause-in_time
+returns-clause-in_time c = in_time library_text c.args.text.now c.args.limits.heap c.args.limits.depth c.in_ok-file.file _ (returns-clause-compiled c)

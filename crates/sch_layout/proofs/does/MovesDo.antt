@@ -32,10 +32,6 @@ places_same (Slot a) (Slot b) e = ap Slot (eqb-true a b e)
 places_same (Reg a) (Slot b) e = absurd (cc)
 places_same (Slot a) (Reg b) e = absurd (cc)
 
-the_some : {A : Type 0} → A → Option A → A
-the_some a None = a
-the_some a (Some b) = b
-
 pub is_value : (c : Cell) (v : Value) → value_in c ≡ Some v → c ≡ Is v
 is_value (Is u) v e = ap (λ o. cell_by o) e where
   cell_by : Option Value → Cell
@@ -64,26 +60,6 @@ operand_same c d t (operand.Atom (Variable p)) h = h.0
 operand_same c d t (operand.Atom (Constant k)) h = refl
 operand_same c d t (operand.Atom (Literal n)) h = refl
 operand_same c d t (operand.Read site which atoms) h = ap (λ os. read which t os) (atoms_same c d t atoms h)
-
--- operands that read only places that pass a test
-abbrev pub atom_tested : (Place → Bool) → Atom Place → Bool
-atom_tested test (Constant k) = true
-atom_tested test (Literal n) = true
-atom_tested test (Variable p) = test p
-
-abbrev pub EachReads : (Place → Bool) → List (Operand Place) → Type 0
-EachReads test [] = Unit {0}
-EachReads test (o ∷ os) = (list_all (atom_tested test) (operand_atoms o) ≡ true) × EachReads test os
-
--- they give the same where those hold the same
-pub operand_tested_same : (test : Place → Bool) (c d : Contents) (t : Store) (o : Operand Place) → ((p : Place) → test p ≡ true → c p ≡ d p) → list_all (atom_tested test) (operand_atoms o) ≡ true
-    → operand_value c t o ≡ operand_value d t o
-operand_tested_same test c d t o same h = operand_same c d t o (each (operand_atoms o) h) where
-  each : (atoms : List (Atom Place)) → list_all (atom_tested test) atoms ≡ true → Same c d atoms
-  each [] h = tt
-  each (Variable p ∷ atoms) h = let i = and_parts (test p) _ h in (same p i.0, each atoms i.1)
-  each (Constant k ∷ atoms) h = each atoms h
-  each (Literal n ∷ atoms) h = each atoms h
 
 -- ## Frames
 

@@ -16,20 +16,15 @@ use Rattle.sch_control.specs.declared.operation.Operation.{Operation}
 use Rattle.sch_control.specs.declared.operation.Operation.TheVariants as operation
 use Rattle.sch_control.specs.Covered.{is_covered, is_covered_source, is_covered_member, is_covered_operation}
 use Rattle.sch_control.specs.CoveredOperands.{is_covered_operand}
-use Rattle.sch_control.specs.Meaning.{heads, no_region, with_region}
-use Rattle.sch_control.specs.Tree as control
+use Rattle.sch_control.specs.Meaning.{heads, with_region}
 use Rattle.sch_control.specs.Tree.{Expression, perform, bind, sequence, branch, fix, call, tail_call, return, end, save}
 use Rattle.sch_frames.specs.declared.instruction.Instruction.{Instruction}
 use Rattle.sch_frames.specs.declared.instruction.Instruction.TheVariants.{Copy}
-use Rattle.sch_frames.specs.Covered.{is_covered_instruction, begins, code_begins}
-use Rattle.sch_frames.specs.Valid.{formals_of, is_entered, max_words}
-use Rattle.sch_layout.specs.BodyLayout.{Plan, arrived, move_all, operand_at, source_at, sources_at, members_at, operation_at, stored, under, lay}
-use Rattle.sch_layout.specs.OwnSlots.{saved_tree, slots_base, slots_for, slots_layout, slots_code}
+use Rattle.sch_frames.specs.Covered.{is_covered_instruction, begins}
+use Rattle.sch_layout.specs.BodyLayout.{Plan, move_all, operand_at, source_at, sources_at, members_at, operation_at, stored, under, lay}
 use Rattle.sch_layout.proofs.CarriedCopies.{carried_has}
-use Rattle.sch_layout.proofs.EntryCopies.{entering_has, spill_has}
 use Rattle.sch_layout.proofs.MovesHave.{each_move, moves_have}
-use Rattle.sch_layout.proofs.layouts.InstructionTests.{Given, Passes, Steers, Takes, Unplaced, entering_passes, moves_pass, tree_passes, unplaced_carries}
-use Rattle.sch_layout.proofs.layouts.OwnTakes.{own_takes}
+use Rattle.sch_layout.proofs.layouts.InstructionTests.{Given, Passes, Steers, Takes, Unplaced, moves_pass}
 use Rattle.sch_layout.proofs.layouts.OperandsKept.{atom_kept, operand_kept, operands_kept}
 
 pub covered_steers : Steers is_covered_instruction
@@ -110,15 +105,3 @@ module _ (plan : Plan) where
   lay_begins (call a restores) inside n test rest = moves_begin false a _ refl
   lay_begins (tail_call a) inside n test rest = moves_begin true a _ refl
   lay_begins (save saves e) inside n test rest = stored_begins (heads e saves) _ (lay_begins e (with_region saves inside) n test rest)
-
-pub layout_covered : (c : control.Code) → is_covered c.expression ≡ true → list_all is_covered_instruction (slots_layout c) ≡ true
-layout_covered c h =
-    entering_passes (slots_for c) is_covered_instruction covered_steers c.entry (λ x lt e. refl) _
-    (tree_passes (slots_for c) is_covered_instruction covered_steers (unplaced_carries (slots_for c) is_covered_instruction covered_steers covered_unplaced)
-    (is_entered c.entry) c.expression (parts_covered (slots_for c) (own_takes (formals_of c.entry) (slots_base c) c.variables max_words) c.expression h))
-
-pub slots_begin : (c : control.Code) → code_begins (slots_code c) ≡ true
-slots_begin c =
-    let plan = slots_for c in
-    entering_has plan (λ is. begins is ≡ true) c.entry (λ x lt e rest h. spill_has (λ m. begins (under m (Copy (plan.place x) (arrived x)) rest) ≡ true) plan x refl refl) _
-    (lay_begins plan (saved_tree (is_entered c.entry) c.expression) no_region 0 None [])

@@ -1,8 +1,7 @@
 -- Tests that each instruction of a layout passes.
 use Rattle.std.proofs.Common.{◌≡◌, ℕ, zero, suc, ◌+◌, ◌-◌, ◌<◌, ◌≤◌, List, [], ◌∷◌, ◌++◌, length, Option, Some, None, Bool, true, false, cond, ◌&&◌, refl, sym, ap, ◌∙◌, subst, arith, ◌⊎◌, inl, inr}
-use Rattle.std.specs.Prelude.{filter, max, nat_lt, not, slice_get}
+use Rattle.std.specs.Prelude.{filter, nat_lt, not, slice_get}
 use Rattle.std.specs.List.{list_all}
-use Rattle.std.proofs.Math.Nat.{le-max_left, le-max_right}
 use Rattle.std.proofs.lemmas.Bool.{and_parts, and_from, eq-eqb, le-leb, le-ltb, lt-ltb}
 use Rattle.std.proofs.lemmas.List.Folds.{list_all-append}
 use Rattle.sch_word.specs.declared.place.Place.{Place}
@@ -21,26 +20,24 @@ use Rattle.sch_control.specs.declared.operation.Member.{Member}
 use Rattle.sch_control.specs.declared.operation.Operation.{Operation}
 use Rattle.sch_control.specs.declared.operation.Operation.TheVariants as operation
 use Rattle.sch_control.specs.declared.operation.Application.{Application}
-use Rattle.sch_control.specs.AtomsAndSites.{operand_atoms, operands_atoms, source_atom, source_atoms, operation_atoms, application_atoms, member_atoms}
-use Rattle.sch_control.specs.Meaning.{heads, no_region, with_region}
+use Rattle.sch_control.specs.AtomsAndSites.{operand_atoms, operands_atoms, source_atom, source_atoms, operation_atoms, member_atoms}
+use Rattle.sch_control.specs.Meaning.{heads, with_region}
 use Rattle.sch_control.specs.Tree.{Expression, perform, bind, sequence, branch, fix, call, tail_call, return, end, save}
 use Rattle.sch_control.specs.Valid.{member_variables, operand_shaped, operands_shaped, operation_shaped, members_shaped, group_shaped, each_part, shaped, Names, atom_known, atoms_known, closure_known, members_known, operation_known, application_known, group_known}
 use Rattle.sch_frames.specs.declared.instruction.Instruction.{Instruction}
 use Rattle.sch_frames.specs.declared.instruction.Instruction.TheVariants.{Do, Store, Copy, Pass, Fix, Call, Tail, Return, End, IfFalse, Jump, Label, Mark}
 use Rattle.sch_frames.specs.Meaning.{is_slot, same_place}
 use Rattle.sch_frames.specs.Valid.{are_members, instruction_known, instruction_placed, instruction_shaped, is_atom, is_place}
-use Rattle.sch_layout.specs.Asides.{aside_moves}
 use Rattle.sch_layout.specs.BodyLayout.{Plan, arguments_at, source_at, sources_at, atom_at, atoms_at, operand_at, operands_at, members_at, operation_at, arrived, entering, spill, target, under, writing, move_all, stored, loaded, leave, labels, lay}
 use Rattle.sch_layout.specs.Laws.{AtomHas, AtomsHave, MembersUse, Uses}
 use Rattle.sch_layout.specs.Moves.{EachMove, Move}
-use Rattle.sch_layout.specs.OwnSlots.{most_operands, restoring, saved_round, saved_tree}
 use Rattle.sch_layout.specs.SharedPlaces.{entered_with}
 use Rattle.sch_layout.proofs.CarriedCopies.{carried_has}
+use Rattle.sch_layout.proofs.EachCall.{EachCall}
 use Rattle.sch_layout.proofs.EntryCopies.{entering_has, spill_has}
 use Rattle.sch_layout.proofs.MovesHave.{Fits, is_entry, is_target, moves_have, moves_valid}
 use Rattle.sch_layout.proofs.does.OperationsFollow.{have_left, have_right}
 use Rattle.sch_layout.proofs.does.LayoutDoes.{length_members, length_sources}
-use Rattle.sch_layout.proofs.layouts.OwnMoves.{EachSetAside, asides_have}
 use Rattle.sch_layout.proofs.marks.MarksStand.{as_many}
 
 -- The instructions that say where to go on pass a test, and so do all marks but that of an entry.
@@ -123,22 +120,6 @@ module _ (plan : Plan) (test : Instruction → Bool) (steers : Steers test) wher
   lay_passes k (tail_call a) p inside n to rest h = p.0 _ (and_from _ _ (steers.marks (mark.Tail a.site) refl) (and_from _ _ p.1 h))
   lay_passes k (save saves e) p inside n to rest h =
       stored_passes k (heads e saves) (lay plan e (with_region saves inside) n to rest) (lay_passes k e p (with_region saves inside) n to rest h)
-
-  restoring_passes : (xs : List ℕ) (e : Expression) → Passes e → Passes (restoring xs e)
-  restoring_passes xs (perform o) p = p
-  restoring_passes xs (bind x a b) p = (p.0, (restoring_passes xs a p.1.0, restoring_passes xs b p.1.1))
-  restoring_passes xs (sequence a b) p = (restoring_passes xs a p.0, restoring_passes xs b p.1)
-  restoring_passes xs (branch a b c) p = (restoring_passes xs a p.0, (restoring_passes xs b p.1.0, restoring_passes xs c p.1.1))
-  restoring_passes xs (return e) p = restoring_passes xs e p
-  restoring_passes xs (end e) p = (p.0, restoring_passes xs e p.1)
-  restoring_passes xs (fix members e) p = (p.0, restoring_passes xs e p.1)
-  restoring_passes xs (call a restores) p = p
-  restoring_passes xs (tail_call a) p = p
-  restoring_passes xs (save saves e) p = restoring_passes xs e p
-
-  -- so each instruction does of a body in which the return address is saved
-  pub tree_passes : Carries → (entered : Bool) (e : Expression) → Passes e → list_all test (lay plan (saved_tree entered e) no_region 0 None []) ≡ true
-  tree_passes k entered e p = lay_passes k (saved_tree entered e) (restoring_passes (saved_round entered) e p) no_region 0 None [] refl
 
   pub entering_passes : (entry : Option Entry) → ((x : ℕ) → x < entered_with entry → same_place (plan.place x) (arrived x) ≡ false → test (Copy (plan.place x) (arrived x)) ≡ true)
       → (rest : List Instruction) → list_all test rest ≡ true → list_all test (entering plan entry rest) ≡ true
@@ -258,56 +239,31 @@ module _ (place : ℕ → Place) (words : ℕ) (P : ℕ → Type 0) (there : (x 
 
 -- ## Places of a layout
 
--- places for what is saved, and moves between places
-pub record Roomy (plan : Plan) (words most : ℕ) (P : ℕ → Type 0) : Type 0 where
-  pub lives : (x : ℕ) → is_slot (plan.place x) ≡ false → is_place words (plan.place x) ≡ true
-  pub home : (x : ℕ) → is_slot (plan.place x) ≡ false → is_place words (plan.home x) ≡ true
-  pub moves : (tail : Bool) (a : Application ℕ) → AtomsHave P (application_atoms a) → length a.operands ≤ most → EachMove (λ m. Fits plan.limit words m.from m.to) (plan.moves tail a)
-  pub handed : most ≤ 6 + words
-
 pub not_both : (a b : Bool) → b ≡ false → not (a && b) ≡ true
 not_both true b e = ap not e
 not_both false b e = refl
 
-not_both' : (a b : Bool) → a ≡ false → not (a && b) ≡ true
-not_both' a b e = ap (λ t. not (t && b)) e
+-- the moves of a call fit into a frame, and its operands
+pub record CallFits (plan : Plan) (words : ℕ) (tail : Bool) (a : Application ℕ) : Type 0 where
+  pub moves : EachMove (λ m. Fits plan.limit words m.from m.to) (plan.moves tail a)
+  pub handed : length a.operands ≤ 6 + words
 
-module _ (plan : Plan) (words most : ℕ) (P : ℕ → Type 0) (there : (x : ℕ) → P x → is_place words (plan.place x) ≡ true) (room : Roomy plan words most P) where
-  pub placed_carries : Carries plan (instruction_placed words) (placed_steers words)
-  placed_carries = record {
-    goes = λ x s. and_from _ _ (not_both (is_slot (plan.home x)) (is_slot (plan.place x)) s) (and_from _ _ (room.home x s) (room.lives x s));
-    comes = λ x s. and_from _ _ (not_both' (is_slot (plan.place x)) (is_slot (plan.home x)) s) (and_from _ _ (room.lives x s) (room.home x s));
-  }
+module _ (plan : Plan) (words : ℕ) (P : ℕ → Type 0) (there : (x : ℕ) → P x → is_place words (plan.place x) ≡ true) where
+  -- what an expression uses is placed, where its calls fit
+  pub calls_placed : (e : Expression) → EachCall (CallFits plan words) e → Uses P e → Passes plan (instruction_placed words) (placed_steers words) e
+  calls_placed (perform o) f h = operation_placed plan.place words P there o h
+  calls_placed (bind x a b) f h = (there x h.0, (calls_placed a f.0 h.1.0, calls_placed b f.1 h.1.1))
+  calls_placed (sequence a b) f h = (calls_placed a f.0 h.0, calls_placed b f.1 h.1)
+  calls_placed (branch a b c) f h = (calls_placed a f.0 h.0, (calls_placed b f.1.0 h.1.0, calls_placed c f.1.1 h.1.1))
+  calls_placed (fix members e) f h =
+      (and_from _ _ (eq-eqb _ _ (as_many plan members)) (and_from _ _ (members_placed plan.place words P there members h.0) (member_atoms_placed plan.place words P there members h.1.0)), calls_placed e f h.1.1)
+  calls_placed (call a restores) f h = (moves_valid plan.limit words (plan.moves false a) f.moves, le-leb (length a.operands) (6 + words) f.handed)
+  calls_placed (tail_call a) f h = (moves_valid plan.limit words (plan.moves true a) f.moves, le-leb (length a.operands) (6 + words) f.handed)
+  calls_placed (return e) f h = calls_placed e f h
+  calls_placed (end e) f h = (refl, calls_placed e f h)
+  calls_placed (save saves e) f h = calls_placed e f h
 
-  -- the arguments of a call come to their targets
-  brought_placed : (tail : Bool) (a : Application ℕ) → AtomsHave P (application_atoms a) → length a.operands ≤ most → Leads plan (instruction_placed words) (placed_steers words) (move_all plan.limit (plan.moves tail a))
-  brought_placed tail a h le rest i = moves_valid plan.limit words (plan.moves tail a) (room.moves tail a h le) rest i
-
-  pub uses_placed : (e : Expression) → most_operands e ≤ most → Uses P e → Passes plan (instruction_placed words) (placed_steers words) e
-  uses_placed (perform o) le h = operation_placed plan.place words P there o h
-  uses_placed (bind x a b) le h =
-      let left = le-max_left (most_operands a) (most_operands b) in
-      let right = le-max_right (most_operands a) (most_operands b) in
-      (there x h.0, (uses_placed a (omega (arith, left, le)) h.1.0, uses_placed b (omega (arith, right, le)) h.1.1))
-  uses_placed (sequence a b) le h =
-      let left = le-max_left (most_operands a) (most_operands b) in
-      let right = le-max_right (most_operands a) (most_operands b) in
-      (uses_placed a (omega (arith, left, le)) h.0, uses_placed b (omega (arith, right, le)) h.1)
-  uses_placed (branch a b c) le h =
-      let left = le-max_left (most_operands a) (max (most_operands b) (most_operands c)) in
-      let right = le-max_right (most_operands a) (max (most_operands b) (most_operands c)) in
-      let second = le-max_left (most_operands b) (most_operands c) in
-      let third = le-max_right (most_operands b) (most_operands c) in
-      (uses_placed a (omega (arith, left, le)) h.0, (uses_placed b (omega (arith, right, second, le)) h.1.0, uses_placed c (omega (arith, right, third, le)) h.1.1))
-  uses_placed (fix members e) le h =
-      (and_from _ _ (eq-eqb _ _ (as_many plan members)) (and_from _ _ (members_placed plan.place words P there members h.0) (member_atoms_placed plan.place words P there members h.1.0)), uses_placed e le h.1.1)
-  uses_placed (call a restores) le h = let wide = room.handed in (brought_placed false a h le, le-leb (length a.operands) (6 + words) (omega (arith, le, wide)))
-  uses_placed (tail_call a) le h = let wide = room.handed in (brought_placed true a h le, le-leb (length a.operands) (6 + words) (omega (arith, le, wide)))
-  uses_placed (return e) le h = uses_placed e le h
-  uses_placed (end e) le h = (refl, uses_placed e le h)
-  uses_placed (save saves e) le h = uses_placed e le h
-
--- ### Arguments that are set aside
+-- ### Targets
 
 -- a slot of the frame, whose size is no more than the limit
 pub slot_target : (limit words j : ℕ) → words ≤ limit → j < words → is_target limit words (Slot j) ≡ true
@@ -334,19 +290,6 @@ target_fits limit words le false (suc (suc (suc (suc zero)))) lt = refl
 target_fits limit words le false (suc (suc (suc (suc (suc zero))))) lt = refl
 target_fits limit words le false (suc (suc (suc (suc (suc (suc zero)))))) lt = refl
 target_fits limit words le false (suc (suc (suc (suc (suc (suc (suc j))))))) lt = next_target limit words j (omega (arith, lt))
-
-module _ (place : ℕ → Place) (first limit words most : ℕ) (P : ℕ → Type 0) (there : (x : ℕ) → P x → is_place words (place x) ≡ true) (le : words ≤ limit) (wide : first + most < words) where
-  aside_fits : (operands : List (Operand ℕ)) (k : ℕ) → AtomsHave P (operands_atoms operands) → k + length operands ≤ suc most → EachSetAside first (Fits limit words) k (operands_at place operands)
-  aside_fits [] k h few = tt
-  aside_fits (o ∷ operands) k h few = (
-    (operand_placed place words P there o (have_left P (operand_atoms o) _ h), slot_target limit words (first + k) le (omega (arith, few, wide))),
-    aside_fits operands (suc k) (have_right P (operand_atoms o) _ h) (omega (arith, few)),
-  )
-
-  pub asides_fit : (tail : Bool) (a : Application ℕ) → AtomsHave P (application_atoms a) → length a.operands ≤ most → EachMove (λ m. Fits limit words m.from m.to) (aside_moves first place limit tail a)
-  asides_fit tail a h few =
-      asides_have first (Fits limit words) place limit tail a (aside_fits (a.operator ∷ a.operands) 0 h (omega (arith, few)))
-      (λ j lt. (and_from _ _ (lt-ltb (first + j) words (omega (arith, lt, few, wide))) refl, target_fits limit words le tail j (omega (arith, lt, few, wide))))
 
 -- ## Shape and names
 

@@ -13,24 +13,14 @@ use Rattle.sch_control.specs.declared.operation.Operation.{Operation}
 use Rattle.sch_control.specs.declared.operation.Operation.TheVariants as operation
 use Rattle.sch_control.specs.declared.operation.Source.{Source}
 use Rattle.sch_control.specs.declared.operation.Source.TheVariants as source
-use Rattle.sch_control.specs.Covered as control_covered
-use Rattle.sch_control.specs.Covered.{is_covered, has_covered_formals}
 use Rattle.sch_control.specs.CoveredOperands.{is_form}
-use Rattle.sch_control.specs.Tree as control
 use Rattle.sch_control.specs.Tree.{Expression, perform, bind, sequence, branch, fix, call, tail_call, return, end, save}
-use Rattle.sch_control.specs.Valid.{Position, value, no_call, ends_form, positioned, last_position, is_bare, source_field, operation_field, group_fields, fields_of, fields_there, entry_shaped, ended, fields_known, shaped_whole, shaped}
+use Rattle.sch_control.specs.Valid.{Position, value, no_call, ends_form, positioned, last_position, source_field, operation_field, group_fields, fields_of, fields_there, entry_shaped}
 use Rattle.sch_frames.specs.declared.instruction.Instruction.{Instruction}
 use Rattle.sch_frames.specs.declared.instruction.Instruction.TheVariants.{Do, Label, Mark}
-use Rattle.sch_frames.specs.Valid.{formals_of, is_entered, max_words}
-use Rattle.sch_frames.specs.Covered.{is_covered_code, source_low, member_low, operation_low, instruction_low, marks_settled, may_stand, plain_instruction, begins}
-use Rattle.sch_frames.specs.Standing.{Other}
-use Rattle.sch_frames.proofs.SettledMarks.{settled}
+use Rattle.sch_frames.specs.Covered.{source_low, member_low, operation_low, instruction_low, marks_settled, may_stand, plain_instruction, begins}
 use Rattle.sch_layout.specs.BodyLayout.{Plan, operand_at, source_at, sources_at, members_at, operation_at}
-use Rattle.sch_layout.specs.OwnSlots.{slots_base, slots_for, slots_layout, slots_code}
-use Rattle.sch_layout.proofs.layouts.CoveredSlots.{layout_covered, slots_begin}
-use Rattle.sch_layout.proofs.layouts.InstructionTests.{Given, Passes, Steers, Takes, Unplaced, entering_passes, moves_pass, tree_passes, unplaced_carries}
-use Rattle.sch_layout.proofs.layouts.OwnTakes.{own_takes}
-use Rattle.sch_layout.proofs.layouts.SlotsStand.{slots_stand}
+use Rattle.sch_layout.proofs.layouts.InstructionTests.{Given, Passes, Steers, Takes, Unplaced, moves_pass}
 
 -- a test that whatever goes into the accumulator of an operand passes
 module _ (plan : Plan) (takes : Takes plan) (test : Instruction → Bool) (steers : Steers test) (unplaced : Unplaced test) (given : (o : Operand Place) → test (Do (operation.Operand o)) ≡ true) where
@@ -105,13 +95,6 @@ few_fields (Some e) h =
     let q = and_parts _ (nat_le e.fields max_free_variables) p.1 in
     leb-true e.fields max_free_variables q.1
 
-slots_low : (c : control.Code) → shaped_whole c ≡ true → fields_known c ≡ true → list_all instruction_low (slots_layout c) ≡ true
-slots_low c whole there =
-    let few = few_fields c.entry (and_parts (entry_shaped c.entry) (shaped c.expression) whole).0 in
-    entering_passes (slots_for c) instruction_low low_steers c.entry (λ x lt e. refl) _
-    (tree_passes (slots_for c) instruction_low low_steers (unplaced_carries (slots_for c) instruction_low low_steers low_unplaced) (is_entered c.entry) c.expression
-    (parts_low (slots_for c) (own_takes (formals_of c.entry) (slots_base c) c.variables max_words) (fields_of c.entry) few c.expression there))
-
 -- ## Ends
 
 module _ (plan : Plan) (takes : Takes plan) (ends : Bool) where
@@ -143,13 +126,6 @@ pub last_may : (entry : Option Entry) → ends_form (last_position entry) ≡ tr
 last_may None h = refl
 last_may (Some e) h = h
 
-slots_end : (c : control.Code) → ended c ≡ true → list_all (may_stand (is_form c.entry)) (slots_layout c) ≡ true
-slots_end c h =
-    let ends = is_form c.entry in
-    entering_passes (slots_for c) (may_stand ends) (stand_steers ends) c.entry (λ x lt e. refl) _
-    (tree_passes (slots_for c) (may_stand ends) (stand_steers ends) (unplaced_carries (slots_for c) (may_stand ends) (stand_steers ends) (stand_unplaced ends)) (is_entered c.entry) c.expression
-    (parts_stand (slots_for c) (own_takes (formals_of c.entry) (slots_base c) c.variables max_words) ends c.expression (last_position c.entry) (last_may c.entry) (and_parts (is_bare c.expression) _ h).1))
-
 -- ## Marks of entries
 
 pub plain_steers : Steers plain_instruction
@@ -173,12 +149,6 @@ module _ (plan : Plan) (takes : Takes plan) where
       (moves_pass plan takes plain_instruction plain_steers plain_unplaced true a (all_given plan takes plain_instruction plain_steers plain_unplaced (λ o. refl) (a.operator ∷ a.operands)), refl)
   parts_plain (save saves e) = parts_plain e
 
-slots_plain : (c : control.Code) → list_all plain_instruction (slots_layout c) ≡ true
-slots_plain c =
-    entering_passes (slots_for c) plain_instruction plain_steers c.entry (λ x lt e. refl) _
-    (tree_passes (slots_for c) plain_instruction plain_steers (unplaced_carries (slots_for c) plain_instruction plain_steers plain_unplaced) (is_entered c.entry) c.expression
-    (parts_plain (slots_for c) (own_takes (formals_of c.entry) (slots_base c) c.variables max_words) c.expression))
-
 -- ## Marks with an instruction behind
 
 -- no label stands first, so a mark may wait
@@ -187,12 +157,3 @@ may_wait [] b h = absurd cc
 may_wait (Label l ∷ is) b h = absurd cc
 may_wait (Mark m ∷ is) b h = h
 may_wait (_ ∷ is) b h = h
-
-pub slots_covered : (c : control.Code) → ended c ≡ true → shaped_whole c ≡ true → fields_known c ≡ true → control_covered.is_covered_code c ≡ true → is_covered_code (slots_code c) ≡ true
-slots_covered c bare whole there covered =
-    let parts = and_parts (has_covered_formals c.entry) (is_covered c.expression) covered in
-    and_from _ _ parts.0
-    (and_from _ _ (layout_covered c parts.1)
-    (and_from _ _ (slots_low c whole there)
-    (and_from _ _ (slots_end c bare)
-    (and_from _ _ (slots_plain c) (may_wait (slots_layout c) (slots_begin c) (settled Other (slots_layout c) (slots_stand c)))))))

@@ -115,7 +115,7 @@ module _ (plan : Plan) (saved : (x : ℕ) → is_slot (plan.place x) ≡ false �
     by true i more = more
     by false i more = and_from _ _ (and_from _ _ (ap not i) (saved x i)) more
 
-  pub lay_stands : (e : Expression) (inside : ℕ → Bool) (n : ℕ) (test : Option ℕ) (rest : List Instruction) → Stand rest → Stand (lay plan e inside n test rest)
+  lay_stands : (e : Expression) (inside : ℕ → Bool) (n : ℕ) (test : Option ℕ) (rest : List Instruction) → Stand rest → Stand (lay plan e inside n test rest)
   lay_stands (perform o) inside n test rest h = leave_stands test rest h
   lay_stands (bind x a b) inside n test rest h =
       lay_stands a inside n None _ (bound_stands x _ (stored_stands (filter inside (x ∷ [])) (lay plan b inside (n + labels a) test rest) (lay_stands b inside (n + labels a) test rest h)))
@@ -131,7 +131,7 @@ module _ (plan : Plan) (saved : (x : ℕ) → is_slot (plan.place x) ≡ false �
 
   -- ## Entries
 
-  pub entering_stands : (entry : Option Entry) → EntersSlots plan (entered_with entry) → (rest : List Instruction) → Stand rest → Stand (entering plan entry rest)
+  entering_stands : (entry : Option Entry) → EntersSlots plan (entered_with entry) → (rest : List Instruction) → Stand rest → Stand (entering plan entry rest)
   entering_stands None go rest h = h
   entering_stands (Some e) go rest h = by (suc e.formals) 1 (omega arith) where
     by : (count from : ℕ) → from + count ≤ 2 + e.formals → Stand (arrivals plan from count rest)

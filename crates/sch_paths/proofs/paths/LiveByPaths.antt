@@ -193,3 +193,14 @@ module _ (x : ℕ) where
 
   pub soon_is : (inside : ℕ → Bool) (e : Expression) (L : Bool → Type 0) → MayMeet (soon x) inside e L ↔ Soon x e L
   soon_is inside e L = then_is (may_meet (soon x) inside e L) (soon_before inside e L)
+
+  pub binding_soon : (inside : ℕ → Bool) (y : ℕ) (L : Type 0) → Meets (soon x) (binding inside y) L ↔ Across y x L
+  binding_soon inside y L = binding_is x (soon x) (λ y. refl) (λ y. refl) on_other inside y L
+
+  -- ## A return
+
+  pub return_live : Meets (live x) (References 0 ∷ Returns ∷ []) ⊥ ↔ (x ≡ 0)
+  return_live = leaves x (live x) (λ y. refl) (λ y. refl) (λ y e. refl) Returns ⊥ refl
+
+  pub return_soon : Meets (soon x) (References 0 ∷ Returns ∷ []) ⊥ ↔ (x ≡ 0)
+  return_soon = leaves x (soon x) (λ y. refl) (λ y. refl) on_other Returns ⊥ refl

@@ -1,11 +1,13 @@
 -- What is live and what is saved does not depend on what is listed at calls.
-use Rattle.std.proofs.Common.{◌≡◌, ℕ, Bool, true, false, refl, ap, sym, ◌∙◌, subst}
+use Rattle.std.proofs.Common.{◌≡◌, ℕ, Bool, true, false, ◌⊎◌, refl, ap, sym, ◌∙◌, subst}
 use Rattle.std.specs.Bool.{MatchBool}
+use Rattle.sch_word.specs.trees.NumberSets.{has}
 use Rattle.std.proofs.Math.Path.{fun_ext}
-use Rattle.sch_control.specs.Meaning.{with_region}
+use Rattle.sch_control.specs.Meaning.{heads, with_region}
 use Rattle.sch_control.specs.Tree.{Expression, perform, bind, sequence, branch, fix, call, tail_call, return, end, save}
-use Rattle.sch_control.specs.flow.Live.{Across, MayGive, Live, Later}
+use Rattle.sch_control.specs.flow.Live.{Across, MayGive, Live, Soon, Later}
 use Rattle.sch_paths.specs.Conditions.{Saved}
+use Rattle.sch_paths.proofs.paths.UnlistedPaths.{heads_unlisted}
 use Rattle.sch_control.specs.flow.Bare.{unlisted}
 
 pub may_give_unlisted : (e : Expression) (r : Bool) → MayGive (unlisted e) r ≡ MayGive e r
@@ -34,6 +36,22 @@ live_unlisted x (tail_call a) L = refl
 live_unlisted x (return e) L = live_unlisted x e (λ t. x ≡ 0)
 live_unlisted x (end e) L = live_unlisted x e (λ t. ⊥)
 live_unlisted x (save saves e) L = live_unlisted x e L
+
+pub soon_unlisted : (x : ℕ) (e : Expression) (S : Bool → Type 0) → Soon x (unlisted e) S ≡ Soon x e S
+soon_unlisted x (perform o) S = refl
+soon_unlisted x (bind y a b) S =
+    ap (λ A. Soon x (unlisted a) (λ t. Across y x A)) (soon_unlisted x b S) ∙ soon_unlisted x a (λ t. Across y x (Soon x b S))
+soon_unlisted x (sequence a b) S = ap (λ A. Soon x (unlisted a) (λ t. A)) (soon_unlisted x b S) ∙ soon_unlisted x a (λ t. Soon x b S)
+soon_unlisted x (branch a b c) S =
+    ap (λ A. Soon x (unlisted a) (λ t. MatchBool t A (Soon x (unlisted c) S))) (soon_unlisted x b S)
+    ∙ (ap (λ A. Soon x (unlisted a) (λ t. MatchBool t (Soon x b S) A)) (soon_unlisted x c S) ∙ soon_unlisted x a (λ t. MatchBool t (Soon x b S) (Soon x c S)))
+soon_unlisted x (fix members e) S = rw (soon_unlisted x e S) refl
+soon_unlisted x (call a listed) S = refl
+soon_unlisted x (tail_call a) S = refl
+soon_unlisted x (return e) S = soon_unlisted x e (λ t. x ≡ 0)
+soon_unlisted x (end e) S = soon_unlisted x e (λ t. ⊥)
+soon_unlisted x (save saves e) S =
+    ap (λ A. (has x (heads (unlisted e) saves) ≡ true) ⊎ A) (soon_unlisted x e S) ∙ ap (λ hs. (has x hs ≡ true) ⊎ Soon x e S) (heads_unlisted e saves)
 
 abbrev Behind : Expression → Later → ℕ → Type 0
 Behind e L x = Live x e (L x)

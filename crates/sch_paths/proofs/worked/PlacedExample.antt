@@ -1,5 +1,5 @@
 -- Of `(define (k x) (g 1) (g 2) (+ x 1))` the return address and x are saved round the body, and restored after the second call alone.
-use Rattle.std.proofs.Common.{◌≡◌, ◌≢◌, ℕ, Bool, true, false, List, [], ◌∷◌, refl, sym, ◌∙◌, inl, inr, ◌⊎◌, arith}
+use Rattle.std.proofs.Common.{◌≡◌, ◌≢◌, ℕ, Bool, true, false, List, [], ◌∷◌, ◌++◌, refl, sym, ◌∙◌, inl, inr, ◌⊎◌, arith}
 use Rattle.std.specs.Prelude.{◌↔◌, nat_eq, ◌||◌, ◌&&◌}
 use Rattle.std.proofs.lemmas.Bool.{eqb-true, eq-eqb}
 use Rattle.sch_word.specs.trees.NumberSets.{has}
@@ -8,11 +8,15 @@ use Rattle.sch_control.specs.declared.operation.Atom.TheVariants.{Literal, Varia
 use Rattle.sch_control.specs.declared.operation.Operand.TheVariants as operand
 use Rattle.sch_control.specs.declared.operation.Operation.TheVariants as operation
 use Rattle.sch_control.specs.declared.operation.Application.{Application}
-use Rattle.sch_control.specs.Meaning.{no_region}
+use Rattle.sch_control.specs.Meaning.{no_region, with_region}
 use Rattle.sch_control.specs.Tree.{Expression, perform, bind, call, return, save}
 use Rattle.sch_control.specs.flow.Live.{Perhaps, Across, nothing_later}
 use Rattle.sch_control.specs.flow.LiveSets.{LiveSets}
+use Rattle.sch_control.specs.flow.Paths.{Binds, Event, References, Returns, binding, live}
+use Rattle.sch_paths.specs.EachSoonRestored.{EachSoonRestored}
 use Rattle.sch_paths.specs.Exact.{LazySaves, EagerRestores}
+use Rattle.sch_paths.specs.RestoredByPaths.{RestoredByPaths, SomeSays, Through}
+use Rattle.sch_paths.proofs.paths.EagerByPaths.{by_paths}
 use Rattle.sch_paths.proofs.saves.TwoSets.{either, needs_is}
 
 abbrev calling : ℕ → Application ℕ
@@ -103,6 +107,13 @@ lazy = (
   once true e = refl
   once false e = absurd (cc)
 
+-- nothing of what is live behind the first call is wanted before the second one
+never : (x : ℕ) → Across 4 x ((false ≡ true) ⊎ Perhaps (λ t. Across 5 x (has x (5 ∷ []) ≡ true))) → ⊥
+never x w = elim w.1 [
+  | inl f ↦ absurd (cc)
+  | inr p ↦ elim p [ inl a ↦ a.0 (one x 5 a.1) | inr a ↦ a.0 (one x 5 a.1) ]
+]
+
 restores : EagerRestores (save both (body [] both))
 restores = (
   tt,
@@ -119,9 +130,48 @@ restores = (
       ),
     ),
   ),
-) where
-  never : (x : ℕ) → Across 4 x ((false ≡ true) ⊎ Perhaps (λ t. Across 5 x (has x (5 ∷ []) ≡ true))) → ⊥
-  never x w = elim w.1 [
-    | inl f ↦ absurd (cc)
-    | inr p ↦ elim p [ inl a ↦ a.0 (one x 5 a.1) | inr a ↦ a.0 (one x 5 a.1) ]
-  ]
+)
+
+-- that is enough, and without the restores of the second call it is not
+enough : EachSoonRestored (save both (body [] both))
+enough = (
+  tt,
+  (
+    (λ x met l s k. elim s [ inl a ↦ absurd (never x a) | inr a ↦ absurd (never x a) ]),
+    (tt, ((λ x met l s k. elim l [ inl a ↦ from_behind x a | inr a ↦ from_behind x a ]), tt)),
+  ),
+)
+
+too_few : EachSoonRestored (save both (body [] [])) → ⊥
+too_few h =
+    let e : false ≡ true = h.1.1.1.0 2 tt (inl (behind 2 refl)) (inl (behind 2 refl)) refl in
+    absurd (cc)
+
+-- were both restored behind the first call too, that would be more than is wanted
+too_many : EagerRestores (save both (body both both)) → ⊥
+too_many h = elim (((h.1.0 2).0 refl).1.1.1) [ inl a ↦ never 2 a | inr a ↦ never 2 a ]
+
+-- ## By paths
+
+restored_by_paths : RestoredByPaths (save both (body [] both))
+restored_by_paths = by_paths (save both (body [] both)) restores
+
+-- the one path that goes on from the second call reads x
+reads_x : SomeSays (live 2) (λ es. (rest : List Event) × Through (with_region both no_region) (return (perform (operation.Operand (operand.Atom (Variable 2))))) (λ t es. es ≡ []) rest
+    × (es ≡ binding (with_region both no_region) 6 ++ rest))
+reads_x = (
+  Binds 6 ∷ References 2 ∷ References 0 ∷ Returns ∷ [],
+  (
+    References 2 ∷ References 0 ∷ Returns ∷ [],
+    (References 2 ∷ References 0 ∷ Returns ∷ [], [], true, (References 2 ∷ [], true, (refl, inl refl), refl), refl, refl),
+    refl,
+  ),
+  tt,
+)
+
+-- so a call that does not restore it restores too little
+nothing_restored : RestoredByPaths (save both (body [] [])) → ⊥
+unfolding reads_x
+nothing_restored h =
+    let e : false ≡ true = (h.1.1.1.0 2).1 (refl, (tt, (inl reads_x, inl (reads_x.0, reads_x.1, tt)))) in
+    absurd (cc)

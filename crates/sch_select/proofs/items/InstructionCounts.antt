@@ -50,7 +50,7 @@ use Rattle.sch_select_operations.specs.CellCode.{source_code, check_cell, cell_o
 use Rattle.sch_select_operations.specs.ObjectCode.{check_heap, part_code}
 use Rattle.sch_select_operations.specs.ClosureCode.{fields_code, closure_bytes, group_bytes, places_code, records_code}
 use Rattle.sch_select_operations.specs.ClosureCode.{group_code, spills_behind}
-use Rattle.sch_select.specs.Program.{passed_code, entry_code, forms_code, labels_end, own_label, program_code}
+use Rattle.sch_select.specs.Program.{passed_code, entry_code, forms_code, labels_end, own_label, selected_code}
 use Rattle.sch_select_data.specs.Data.{heap_of}
 use Rattle.sch_select.specs.Sizes.{instructions_in, steps_size}
 use Rattle.sch_select.proofs.items.ProgramLabels.{last_code}
@@ -346,7 +346,7 @@ module _ (words globals symbols literals : ℕ) where
 -- ## Programs
 
 pub program_instructions : (p : tree.Source) (heap depth : ℕ) → selects p ≡ true
-    → steps_size p ≤ 3 * instructions_in (program_code p heap depth)
+    → steps_size p ≤ 3 * instructions_in (selected_code p heap depth)
 program_instructions p heap depth e =
     let globals = length p.statics.globals in
     let symbols = length p.statics.symbols in

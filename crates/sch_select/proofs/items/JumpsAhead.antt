@@ -49,7 +49,7 @@ use Rattle.sch_select.proofs.items.AppendedItems.{spill_same}
 use Rattle.sch_select_operations.specs.PrimitiveCode.{pair_or_binary, ternary_code, index_operand}
 use Rattle.sch_select_operations.specs.OperationCode.{operation_code}
 use Rattle.sch_select.specs.Select.{labels_needed, body_code}
-use Rattle.sch_select.specs.Program.{passed_code, entry_code, forms_code, labels_end, own_label, program_code}
+use Rattle.sch_select.specs.Program.{passed_code, entry_code, forms_code, labels_end, own_label, selected_code}
 use Rattle.sch_select_memory.specs.OwnCode.{own_code}
 use Rattle.sch_select_data.specs.Data.{heap_of}
 use Rattle.sch_select.specs.Jumps.{goes_ahead, jumps_ahead}
@@ -353,7 +353,7 @@ last_ahead _ _ = refl
 
 pub program_ahead : (p : tree.Source) (heap depth : ℕ) → list_all (λ c. forward c.labels c.instructions) p.bodies ≡ true
     → list_all (λ c. list_all (labels_few (length p.bodies)) c.instructions) p.bodies ≡ true
-    → jumps_ahead (own_label p) (program_code p heap depth) ≡ true
+    → jumps_ahead (own_label p) (selected_code p heap depth) ≡ true
 program_ahead p heap depth e f =
     forms_ahead (length p.bodies) p.words (heap_of p + heap) (count_literals p.statics.literals) 0 (own_label p) p.bodies _ e f
     ∙ last_ahead (own_label p) (heap_of p + heap)

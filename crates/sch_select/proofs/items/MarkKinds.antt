@@ -25,7 +25,7 @@ use Rattle.sch_select.proofs.items.BareItems.{is_bare, behind_entry, behind_oper
 use Rattle.sch_select.proofs.items.Sound.{impossible}
 use Rattle.sch_select_operations.specs.ClosureCode.{closure_bytes, places_code, spill_code, spills_behind}
 use Rattle.sch_select.specs.Select.{labels_needed, instruction_code, body_code}
-use Rattle.sch_select.specs.Program.{forms_code, labels_end, own_label, program_code}
+use Rattle.sch_select.specs.Program.{forms_code, labels_end, own_label, selected_code}
 use Rattle.sch_select_data.specs.Data.{heap_of}
 use Rattle.sch_select.specs.Sizes.{kinds_among, kinds_in, kinds_of}
 
@@ -88,7 +88,7 @@ forms_kinds globals symbols words heap_end literals label n (c ∷ cs) s rest =
     let a = append_assoc (kinds_among c.instructions) (kinds_of (suc label) cs) (kinds_in rest) in
     p ∙ e ∙ ap (λ kinds. Enter label ∷ kinds) (h ∙ ap (λ kinds. kinds_among c.instructions ++ kinds) k ∙ sym a)
 
-pub program_kinds : (p : tree.Source) (heap depth : ℕ) → selects p ≡ true → kinds_in (program_code p heap depth) ≡ kinds_of 0 p.bodies
+pub program_kinds : (p : tree.Source) (heap depth : ℕ) → selects p ≡ true → kinds_in (selected_code p heap depth) ≡ kinds_of 0 p.bodies
 program_kinds p heap depth e =
     let globals = length p.statics.globals in
     let symbols = length p.statics.symbols in

@@ -16,9 +16,10 @@ use Rattle.sch_frames.specs.Tree.{Source}
 use Rattle.sch_frames.specs.Valid.{forward, max_words}
 use Rattle.sch_asm.specs.declared.item.Item.{Item}
 use Rattle.sch_asm.specs.Items.{AreOwn, is_among, labels_in}
+use Rattle.sch_asm.specs.Narrow.{narrowed}
 use Rattle.sch_select_data.specs.Data.{heap_of, max_heap_address}
 use Rattle.sch_select_data.proofs.StaticSizes.{literals_few, names_few}
-use Rattle.sch_select.specs.Program.{laid_code, program_code, program_zeros, max_data, max_stack, own_label}
+use Rattle.sch_select.specs.Program.{laid_code, program_code, selected_code, program_zeros, max_data, max_stack, own_label}
 use Rattle.sch_select.specs.Program.{stack_bytes}
 use Rattle.sch_select.proofs.items.ProgramLabels.{labels_low, forms_labels, forms_labelled, last_code}
 
@@ -73,13 +74,13 @@ each_says (l ∷ ls) low e = let p = and_parts (nat_le low l) (list_all (λ l. n
     (leb-true low l p.0, each_says ls low p.1)
 
 pub program_own : (p : Source) (limit depth : ℕ) → list_all (λ c. forward c.labels c.instructions) p.bodies ≡ true
-    → AreOwn (program_code p limit depth)
+    → AreOwn (selected_code p limit depth)
 program_own p limit depth e =
     let rest = last_code (heap_of p + limit) in
     let forms = forms_labels 0 (own_label p) p.bodies in
-    let is : labels_in (program_code p limit depth) ≡ forms ++ labels_in rest = forms_labelled p.words
+    let is : labels_in (selected_code p limit depth) ≡ forms ++ labels_in rest = forms_labelled p.words
     (heap_of p + limit) (count_literals p.statics.literals) 0 (own_label p) p.bodies rest in
-    All-from_recursion (λ l. 1024 ≤ l) (labels_in (program_code p limit depth))
+    All-from_recursion (λ l. 1024 ≤ l) (labels_in (selected_code p limit depth))
     (subst (AllByRecursion (λ l. 1024 ≤ l)) (sym is) (each_append forms (labels_in rest) 1024
     (each forms 1024 (λ y h. let lo = labels_low p e y h in omega (arith, lo))) (each_says (labels_in rest) 1024 refl)))
 
@@ -87,12 +88,12 @@ program_own p limit depth e =
 
 pub whole_items : (p : Source) (limit depth stack literals heap n : ℕ) (items : List Item) → stack ≡ heap_of p + limit
     → literals ≡ count_literals p.statics.literals → heap ≡ heap_of p → n ≡ length p.bodies
-    → items ≡ laid_code p.words stack literals heap depth n p.bodies → items ≡ program_code p limit depth
+    → items ≡ narrowed (laid_code p.words stack literals heap depth n p.bodies) → items ≡ program_code p limit depth
 whole_items p limit depth stack literals heap n items a b c d e =
-    e ∙ ap (λ s. laid_code p.words s literals heap depth n p.bodies) a
-    ∙ ap (λ l. laid_code p.words (heap_of p + limit) l heap depth n p.bodies) b
-    ∙ ap (λ h. laid_code p.words (heap_of p + limit) (count_literals p.statics.literals) h depth n p.bodies) c
-    ∙ ap (λ n. laid_code p.words (heap_of p + limit) (count_literals p.statics.literals) (heap_of p) depth n p.bodies) d
+    e ∙ ap (λ s. narrowed (laid_code p.words s literals heap depth n p.bodies)) a
+    ∙ ap (λ l. narrowed (laid_code p.words (heap_of p + limit) l heap depth n p.bodies)) b
+    ∙ ap (λ h. narrowed (laid_code p.words (heap_of p + limit) (count_literals p.statics.literals) h depth n p.bodies)) c
+    ∙ ap (λ n. narrowed (laid_code p.words (heap_of p + limit) (count_literals p.statics.literals) (heap_of p) depth n p.bodies)) d
 
 pub bodies_count : (bodies : List FrameBody) → length (codes_of bodies) ≡ length bodies
 bodies_count [] = refl

@@ -41,7 +41,7 @@ use Rattle.sch_asm.specs.declared.item.Item.{Item}
 use Rattle.sch_asm.specs.declared.item.Item.TheVariants as item
 use Rattle.sch_asm.specs.Items.{AreKnown, is_among, is_routine, labels_in, uses_in, word_uses}
 use Rattle.sch_select.specs.Program.{count_code, passed_code, entry_code, form_code, forms_code, labels_end}
-use Rattle.sch_select.specs.Program.{own_label, program_code}
+use Rattle.sch_select.specs.Program.{own_label, selected_code}
 use Rattle.sch_select_memory.specs.RestCode.{list_code, list_label}
 use Rattle.sch_select.proofs.items.RestItems.{count_labels}
 use Rattle.sch_select_operations.specs.PrimitiveCode.{pair_or_binary, ternary_code, index_operand}
@@ -470,14 +470,14 @@ pub program_known : (p : tree.Source) (limit depth : ℕ)
     → list_all (λ c. forward c.labels c.instructions) p.bodies ≡ true
     → list_all (λ c. list_all (labels_few (length p.bodies)) c.instructions) p.bodies ≡ true
     → list_all (λ l. nat_lt l (length p.bodies)) p.library ≡ true
-    → AreKnown (program_code p limit depth) (program_words p)
+    → AreKnown (selected_code p limit depth) (program_words p)
 program_known p limit depth e f g =
     let heap_end = heap_of p + limit in
     let literals = count_literals p.statics.literals in
     let rest = last_code heap_end in
     let forms = forms_labels 0 (own_label p) p.bodies in
     let own = labels_in rest in
-    let all : List ℕ = labels_in (program_code p limit depth) in
+    let all : List ℕ = labels_in (selected_code p limit depth) in
     let is : all ≡ forms ++ own = forms_labelled p.words heap_end literals 0 (own_label p) p.bodies rest in
     let at : (y : ℕ) → is_among (forms ++ own) y ≡ true → is_among all y ≡ true = λ y h. ap (λ l. is_among l y) is
     ∙ h in
@@ -490,7 +490,7 @@ program_known p limit depth e f g =
     let string_in = own_in string_label refl in
     let lists_in : (m : ℕ) → m < 7 → is_among all (list_label m) ≡ true = λ m lt. own_in (list_label m)
     (list_stands heap_end m lt) in
-    let uses : list_all (known all) (uses_in (program_code p limit depth)) ≡ list_all (known all) (uses_in rest) =
+    let uses : list_all (known all) (uses_in (selected_code p limit depth)) ≡ list_all (known all) (uses_in rest) =
     forms_uses all put_in vector_in string_in lists_in (length p.bodies) bodies_in p.words heap_end literals 0 (own_label p)
     p.bodies e f (λ y h. at y (left_in forms own y h)) rest in
     let end : list_all (known all) (uses_in rest) ≡ true = known_within own all own_in (uses_in rest)
@@ -498,6 +498,6 @@ program_known p limit depth e f g =
     let words : list_all (known all) (word_uses (program_words p)) ≡ true = ap (list_all (known all)) (words_use p)
     ∙ library_uses all put_in vector_in string_in lists_in (length p.bodies) bodies_in p.words heap_end literals p.library g in
     All-from_recursion (λ l. IsTrue (is_routine l || is_among all l))
-    (uses_in (program_code p limit depth) ++ word_uses (program_words p))
-    (says_all all (uses_in (program_code p limit depth) ++ word_uses (program_words p))
-    (all_known all (uses_in (program_code p limit depth)) (word_uses (program_words p)) (uses ∙ end) words))
+    (uses_in (selected_code p limit depth) ++ word_uses (program_words p))
+    (says_all all (uses_in (selected_code p limit depth) ++ word_uses (program_words p))
+    (all_known all (uses_in (selected_code p limit depth)) (word_uses (program_words p)) (uses ∙ end) words))

@@ -27,7 +27,7 @@ use Rattle.sch_select.proofs.items.RestItems.{count_labels, count_labelled}
 use Rattle.sch_select_memory.specs.Addresses.{body_label}
 use Rattle.sch_select.specs.Select.{all_labels_needed, labels_needed, instruction_code, body_code}
 use Rattle.sch_select.specs.Program.{passed_code, entry_code, form_code, forms_code, labels_end, own_label}
-use Rattle.sch_select.specs.Program.{program_code}
+use Rattle.sch_select.specs.Program.{selected_code}
 use Rattle.sch_select_memory.specs.OwnCode.{own_code}
 use Rattle.sch_select_data.specs.Data.{heap_of}
 use Rattle.sch_word.proofs.facts.Booleans.{neither}
@@ -403,12 +403,12 @@ none_of_own (l ∷ ls) e x le =
     neither (l == x) (is_among ls x) (ne_eqb l x (λ s. omega (arith, s, le, lt))) (none_of_own ls p.1 x le)
 
 pub program_once : (p : Source) (limit depth : ℕ) → list_all (λ c. forward c.labels c.instructions) p.bodies ≡ true
-    → IsEachOnce (labels_in (program_code p limit depth))
+    → IsEachOnce (labels_in (selected_code p limit depth))
 program_once p limit depth e =
     let rest = last_code (heap_of p + limit) in
     let forms = forms_labels 0 (own_label p) p.bodies in
     let b = forms_block 0 (own_label p) p.bodies (omega arith) e in
-    let all : labels_in (program_code p limit depth) ≡ forms ++ labels_in rest = forms_labelled p.words
+    let all : labels_in (selected_code p limit depth) ≡ forms ++ labels_in rest = forms_labelled p.words
     (heap_of p + limit) (count_literals p.statics.literals) 0 (own_label p) p.bodies rest in
     subst IsEachOnce (sym all) (each_once (forms ++ labels_in rest)
     (distinct_append forms (labels_in rest) b.distinct refl

@@ -40,7 +40,7 @@ use Rattle.sch_select_operations.specs.CellCode.{source_code}
 use Rattle.sch_select_operations.specs.ClosureCode.{fields_code, record_code, closure_bytes, places_code, records_code, spill_code, spills_behind}
 use Rattle.sch_select_operations.specs.OperationCode.{operation_code}
 use Rattle.sch_select.specs.Select.{labels_needed, instruction_code, body_code}
-use Rattle.sch_select.specs.Program.{passed_code, entry_code, forms_code, labels_end, program_code, own_label}
+use Rattle.sch_select.specs.Program.{passed_code, entry_code, forms_code, labels_end, selected_code, own_label}
 use Rattle.sch_select_data.specs.Data.{heap_of}
 use Rattle.sch_select.proofs.items.ProgramLabels.{last_code}
 use Rattle.sch_select.proofs.items.Sound.{in_front, impossible}
@@ -228,7 +228,7 @@ module _ (words globals symbols literals heap_end : ℕ) where
       ∙ forms_arrive (suc label) (labels_end n c) cs rest p.1 s.1
 
 pub program_marked : (p : tree.Source) (limit depth : ℕ) → selects p ≡ true
-    → IsTrue (marks_arrive false (program_code p limit depth))
+    → IsTrue (marks_arrive false (selected_code p limit depth))
 program_marked p limit depth e =
     let globals = length p.statics.globals in
     let symbols = length p.statics.symbols in

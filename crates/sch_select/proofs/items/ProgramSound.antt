@@ -52,7 +52,7 @@ use Rattle.sch_select.proofs.items.AppendedItems.{spill_same}
 use Rattle.sch_select_operations.specs.OperationCode.{operation_code}
 use Rattle.sch_select.specs.Select.{copy_insn, labels_needed, instruction_code, body_code}
 use Rattle.sch_select_operations.specs.PrimitiveCode.{pair_or_binary, ternary_code, index_operand}
-use Rattle.sch_select.specs.Program.{passed_code, entry_code, forms_code, labels_end, program_code, own_label}
+use Rattle.sch_select.specs.Program.{passed_code, entry_code, forms_code, labels_end, selected_code, own_label}
 use Rattle.sch_select_data.specs.Data.{heap_of}
 use Rattle.sch_select.proofs.items.ProgramLabels.{last_code}
 use Rattle.sch_select.proofs.items.Sound.{items_valid, arg_valid, insn_valid, fits_32, fits_64, items_say, in_front, fits_short}
@@ -391,7 +391,7 @@ last_valid heap_end near = rw (fits_short (heap_offset heap_end) (omega (arith, 
 
 pub program_sound : (p : tree.Source) (limit depth : ℕ) → p.words ≤ 2048
     → count_literals p.statics.literals + length p.statics.globals ≤ 29360128 → length p.statics.symbols ≤ 29360128
-    → heap_of p + limit ≤ max_heap_end → depth ≤ 10000000 → selects p ≡ true → AreItems (program_code p limit depth)
+    → heap_of p + limit ≤ max_heap_end → depth ≤ 10000000 → selects p ≡ true → AreItems (selected_code p limit depth)
 program_sound p limit depth narrow few named near deep e =
     let globals = length p.statics.globals in
     let symbols = length p.statics.symbols in
@@ -408,6 +408,6 @@ program_sound p limit depth narrow few named near deep e =
     let b : fits_64 (pos (heap_of p)) ≡ true = fits_word (pos (heap_of p)) (omega (arith, ints))
     (omega (arith, ints, near)) in
     let c : fits_64 (pos depth) ≡ true = fits_word (pos depth) (omega (arith, ints)) (omega (arith, ints, deep)) in
-    items_say (program_code p limit depth)
+    items_say (selected_code p limit depth)
     (and_from (fits_64 (pos (heap_of p + limit))) _ a (and_from (fits_64 (pos (heap_of p))) _ b
     (and_from (fits_64 (pos depth)) _ c forms)))

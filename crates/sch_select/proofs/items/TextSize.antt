@@ -49,7 +49,7 @@ use Rattle.sch_select_operations.specs.ObjectCode.{check_heap, part_code}
 use Rattle.sch_select_operations.specs.ClosureCode.{fields_code, record_code, closure_bytes, group_bytes, places_code}
 use Rattle.sch_select_operations.specs.ClosureCode.{records_code, group_code, spills_behind}
 use Rattle.sch_select_operations.specs.CallCode.{check_depth, check_operator, enter_code, call_code, tail_code}
-use Rattle.sch_select.specs.Program.{passed_code, entry_code, forms_code, labels_end, own_label, program_code}
+use Rattle.sch_select.specs.Program.{passed_code, entry_code, forms_code, labels_end, own_label, selected_code}
 use Rattle.sch_select_data.specs.Data.{heap_of}
 use Rattle.sch_select.proofs.items.ProgramLabels.{last_code}
 use Rattle.sch_word.specs.declared.stop.Stop.TheVariants.{Unset}
@@ -349,7 +349,7 @@ last_small : (heap_end : ℕ) → text_size (last_code heap_end) ≤ 2003
 last_small heap_end = leb-true (text_size (last_code heap_end)) 2003 refl
 
 pub text_small : (p : tree.Source) (heap depth : ℕ)
-    → text_size (program_code p heap depth) ≤ 2048 + (64 * program_work p + 8 * program_copies p)
+    → text_size (selected_code p heap depth) ≤ 2048 + (64 * program_work p + 8 * program_copies p)
 text_small p heap depth =
     let a = spelling_short (MovWord 5 (pos (heap_of p + heap))) in
     let b = spelling_short (MovWord 12 (pos (heap_of p))) in

@@ -23,6 +23,7 @@ use Rattle.sch_asm.specs.Items.{marks_arrive}
 use Rattle.sch_asm.specs.Stands.{Setting, Stands}
 use Rattle.sch_asm.specs.Views.{text_at}
 use Rattle.sch_asm.proofs.Joined.{joined}
+use Rattle.sch_asm.proofs.NarrowItems.{stands_wide}
 use Rattle.sch_asm.proofs.Standing.{setting_of, stands_front}
 use Rattle.sch_select.proofs.items.RestItems.{entry_appends, passed_appends}
 use Rattle.sch_select_memory.specs.RestCode.{rest_routine}
@@ -32,7 +33,7 @@ use Rattle.sch_select_data.specs.NameWords.{symbol_words, symbols_count}
 use Rattle.sch_select_data.specs.Data.{program_words, names_of, closures_of, heap_of, max_heap_address}
 use Rattle.sch_select_memory.specs.StaticBytes.{static_bytes}
 use Rattle.sch_select.specs.Program.{own_label, passed_code, entry_code, forms_code, form_code, labels_end}
-use Rattle.sch_select.specs.Program.{program_code, program_zeros, max_stack, stack_bytes}
+use Rattle.sch_select.specs.Program.{program_code, program_zeros, max_stack, selected_code, stack_bytes}
 use Rattle.sch_select_memory.specs.OwnCode.{own_code}
 use Rattle.sch_select_memory.specs.PutCode.{put_value_code}
 use Rattle.sch_select_memory.specs.MakeCode.{make_vector_code, make_string_code}
@@ -224,13 +225,14 @@ module _ (p : Source) (limit depth : ℕ) (words_few : p.words ≤ 2048) (low : 
         let j = joined (program_code p limit depth) routines (program_words p) code marks words r valid small arrive
         arrive' in
         let setting = setting_of (text_at (flat_map spelling code)) r.place_of marks j.apart in
+        let stand = stands_wide setting (selected_code p limit depth) [] 0x400000 j.first in
         let plan = plan_of setting r.small in
         let zeros = program_zeros p limit depth in
         let making = making_there p.words (heap_of p + limit) literals setting 0 (own_label p) p.bodies _
-        j.first.2.2.2 in
+        stand.2.2.2 in
         let laid : Laid plan (bodies_cost p.bodies) = record {
           routine = effective.does setting j.second.0 j.second.1;
-          put_stands = put_there p.words (heap_of p + limit) literals setting 0 (own_label p) p.bodies _ j.first.2.2.2;
+          put_stands = put_there p.words (heap_of p + limit) literals setting 0 (own_label p) p.bodies _ stand.2.2.2;
           make_vector_stands = vector_there p.words (heap_of p + limit) literals setting making;
           lists = lists_there p.words (heap_of p + limit) literals setting making;
           make_string_stands = string_there p.words (heap_of p + limit) literals setting making;
@@ -266,11 +268,11 @@ module _ (p : Source) (limit depth : ℕ) (words_few : p.words ≤ 2048) (low : 
         subst (λ w. Done w code marks) (sym r.bytes)
         (record {
           follows = program_follows plan (bodies_cost p.bodies) laid depth room p limit parts
-              (bytes_at r.place_of) (own_code (heap_of p + limit)) forms covered entered_so (omega arith) j.first starts;
+              (bytes_at r.place_of) (own_code (heap_of p + limit)) forms covered entered_so (omega arith) stand starts;
           ends = program_ends plan (bodies_cost p.bodies) laid depth room p limit parts (bytes_at r.place_of)
-              (own_code (heap_of p + limit)) forms covered entered_so (omega arith) j.first starts refl;
+              (own_code (heap_of p + limit)) forms covered entered_so (omega arith) stand starts refl;
           passes = program_passes plan (bodies_cost p.bodies) laid depth room p limit parts
-              (bytes_at r.place_of) (own_code (heap_of p + limit)) forms covered entered_so (omega arith) j.first starts;
+              (bytes_at r.place_of) (own_code (heap_of p + limit)) forms covered entered_so (omega arith) stand starts;
         })
 
     pub program_selected : IsSelected p limit depth (program_code p limit depth) (program_words p) (program_zeros p limit depth)

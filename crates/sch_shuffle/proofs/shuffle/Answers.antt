@@ -26,6 +26,7 @@ returns c =
       ordered = is_ordered args targets free l f apart free_apart spare _ e;
       onward = go_on_in_order args targets free l f apart free_apart spare _ e;
       cycles = are_cycles args targets free l f apart free_apart spare _ g;
+      listed = g;
       few = as_few args targets free l f apart free_apart spare _ _ e g;
       fewest = needs args targets free l f apart free_apart spare _ g;
       made = e;

@@ -4,7 +4,7 @@ use Rattle.std.specs.List.{flat_map}
 use Rattle.std.specs.Prelude.{slice_index}
 use Rattle.sch_insn.specs.declared.insn.Insn.{Insn}
 use Rattle.sch_insn.specs.Spelling.{AllValid, spelling}
-use Rattle.sch_jumps.specs.Sizes.{jump_count, size}
+use Rattle.sch_jumps.specs.Sizes.{jump_count}
 use Rattle.sch_jumps.specs.Least.{IsExact, IsLeast}
 use Rattle.sch_jumps.specs.Spans.{set_of}
 use Rattle.sch_jumps.proofs.Exact.{exact}

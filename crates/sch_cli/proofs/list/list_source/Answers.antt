@@ -6,6 +6,7 @@ use Rattle.sch_cli.specs.Prints.{Prints}
 use Rattle.sch_cli.specs.Refusals.{IsRefused}
 use Rattle.sch_cli.specs.Seen.{disk_change, stream_change}
 use Rattle.sch_cli.specs.declared.failure.Failure.TheVariants.{Memory}
+use Rattle.sch_cli.proofs.TextFailures.{refused_of_text}
 use Rattle.sch_cli.proofs.DiskSteps.{failed_with, file_is, took_nothing, unread_lists}
 use Rattle.sch_cli.proofs.list.list_source.Goals as goal
 
@@ -26,7 +27,7 @@ returns-in_err-compiled-clause-listed g c =
     let why = c.in_err-compiled.field-0.0 in
     let is = subst (λ lent. IsRefused lent c.args.limits.depth why) c.as_slice.ensures c.in_err-compiled.ensures.refused in
     subst (ListsSource name c.args.limits.heap c.args.limits.depth disk out) (sym (failed_with c.from_residual-in_err-compiled.result why c.from_residual-in_err-compiled.ensures.1))
-    (refused why (file_is disk name c.in_ok-text.text (λ file. IsRefused file c.args.limits.depth why) c.in_ok-text.ensures.read.found is) (took_nothing (g.O.Outlet.bytes c.args.out.now)))
+    (refused why (refused_of_text c.in_ok-text.text c.args.limits.depth why is) (file_is disk name c.in_ok-text.text (λ file. IsRefused file c.args.limits.depth why) c.in_ok-text.ensures.read.found is) (took_nothing (g.O.Outlet.bytes c.args.out.now)))
 
 pub returns-in_err-listing-clause-listed : goal.returns-in_err-listing-clause-listed
 returns-in_err-listing-clause-listed g c =

@@ -6,10 +6,10 @@ use Rattle.sch_cli.specs.Seen.{TookNothing, disk_change, stream_change}
 use Rattle.sch_cli.specs.Statuses.{status_number}
 use Rattle.sch_cli.specs.Steps.{RunsSource, no_memory, ran, refused, run_status}
 use Rattle.sch_cli.specs.declared.failure.Failure.TheVariants.{Memory}
-use Rattle.sch_cli.proofs.CompiledFiles.{does_text}
+use Rattle.sch_cli.proofs.TextFailures.{refused_of_text}
 use Rattle.sch_cli.proofs.DiskSteps.{failed_with, file_is, took_nothing, unread_runs}
+use Rattle.sch_cli.proofs.InTime.{runs_text}
 use Rattle.sch_cli.proofs.NoImageStatus.{refused_is_other, text_is_other, unread_is_other}
-use Rattle.sch_cli.proofs.ProgramRuns.{runs_program}
 use Rattle.sch_cli.proofs.run.run_source.Goals as goal
 
 pub returns-in_err-text-clause-ran : goal.returns-in_err-text-clause-ran
@@ -30,7 +30,7 @@ returns-in_err-image-clause-ran g c =
     let is = subst (λ lent. IsRefused lent c.args.wanted.limits.depth why) c.as_slice.ensures c.in_err-image.ensures.refused in
     subst (RunsSource name c.args.wanted.limits.heap c.args.wanted.limits.depth c.args.wanted.steps disk out)
     (sym (failed_with c.from_residual-in_err-image.result why c.from_residual-in_err-image.ensures.1))
-    (refused why (file_is disk name c.in_ok-text.text (λ file. IsRefused file c.args.wanted.limits.depth why) c.in_ok-text.ensures.read.found is) (took_nothing (g.O.Outlet.bytes c.args.out.now)))
+    (refused why (refused_of_text c.in_ok-text.text c.args.wanted.limits.depth why is) (file_is disk name c.in_ok-text.text (λ file. IsRefused file c.args.wanted.limits.depth why) c.in_ok-text.ensures.read.found is) (took_nothing (g.O.Outlet.bytes c.args.out.now)))
 
 pub returns-in_err-end-clause-ran : goal.returns-in_err-end-clause-ran
 returns-in_err-end-clause-ran g c =
@@ -52,14 +52,7 @@ returns-clause-ran g c =
     let heap = c.args.wanted.limits.heap in
     let depth = c.args.wanted.limits.depth in
     let built = subst (λ lent. HasFile lent heap depth image) c.as_slice.ensures c.in_ok-image.ensures.made in
-    let made = built.made in
-    ran text c.in_ok-end.end c.in_ok-text.ensures.read.found (record {
-      file = built.file;
-      made = made;
-      image = image;
-      stands = built.stands;
-      runs = runs_program made.compiled.program made.listing.orders heap depth image c.args.wanted.steps c.in_ok-end.end out (does_text text heap depth image built) c.in_ok-end.ensures.ok;
-    })
+    ran text c.in_ok-end.end c.in_ok-text.ensures.read.found (runs_text text heap depth c.args.wanted.steps c.in_ok-end.end out image built c.in_ok-end.ensures.ok)
 
 pub returns-in_err-text-clause-no_image : goal.returns-in_err-text-clause-no_image
 returns-in_err-text-clause-no_image g c =
@@ -86,11 +79,5 @@ returns-clause-no_image g c =
     let heap = c.args.wanted.limits.heap in
     let depth = c.args.wanted.limits.depth in
     let built = subst (λ lent. HasFile lent heap depth image) c.as_slice.ensures c.in_ok-image.ensures.made in
-    let made = built.made in
-    text_is_other text heap depth c.args.wanted.steps c.in_ok-end.end out (record {
-      file = built.file;
-      made = made;
-      image = image;
-      stands = built.stands;
-      runs = runs_program made.compiled.program made.listing.orders heap depth image c.args.wanted.steps c.in_ok-end.end out (does_text text heap depth image built) c.in_ok-end.ensures.ok;
-    })
+    text_is_other text heap depth c.args.wanted.steps c.in_ok-end.end out
+    (runs_text text heap depth c.args.wanted.steps c.in_ok-end.end out image built c.in_ok-end.ensures.ok)

@@ -4,33 +4,43 @@ use Rattle.sch_control.specs.ProgramView.{source}
 use Rattle.sch_control.specs.Work.{codes_work}
 use Rattle.sch_frames.specs.ProgramView as frames
 use Rattle.sch_frames.specs.Standing.{all_marks_stand}
+use Rattle.sch_registers.specs.MadeFrom.{AreMadeFrom}
 use Rattle.sch_select.specs.Sizes.{kinds_of}
 use Rattle.sch_driver.specs.Assembled.{IsFrameSize, IsUnfit, assembled_bound}
+use Rattle.sch_driver.specs.ListedCycles.{listed_cycles}
 use Rattle.sch_driver.proofs.Images.{assembled, few_words, framed_parts, kept_error, refused_for, size_of_frames, text_within, unfit}
 use Rattle.sch_driver.proofs.Resolved.{resolved_kinds}
 use Rattle.sch_driver.proofs.assembly.assemble.Goals as goal
 
 pub select-requires : goal.select-requires
-select-requires c = record { covered = c.in_ok-frames.ensures.covered c.requires.covered; stack = c.in_ok-check_stack.ensures.fits }
+select-requires c = record { covered = c.in_ok-framed.ensures.covered c.requires.covered; stack = c.in_ok-check_stack.ensures.fits }
 
 pub returns-clause-marks : goal.returns-clause-marks
 returns-clause-marks c =
     let r = c.in_ok-resolved in
     resolved_kinds c.in_ok-code.code.items c.in_ok-routines.routines.items c.in_ok-code.code.words r.resolved.code r.resolved.marks r.resolved.words
     c.in_ok-routines.ensures.items r.ensures.stands
-    ∙ (c.in_ok-code.ensures.marks ∙ ap (kinds_of 0) c.in_ok-frames.ensures.made)
+    ∙ (c.in_ok-code.ensures.marks ∙ ap (kinds_of 0) c.in_ok-framed.ensures.made)
+
+pub returns-clause-cycles : goal.returns-clause-cycles
+returns-clause-cycles c = c.in_ok-cycles.ensures ∙ ap listed_cycles c.in_ok-framed.ensures.calls
 
 pub returns-clause-stand : goal.returns-clause-stand
 returns-clause-stand c =
-    let made = c.in_ok-frames.ensures in
+    let made = c.in_ok-framed.ensures in
     subst (λ codes. IsTrue (all_marks_stand codes)) made.made made.stand
+
+pub returns-clause-chain : goal.returns-clause-chain
+returns-clause-chain c =
+    let made = c.in_ok-framed.ensures in
+    subst (AreMadeFrom (source c.args.p).bodies) made.made made.chain
 
 pub returns-in_err-resolved-clause-refused : goal.returns-in_err-resolved-clause-refused
 returns-in_err-resolved-clause-refused c =
     let p = source c.args.p in
-    let f = frames.source c.in_ok-frames.frames in
+    let f = frames.source c.in_ok-framed.framed.frames in
     let depth = c.args.limits.depth in
-    let made = c.in_ok-frames.ensures in
+    let made = c.in_ok-framed.ensures in
     let cause = c.in_err-resolved.field-0.0 in
     let items = c.in_ok-code.code.items in
     let routines = c.in_ok-routines.routines.items in
@@ -38,15 +48,15 @@ returns-in_err-resolved-clause-refused c =
     let size = size_of_frames p f c.args.limits.heap depth items routines c.in_ok-code.ensures.items c.in_ok-routines.ensures.items
     (framed_parts p f made.statics made.library made.made made.words) in
     refused_for p depth c.from_residual-in_err-resolved.result cause c.from_residual-in_err-resolved.ensures.1
-    (unfit p f.words depth _ cause (record { largest = made.words; few = few_words c.in_ok-frames.frames; bound = made.covered_words c.requires.covered })
+    (unfit p f.words depth _ cause (record { largest = made.words; few = few_words c.in_ok-framed.framed.frames; bound = made.covered_words c.requires.covered })
     c.in_ok-check_stack.ensures.fits size n c.in_err-resolved.ensures.too_large)
 
 pub returns-in_err-check_stack-clause-refused : goal.returns-in_err-check_stack-clause-refused
 returns-in_err-check_stack-clause-refused c =
     let p = source c.args.p in
     let depth = c.args.limits.depth in
-    let made = c.in_ok-frames.ensures in
-    let frame : IsFrameSize p c.in_ok-frames.frames.words = record { largest = made.words; few = few_words c.in_ok-frames.frames; bound = made.covered_words c.requires.covered } in
+    let made = c.in_ok-framed.ensures in
+    let frame : IsFrameSize p c.in_ok-framed.framed.frames.words = record { largest = made.words; few = few_words c.in_ok-framed.framed.frames; bound = made.covered_words c.requires.covered } in
     let large = c.in_err-check_stack.ensures.refused in
     kept_error c.from_residual-in_err-check_stack.result c.in_err-check_stack.field-0.0 (IsUnfit p depth) c.from_residual-in_err-check_stack.ensures.1
     (subst (IsUnfit p depth) (sym large.0) (large.1, frame))
@@ -55,14 +65,14 @@ pub returns-clause-does : goal.returns-clause-does
 returns-clause-does c =
     let r = c.in_ok-resolved in
     let p = source c.args.p in
-    let f = frames.source c.in_ok-frames.frames in
-    let made = c.in_ok-frames.ensures in
+    let f = frames.source c.in_ok-framed.framed.frames in
+    let made = c.in_ok-framed.ensures in
     let code = c.in_ok-code.ensures in
     let n = text_within f c.in_ok-code.code.items c.in_ok-routines.routines.items (codes_work p.bodies) code.text made.fits c.in_ok-routines.ensures.short in
     assembled p f c.args.limits.heap c.args.limits.depth c.in_ok-code.code c.in_ok-routines.routines
     r.resolved.code r.resolved.marks r.resolved.words c.into_bytes-text.result r.resolved.zeros c.in_ok-image.image c.len-instructions.result c.len-instructions.ensures
     made.same (framed_parts p f made.statics made.library made.made made.words)
     (record { follows = code.follows; ends = code.steps; passes = code.passes; enters = code.entries; takes = code.takes; stand = made.stand; stores = code.stores made.stand; followed = made.called; units = code.instructions; zeros = code.zeros; items = code.items; words_end = code.words })
-    c.in_ok-routines.ensures.items (record { largest = made.words; few = few_words c.in_ok-frames.frames; bound = made.covered_words c.requires.covered }) c.in_ok-check_stack.ensures.fits r.ensures.words
+    c.in_ok-routines.ensures.items (record { largest = made.words; few = few_words c.in_ok-framed.framed.frames; bound = made.covered_words c.requires.covered }) c.in_ok-check_stack.ensures.fits r.ensures.words
     c.in_ok-routines.ensures.effective r.ensures.stands r.ensures.valid r.ensures.fits r.ensures.size (subst (λ k. k ≤ assembled_bound p) (sym r.ensures.size) n)
     c.into_bytes-text.ensures r.ensures.zeros c.in_ok-image.ensures.layout

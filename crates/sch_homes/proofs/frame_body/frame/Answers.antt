@@ -19,7 +19,7 @@ pub invariant_of-result : goal.invariant_of-result
 invariant_of-result g c =
     let b = c.args.b.now in
     let room = c.in_ok-room.ensures in
-    let made = whole_frame b.entry (restored b.exp) b.places _ _ _ _ _ _ _ c.as_slice.ensures room.late room.aside room.words room.homes c.in_ok-out.ensures.instructions c.in_ok-out.ensures.labels in
+    let made = whole_frame b.entry (restored b.exp) b.places _ _ _ _ _ _ c.as_slice.ensures room.end room.words room.homes c.in_ok-out.ensures.instructions c.in_ok-out.ensures.labels in
     let framed = homes_framed (bare_code b) (restored b.exp) b.places (body_placed b) b.ended c.requires.soon in
     let parts = and_parts _ _ framed.valid in
     let more = and_parts _ _ parts.1 in
@@ -33,7 +33,7 @@ pub returns-clause-made : goal.returns-clause-made
 returns-clause-made g c =
     let b = c.args.b.now in
     let room = c.in_ok-room.ensures in
-    whole_frame b.entry (restored b.exp) b.places _ _ _ _ _ _ _ c.as_slice.ensures room.late room.aside room.words room.homes c.in_ok-out.ensures.instructions c.in_ok-out.ensures.labels
+    whole_frame b.entry (restored b.exp) b.places _ _ _ _ _ _ c.as_slice.ensures room.end room.words room.homes c.in_ok-out.ensures.instructions c.in_ok-out.ensures.labels
 
 pub returns-clause-same : goal.returns-clause-same
 returns-clause-same g c =

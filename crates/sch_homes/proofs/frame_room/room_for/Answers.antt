@@ -4,9 +4,6 @@ use Rattle.std.specs.FinSet as set
 use Rattle.sch_sets.proofs.Membership.{contains-empty}
 use Rattle.sch_control.specs.Meaning.{no_region}
 use Rattle.sch_control.specs.flow.RestoredView.{restored}
-use Rattle.sch_homes.specs.View.{bare_code}
-use Rattle.sch_homes.proofs.FrameRoom.{operands_few}
-use Rattle.sch_homes.proofs.KeptByType.{body_placed}
 use Rattle.sch_homes.proofs.SavedInReach.{apart_below}
 use Rattle.sch_homes.proofs.TablePlan.{homes_by, room_is}
 use Rattle.sch_homes.proofs.frame_room.room_for.Goals as goal
@@ -18,25 +15,26 @@ mark_saved-requires g c =
       (first_of (search rules, grind (arith, common_steps), omega arith), apart_below b.variables (64 * g.row.N) b.fits (restored b.exp) no_region b.apart),
     )
 
-pub overflow_cast-aside : goal.overflow_cast-aside
-overflow_cast-aside g c =
-    let b = c.args.b.now in
-    let few = operands_few (bare_code b) (restored b.exp) b.places (body_placed b) in
-    let is = c.most_operands-aside.ensures in
-    omega (arith, few, is)
-
 pub returns-clause-homes : goal.returns-clause-homes
 returns-clause-homes g c =
     let b = c.args.b.now in
     let e = restored b.exp in
     let test = homes_by b.entry e b.places (set.contains c.mark_saved.new.saved) (set.contains c.new-saved.result) c.mark_saved.ensures (λ x. ap (λ s. set.contains s x) c.new-saved.ensures ∙ contains-empty x) in
-    (room_is b.entry e b.places _ _ _ _ _ _ (set.contains c.mark_saved.new.saved) _ c.as_slice-places.ensures c.late_slots-late.ensures c.most_operands-aside.ensures c.in_ok-slots_end.ensures
-    c.in_ok-first.ensures test c.in_ok-homes.ensures.homes c.in_ok-homes.ensures.end).0
+    (room_is b.entry e b.places _ _ _ _ _ (set.contains c.mark_saved.new.saved) _ c.as_slice-places.ensures c.late_slots.ensures c.in_ok-first.ensures
+    test c.in_ok-homes.ensures.homes c.in_ok-homes.ensures.end c.in_ok-words.ensures).0
+
+pub returns-clause-end : goal.returns-clause-end
+returns-clause-end g c =
+    let b = c.args.b.now in
+    let e = restored b.exp in
+    let test = homes_by b.entry e b.places (set.contains c.mark_saved.new.saved) (set.contains c.new-saved.result) c.mark_saved.ensures (λ x. ap (λ s. set.contains s x) c.new-saved.ensures ∙ contains-empty x) in
+    (room_is b.entry e b.places _ _ _ _ _ (set.contains c.mark_saved.new.saved) _ c.as_slice-places.ensures c.late_slots.ensures c.in_ok-first.ensures
+    test c.in_ok-homes.ensures.homes c.in_ok-homes.ensures.end c.in_ok-words.ensures).1.0
 
 pub returns-clause-words : goal.returns-clause-words
 returns-clause-words g c =
     let b = c.args.b.now in
     let e = restored b.exp in
     let test = homes_by b.entry e b.places (set.contains c.mark_saved.new.saved) (set.contains c.new-saved.result) c.mark_saved.ensures (λ x. ap (λ s. set.contains s x) c.new-saved.ensures ∙ contains-empty x) in
-    (room_is b.entry e b.places _ _ _ _ _ _ (set.contains c.mark_saved.new.saved) _ c.as_slice-places.ensures c.late_slots-late.ensures c.most_operands-aside.ensures c.in_ok-slots_end.ensures
-    c.in_ok-first.ensures test c.in_ok-homes.ensures.homes c.in_ok-homes.ensures.end).1
+    (room_is b.entry e b.places _ _ _ _ _ (set.contains c.mark_saved.new.saved) _ c.as_slice-places.ensures c.late_slots.ensures c.in_ok-first.ensures
+    test c.in_ok-homes.ensures.homes c.in_ok-homes.ensures.end c.in_ok-words.ensures).1.1

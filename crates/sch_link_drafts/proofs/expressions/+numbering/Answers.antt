@@ -97,17 +97,17 @@ number_call-returns-clause-made t c = λ v.
     let site = c.in_ok-site.ensures in
     let operator = c.in_ok-operator.ensures in
     call_made (names_of c.args.tables.now.own.now) (names_of c.args.tables.now.globals.now) (names_of c.args.tables.now.symbols.now) v (length out.sites) (length out.literals) c.in_ok-site.site (length out1.sites) (length out1.literals) (length out2.sites) (length out2.literals)
-    (call_view _ _ c.in-Call.is c.deref.ensures c.as_slice.ensures) c.in_ok-made.ensures site.number (sites_more out.sites _ site.sites) (ap length site.literals) operator.made (sites_more out1.sites _ operator.sites)
+    (call_view _ _ _ c.in-Call.is c.as_slice.ensures c.deref.ensures c.as_slice-2.ensures) c.in_ok-made.ensures site.number (sites_more out.sites _ site.sites) (ap length site.literals) operator.made (sites_more out1.sites _ operator.sites)
     (literals_more f out1.literals out2.literals _ operator.literals) c.in_ok-operands.ensures.made
 
 pub number_call-returns-clause-sites : goal.number_call-returns-clause-sites
 number_call-returns-clause-sites t c =
-    call_sites c.args.out.now.sites (call_view _ _ c.in-Call.is c.deref.ensures c.as_slice.ensures) (width_is _ c.len.ensures c.as_slice.ensures)
+    call_sites c.args.out.now.sites (call_view _ _ _ c.in-Call.is c.as_slice.ensures c.deref.ensures c.as_slice-2.ensures) (width_is _ c.len.ensures c.as_slice-2.ensures)
     c.in_ok-site.ensures.sites c.in_ok-operator.ensures.sites c.in_ok-operands.ensures.sites
 
 pub number_call-returns-clause-literals : goal.number_call-returns-clause-literals
 number_call-returns-clause-literals t c =
-    call_literals (literal_of (names_of c.args.tables.now.symbols.now)) (map literal c.args.out.now.literals) (call_view _ _ c.in-Call.is c.deref.ensures c.as_slice.ensures)
+    call_literals (literal_of (names_of c.args.tables.now.symbols.now)) (map literal c.args.out.now.literals) (call_view _ _ _ c.in-Call.is c.as_slice.ensures c.deref.ensures c.as_slice-2.ensures)
     (ap (map literal) c.in_ok-site.ensures.literals) c.in_ok-operator.ensures.literals c.in_ok-operands.ensures.literals
 
 pub number-returns-in_ok-operands-in-Prim-clause-made : goal.number-returns-in_ok-operands-in-Prim-clause-made

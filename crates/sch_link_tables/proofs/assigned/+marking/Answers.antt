@@ -30,7 +30,7 @@ mark-returns-in_ok-mark-in-Lambda t c =
 
 pub mark-returns-in_ok-mark_each-in-Call : goal.mark-returns-in_ok-mark_each-in-Call
 mark-returns-in_ok-mark_each-in-Call t c =
-    call_marked _ _ (call_view _ _ c.in-Call.is c.deref-in-Call.ensures c.as_slice-in-Call.ensures) c.in_ok-mark-in-Call.ensures c.in_ok-mark_each-in-Call.ensures
+    call_marked _ _ (call_view _ _ _ c.in-Call.is refl c.deref-in-Call.ensures c.as_slice-in-Call.ensures) c.in_ok-mark-in-Call.ensures c.in_ok-mark_each-in-Call.ensures
 
 pub mark_each-loop-e-preserved : goal.mark_each-loop-e-preserved
 mark_each-loop-e-preserved t c =

@@ -17,7 +17,7 @@ pub name_draft-returns-in_ok-name_draft-in-Letrec-clause-globals : goal.name_dra
 name_draft-returns-in_ok-name_draft-in-Letrec-clause-globals t c = letrec_globals (names_of c.args.own.now) _ (letrec_view _ _ _ _ c.in-Letrec.is refl c.as_slice-in-Letrec.ensures c.deref-in-Letrec.ensures) c.in_ok-name_each-in-Letrec.ensures.globals c.in_ok-name_draft-in-Letrec.ensures.globals
 
 pub name_draft-returns-in_ok-name_each-in-Call-clause-globals : goal.name_draft-returns-in_ok-name_each-in-Call-clause-globals
-name_draft-returns-in_ok-name_each-in-Call-clause-globals t c = call_globals (names_of c.args.own.now) _ (call_view _ _ c.in-Call.is c.deref-in-Call.ensures c.as_slice-in-Call.ensures) c.in_ok-name_draft-in-Call.ensures.globals c.in_ok-name_each-in-Call.ensures.globals
+name_draft-returns-in_ok-name_each-in-Call-clause-globals t c = call_globals (names_of c.args.own.now) _ (call_view _ _ _ c.in-Call.is refl c.deref-in-Call.ensures c.as_slice-in-Call.ensures) c.in_ok-name_draft-in-Call.ensures.globals c.in_ok-name_each-in-Call.ensures.globals
 
 pub name_draft-returns-in_ok-name_draft-in-If-3-clause-symbols : goal.name_draft-returns-in_ok-name_draft-in-If-3-clause-symbols
 name_draft-returns-in_ok-name_draft-in-If-3-clause-symbols t c = branch_symbols _ (branch_view _ _ _ c.in-If.is c.deref-in-If.ensures c.deref-in-If-2.ensures c.deref-in-If-3.ensures) c.in_ok-name_draft-in-If.ensures.symbols c.in_ok-name_draft-in-If-2.ensures.symbols c.in_ok-name_draft-in-If-3.ensures.symbols
@@ -29,7 +29,7 @@ pub name_draft-returns-in_ok-name_draft-in-Letrec-clause-symbols : goal.name_dra
 name_draft-returns-in_ok-name_draft-in-Letrec-clause-symbols t c = letrec_symbols _ (letrec_view _ _ _ _ c.in-Letrec.is refl c.as_slice-in-Letrec.ensures c.deref-in-Letrec.ensures) c.in_ok-name_each-in-Letrec.ensures.symbols c.in_ok-name_draft-in-Letrec.ensures.symbols
 
 pub name_draft-returns-in_ok-name_each-in-Call-clause-symbols : goal.name_draft-returns-in_ok-name_each-in-Call-clause-symbols
-name_draft-returns-in_ok-name_each-in-Call-clause-symbols t c = call_symbols _ (call_view _ _ c.in-Call.is c.deref-in-Call.ensures c.as_slice-in-Call.ensures) c.in_ok-name_draft-in-Call.ensures.symbols c.in_ok-name_each-in-Call.ensures.symbols
+name_draft-returns-in_ok-name_each-in-Call-clause-symbols t c = call_symbols _ (call_view _ _ _ c.in-Call.is refl c.deref-in-Call.ensures c.as_slice-in-Call.ensures) c.in_ok-name_draft-in-Call.ensures.symbols c.in_ok-name_each-in-Call.ensures.symbols
 
 pub name_each-loop-e-preserved : goal.name_each-loop-e-preserved
 name_each-loop-e-preserved t c =

@@ -17,12 +17,9 @@ list_live-requires g c =
     let some : 0 < 64 * g.row.N = some_below (code b.name b.entry b.variables b.exp) b.numbered (64 * g.row.N) c.requires.fits in (
       first_of (search rules, grind (arith, common_steps), omega arith),
       (
-        first_of (search rules, grind (arith, common_steps), omega arith),
-        (
-          omega (arith, some),
-          subst (VariablesBelow (64 * g.row.N)) (sym (ap listed c.deref_mut.ensures.value ∙ c.in_ok-exp.ensures))
-              (code_below (code b.name b.entry b.variables b.exp) b.numbered (64 * g.row.N) c.requires.fits b.scoped),
-        ),
+        omega (arith, some),
+        subst (VariablesBelow (64 * g.row.N)) (sym (ap listed c.deref_mut.ensures.value ∙ c.in_ok-exp.ensures))
+            (code_below (code b.name b.entry b.variables b.exp) b.numbered (64 * g.row.N) c.requires.fits b.scoped),
       ),
     )
 
@@ -32,39 +29,38 @@ invariant_of-result g c =
     let e0 = listed c.in_ok-exp.exp.value in
     let e1 = listed c.list_live.new.e in
     let r = listed c.into_inner.result in
-    let s = c.none.result.on_true in
-    let t = c.none.result.on_false in
+    let s = c.new-nothing.result in
     let alike = c.list_live.ensures.same ∙ ap (λ z. unlisted (listed z)) c.deref_mut.ensures.value in
     let made = ap listed c.into_inner.ensures ∙ (c.keep_reached.ensures.made ∙ ap (λ z. where_reached true (listed z)) c.deref_mut-2.ensures.value) in
     let name = c.in_ok-name.ensures ∙ c.as_slice.ensures in
     record {
-      scoped = kept b e0 e1 r s t c.in_ok-exp.ensures alike c.none.ensures.on_true c.none.ensures.on_false c.list_live.ensures.sets made _ name in_scope_whole b.scoped;
-      numbered = kept b e0 e1 r s t c.in_ok-exp.ensures alike c.none.ensures.on_true c.none.ensures.on_false c.list_live.ensures.sets made _ name numbered b.numbered;
-      ended = kept b e0 e1 r s t c.in_ok-exp.ensures alike c.none.ensures.on_true c.none.ensures.on_false c.list_live.ensures.sets made _ name ended b.ended;
-      shaped = kept b e0 e1 r s t c.in_ok-exp.ensures alike c.none.ensures.on_true c.none.ensures.on_false c.list_live.ensures.sets made _ name shaped_whole b.shaped;
-      fields = kept b e0 e1 r s t c.in_ok-exp.ensures alike c.none.ensures.on_true c.none.ensures.on_false c.list_live.ensures.sets made _ name fields_known b.fields;
+      scoped = kept b e0 e1 r s c.in_ok-exp.ensures alike c.new-nothing.ensures c.list_live.ensures.sets made _ name in_scope_whole b.scoped;
+      numbered = kept b e0 e1 r s c.in_ok-exp.ensures alike c.new-nothing.ensures c.list_live.ensures.sets made _ name numbered b.numbered;
+      ended = kept b e0 e1 r s c.in_ok-exp.ensures alike c.new-nothing.ensures c.list_live.ensures.sets made _ name ended b.ended;
+      shaped = kept b e0 e1 r s c.in_ok-exp.ensures alike c.new-nothing.ensures c.list_live.ensures.sets made _ name shaped_whole b.shaped;
+      fields = kept b e0 e1 r s c.in_ok-exp.ensures alike c.new-nothing.ensures c.list_live.ensures.sets made _ name fields_known b.fields;
       fits = c.requires.fits;
-      live = truncated b e0 e1 r s t c.in_ok-exp.ensures alike c.none.ensures.on_true c.none.ensures.on_false c.list_live.ensures.sets made;
+      live = truncated b e0 e1 r s c.in_ok-exp.ensures alike c.new-nothing.ensures c.list_live.ensures.sets made;
     }
 
 pub returns-clause-same : goal.returns-clause-same
 returns-clause-same g c =
-    same c.args.b.now (listed c.in_ok-exp.exp.value) (listed c.list_live.new.e) (listed c.into_inner.result) c.none.result.on_true c.none.result.on_false
-    c.in_ok-exp.ensures (c.list_live.ensures.same ∙ ap (λ z. unlisted (listed z)) c.deref_mut.ensures.value) c.none.ensures.on_true c.none.ensures.on_false
+    same c.args.b.now (listed c.in_ok-exp.exp.value) (listed c.list_live.new.e) (listed c.into_inner.result) c.new-nothing.result
+    c.in_ok-exp.ensures (c.list_live.ensures.same ∙ ap (λ z. unlisted (listed z)) c.deref_mut.ensures.value) c.new-nothing.ensures
     c.list_live.ensures.sets
     (ap listed c.into_inner.ensures ∙ (c.keep_reached.ensures.made ∙ ap (λ z. where_reached true (listed z)) c.deref_mut-2.ensures.value))
 
 pub returns-clause-live : goal.returns-clause-live
 returns-clause-live g c =
-    sets c.args.b.now (listed c.in_ok-exp.exp.value) (listed c.list_live.new.e) (listed c.into_inner.result) c.none.result.on_true c.none.result.on_false
-    c.in_ok-exp.ensures (c.list_live.ensures.same ∙ ap (λ z. unlisted (listed z)) c.deref_mut.ensures.value) c.none.ensures.on_true c.none.ensures.on_false
+    sets c.args.b.now (listed c.in_ok-exp.exp.value) (listed c.list_live.new.e) (listed c.into_inner.result) c.new-nothing.result
+    c.in_ok-exp.ensures (c.list_live.ensures.same ∙ ap (λ z. unlisted (listed z)) c.deref_mut.ensures.value) c.new-nothing.ensures
     c.list_live.ensures.sets
     (ap listed c.into_inner.ensures ∙ (c.keep_reached.ensures.made ∙ ap (λ z. where_reached true (listed z)) c.deref_mut-2.ensures.value))
 
 pub returns-clause-meaning : goal.returns-clause-meaning
 returns-clause-meaning g c =
-    runs c.args.b.now (listed c.in_ok-exp.exp.value) (listed c.list_live.new.e) (listed c.into_inner.result) c.none.result.on_true c.none.result.on_false
-    c.in_ok-exp.ensures (c.list_live.ensures.same ∙ ap (λ z. unlisted (listed z)) c.deref_mut.ensures.value) c.none.ensures.on_true c.none.ensures.on_false
+    runs c.args.b.now (listed c.in_ok-exp.exp.value) (listed c.list_live.new.e) (listed c.into_inner.result) c.new-nothing.result
+    c.in_ok-exp.ensures (c.list_live.ensures.same ∙ ap (λ z. unlisted (listed z)) c.deref_mut.ensures.value) c.new-nothing.ensures
     c.list_live.ensures.sets
     (ap listed c.into_inner.ensures ∙ (c.keep_reached.ensures.made ∙ ap (λ z. where_reached true (listed z)) c.deref_mut-2.ensures.value))
 

@@ -1,28 +1,26 @@
-use Rattle.std.proofs.Common.{rules, arith, ◌∙◌, ap, sym, subst}
+use Rattle.std.proofs.Common.{◌≡◌, ℕ, ◌+◌, ◌<◌, rules, arith, ◌∙◌, ◌++◌, ap, sym, subst}
 use Rattle.std.proofs.lemmas.Grind.{common_steps}
-use Rattle.sch_control.specs.Meaning.{no_region}
-use Rattle.sch_control.specs.flow.LiveSets.{HasLiveSets}
 use Rattle.sch_control.specs.flow.Middle.{listed}
+use Rattle.sch_control.specs.flow.Places.{arrival, formals_of, place_of}
 use Rattle.sch_control.specs.flow.RestoredView.{restored}
+use Rattle.sch_paths.specs.EachSoonRestored.{EachSoonRestored}
+use Rattle.sch_paths.specs.Exact.{EagerRestores}
 use Rattle.sch_regs.specs.PlaceChoice.{places}
-use Rattle.sch_restores.specs.Restores.{all_restored}
+use Rattle.sch_restores.specs.Restores.{eagerly_restored}
 use Rattle.sch_saves.specs.LazyRegions.{lazily_saved}
-use Rattle.sch_registers.proofs.JoinedPasses.{joined_body, soon_restored}
+use Rattle.sch_registers.proofs.JoinedPasses.{IsJoined, joined_body, joined_calls}
 use Rattle.sch_registers.proofs.one_body.framed.Goals as goal
 
 pub assign_places-requires : goal.assign_places-requires
 assign_places-requires g c = (
   first_of (search rules, grind (arith, common_steps), omega arith),
-  (
-    first_of (search rules, grind (arith, common_steps), omega arith),
-    (c.requires.words, soon_restored (restored c.in_ok-restored.restored.exp) c.in_ok-restored.ensures.live),
-  ),
+  (first_of (search rules, grind (arith, common_steps), omega arith), c.in_ok-restored.ensures.enough),
 )
 
-pub frame-requires : goal.frame-requires
-frame-requires g c = (
+pub frame_listed-requires : goal.frame_listed-requires
+frame_listed-requires g c = (
   first_of (search rules, grind (arith, common_steps), omega arith),
-  soon_restored (restored c.in_ok-placed.placed.exp) (subst HasLiveSets (sym c.in_ok-placed.ensures.tree) c.in_ok-restored.ensures.live),
+  subst EachSoonRestored (sym c.in_ok-placed.ensures.tree) c.in_ok-restored.ensures.enough,
 )
 
 pub invariant_of-placed-2 : goal.invariant_of-placed-2
@@ -60,8 +58,7 @@ returns g c =
     let variables = r.variables ∙ saved_variables in
     let entry = r.entry ∙ (s.entry ∙ l.entry) in
     let tree = restored c.in_ok-placed.placed.exp in
-    joined_body b (listed c.in_ok-listed.listed.exp) saved c.in_ok-placed.placed
-    (record {
+    let joined : IsJoined b (listed c.in_ok-listed.listed.exp) saved c.in_ok-placed.placed = record {
       name = p.name ∙ (r.name ∙ (s.name ∙ l.name));
       entry = p.entry ∙ entry;
       variables = p.variables ∙ variables;
@@ -73,11 +70,17 @@ returns g c =
       lazy = s.lazy;
       stand = s.stand;
       followed = s.followed;
-      made_restored = p.tree ∙ (r.made ∙ ap (λ n. all_restored n no_region (listed saved.exp)) saved_variables);
-      sets = subst HasLiveSets (sym p.tree) r.live;
+      made_restored = p.tree ∙ (r.made ∙ ap (λ n. eagerly_restored n (listed saved.exp)) saved_variables);
+      soon = subst EachSoonRestored (sym p.tree) r.enough;
+      eager = subst EagerRestores (sym p.tree) r.eager;
       made_places =
           p.made
           ∙ (ap (λ entry. places entry c.in_ok-restored.restored.variables (restored c.in_ok-restored.restored.exp)) entry
           ∙ (ap (λ n. places b.entry n (restored c.in_ok-restored.restored.exp)) variables ∙ ap (places b.entry b.variables) (sym p.tree)));
-    })
-    _ c.in_ok-f.ensures.made
+      formals = subst (λ entry. (k : ℕ) → k < formals_of entry → place_of c.in_ok-placed.placed.places (2 + k) ≡ arrival k) (p.entry ∙ entry) p.formals;
+      spills = p.slots;
+    } in
+    record {
+      body = joined_body b (listed c.in_ok-listed.listed.exp) saved c.in_ok-placed.placed joined _ c.in_ok-f.ensures.made;
+      calls = c.in_ok-f.ensures.calls ∙ ap (λ l. c.args.calls.now ++ l) (joined_calls b (listed c.in_ok-listed.listed.exp) saved c.in_ok-placed.placed joined);
+    }

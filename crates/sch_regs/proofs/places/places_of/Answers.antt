@@ -26,7 +26,7 @@ all_arrived-requires g c =
     let k = entered_within b in
     let e = c.formals.ensures in (
       first_of (search rules, grind (arith, common_steps), omega arith),
-      (omega (arith, k, e), b.fits),
+      (omega arith, (omega (arith, k, e), b.fits)),
     )
 
 pub assign-requires : goal.assign-requires

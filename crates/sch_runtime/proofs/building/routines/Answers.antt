@@ -1,6 +1,8 @@
 use Rattle.std.proofs.Common.{[], sym, subst, refl}
 use Rattle.sch_asm.specs.Items.{AreItems, AreKnown, AreRoutines, IsEachOnce, labels_in, marks_arrive}
 use Rattle.sch_asm.specs.Effects.{AreEffective}
+use Rattle.sch_asm.specs.Narrow.{is_narrow_item}
+use Rattle.std.specs.List.{list_all}
 use Rattle.std.specs.Prelude.{IsTrue, false}
 use Rattle.sch_runtime.proofs.RoutineItems.{routines_joined, routines_known, routines_once, routines_sound}
 use Rattle.sch_runtime.specs.Form.{keeps_form}
@@ -25,3 +27,6 @@ returns-clause-effective c = subst AreEffective (sym c.in_ok-items.ensures) rout
 
 pub returns-clause-form : goal.returns-clause-form
 returns-clause-form c = subst (λ is. IsTrue (keeps_form is)) (sym c.in_ok-items.ensures) refl
+
+pub returns-clause-narrow : goal.returns-clause-narrow
+returns-clause-narrow c = subst (λ is. IsTrue (list_all is_narrow_item is)) (sym c.in_ok-items.ensures) refl

@@ -9,7 +9,7 @@ loop-x-init g c = record { whole = first_init c.new-all.result c.new-all.ensures
 pub loop-x-preserved : goal.loop-x-preserved
 loop-x-preserved g c = record { whole = first_turn c.loop-x.all _ c.loop-x.x c.insert.ensures c.loop-x.invariant.whole }
 
-pub invariant_of-result : goal.invariant_of-result
-invariant_of-result g c =
+pub returns : goal.returns
+returns g c =
     let at_end : c.loop-x.x ≡ c.args.count = omega arith in
-    record { fits = c.requires; whole = λ y. c.loop-x.invariant.whole y ∙ ap (λ n. nat_lt y n) at_end }
+    λ y. c.loop-x.invariant.whole y ∙ ap (λ n. nat_lt y n) at_end

@@ -1,5 +1,6 @@
 use Rattle.std.proofs.Common.{◌≡◌, ℕ, List, ap, ◌∙◌, ◌+◌, ◌*◌, ◌≤◌, length, map, sym, subst, refl, arith}
 use Rattle.std.specs.Prelude.{IsTrue, None, false}
+use Rattle.std.specs.List.{list_all}
 use Rattle.sch_word.specs.values.LiteralView.{literals_of}
 use Rattle.sch_word.specs.values.StaticsView.{statics}
 use Rattle.sch_asm.specs.declared.assembly.Word.{Word}
@@ -7,13 +8,15 @@ use Rattle.sch_asm.specs.declared.assembly.Word.TheVariants.{Fixed}
 use Rattle.sch_asm.specs.declared.item.Item.{Item}
 use Rattle.sch_asm.specs.Items.{AreItems, AreKnown, AreOwn, IsEachOnce, labels_in, marks_arrive}
 use Rattle.sch_asm.specs.Codes.{text_size}
+use Rattle.sch_asm.specs.Narrow.{is_narrow_item}
+use Rattle.sch_asm.proofs.NarrowItems.{all_narrow, narrowed_marked, narrowed_size, narrowed_sound}
 use Rattle.sch_frames.specs.ProgramView.{source}
 use Rattle.sch_frames.specs.Sizes.{program_copies, program_work}
 use Rattle.sch_select_data.proofs.literals.PlacedLiterals.{placed_objects, placed_literals}
 use Rattle.sch_select_data.proofs.literals.Rows.{count_rows}
 use Rattle.sch_select_data.specs.Data.{static_count, objects_unit, names_of, closures_of, heap_of, max_heap_address}
 use Rattle.sch_select_data.specs.Data.{data_words, program_words}
-use Rattle.sch_select.specs.Program.{max_data, max_stack, program_code, program_zeros, own_label, stack_bytes}
+use Rattle.sch_select.specs.Program.{max_data, max_stack, program_code, program_zeros, own_label, selected_code, stack_bytes}
 use Rattle.sch_select_memory.specs.Addresses.{max_heap_end, names_address}
 use Rattle.sch_select.specs.MarkedStores.{stores_marked}
 use Rattle.sch_select.specs.Sizes.{instructions_in, kinds_in, kinds_of, steps_size}
@@ -32,6 +35,7 @@ use Rattle.sch_select.proofs.items.ProgramMarks.{program_marked}
 use Rattle.sch_select.proofs.items.ProgramSound.{program_sound}
 use Rattle.sch_select.proofs.items.InstructionCounts.{program_instructions}
 use Rattle.sch_select.proofs.items.MarkKinds.{program_kinds}
+use Rattle.sch_select.proofs.items.NarrowProgram.{narrowed_ahead, narrowed_instructions, narrowed_kinds, narrowed_known, narrowed_once, narrowed_own, narrowed_stores}
 use Rattle.sch_select.proofs.items.ProgramStores.{program_stands}
 use Rattle.sch_select.proofs.items.JumpsAhead.{program_ahead}
 use Rattle.sch_select.specs.Jumps.{jumps_ahead}
@@ -99,6 +103,10 @@ items_made c =
     (ap (λ h. h + c.args.limits.heap) (heap_made c)) (sym (count_rows p.statics.literals)) (heap_made c)
     (sym (bodies_count p.bodies)) c.in_ok-items.ensures)
 
+-- the items that are selected
+abbrev wide : (c : goal.In_ok-words) → List Item
+wide c = selected_code (source c.args.p.now) c.args.limits.heap c.args.limits.depth
+
 words_made : (c : goal.In_ok-words) → program_words (source c.args.p.now) ≡ c.in_ok-words.words
 words_made c =
     let s = c.args.p.now.statics in
@@ -152,13 +160,14 @@ invariant_of-result c =
     let free = c.requires.covered in
     let s = covered_selected p free in
     record {
-      sound = subst AreItems (items_made c) (program_sound q l.heap l.depth (words_few p) (statics_few p) (symbols_few p)
-          (near_by _ _ (low c) l.admitted.heap_high) l.admitted.depth_high s);
-      once = subst (λ is. IsEachOnce (labels_in is)) (items_made c) (program_once q l.heap l.depth
-          (all_forward p.bodies));
-      known = made c (λ is ws z. AreKnown is ws) (program_known q l.heap l.depth (all_forward p.bodies)
-          (labels_known p) (procedures_known p));
-      marked = subst (λ is. IsTrue (marks_arrive false is)) (items_made c) (program_marked q l.heap l.depth s);
+      sound = subst AreItems (items_made c) (narrowed_sound (wide c) (program_sound q l.heap l.depth (words_few p) (statics_few p) (symbols_few p)
+          (near_by _ _ (low c) l.admitted.heap_high) l.admitted.depth_high s));
+      once = subst (λ is. IsEachOnce (labels_in is)) (items_made c) (narrowed_once (wide c) (program_once q l.heap l.depth
+          (all_forward p.bodies)));
+      known = made c (λ is ws z. AreKnown is ws) (narrowed_known (wide c) (program_words q) (program_known q l.heap l.depth (all_forward p.bodies)
+          (labels_known p) (procedures_known p)));
+      marked = subst (λ is. IsTrue (marks_arrive false is)) (items_made c)
+          (subst IsTrue (sym (narrowed_marked (wide c) false)) (program_marked q l.heap l.depth s));
     }
 
 pub returns-clause-follows : goal.returns-clause-follows
@@ -184,39 +193,46 @@ returns-clause-items c = sym (items_made c.before)
 pub returns-clause-own : goal.returns-clause-own
 returns-clause-own c =
     let p = c.args.p.now in
-    subst AreOwn (items_made c.before) (program_own (source p) c.args.limits.heap c.args.limits.depth (all_forward p.bodies))
+    subst AreOwn (items_made c.before) (narrowed_own (wide c.before) (program_own (source p) c.args.limits.heap c.args.limits.depth (all_forward p.bodies)))
+
+pub returns-clause-narrow : goal.returns-clause-narrow
+returns-clause-narrow c = subst (λ is. IsTrue (list_all is_narrow_item is)) (items_made c.before) (all_narrow (wide c.before))
+
+no_more : (k m n : ℕ) → k ≤ m → m ≤ n → k ≤ n
+no_more k m n a b = omega (arith, a, b)
 
 pub returns-clause-text : goal.returns-clause-text
 returns-clause-text c =
     let q = source c.args.p.now in
     subst (λ is. text_size is ≤ 2048 + (64 * program_work q + 8 * program_copies q)) (items_made c.before)
-    (text_small q c.args.limits.heap c.args.limits.depth)
+    (no_more _ (text_size (wide c.before)) _ (narrowed_size (wide c.before)) (text_small q c.args.limits.heap c.args.limits.depth))
 
 pub returns-clause-ahead : goal.returns-clause-ahead
 returns-clause-ahead c =
     let p = c.args.p.now in
     let q = source p in
-    subst (λ is. IsTrue (jumps_ahead (own_label q) is)) (items_made c.before) (program_ahead q c.args.limits.heap
-    c.args.limits.depth (all_forward p.bodies) (labels_known p))
+    subst (λ is. IsTrue (jumps_ahead (own_label q) is)) (items_made c.before)
+    (narrowed_ahead (own_label q) (wide c.before) ∙ program_ahead q c.args.limits.heap c.args.limits.depth (all_forward p.bodies) (labels_known p))
 
 pub returns-clause-instructions : goal.returns-clause-instructions
 returns-clause-instructions c =
     let p = c.args.p.now in
     let q = source p in
     subst (λ is. steps_size q ≤ 3 * instructions_in is) (items_made c.before)
-    (program_instructions q c.args.limits.heap c.args.limits.depth (covered_selected p c.requires.covered))
+    (subst (λ n. steps_size q ≤ 3 * n) (sym (narrowed_instructions (wide c.before)))
+    (program_instructions q c.args.limits.heap c.args.limits.depth (covered_selected p c.requires.covered)))
 
 pub returns-clause-marks : goal.returns-clause-marks
 returns-clause-marks c =
     let p = c.args.p.now in
     let q = source p in
-    subst (λ is. kinds_in is ≡ kinds_of 0 q.bodies) (items_made c.before) (program_kinds q c.args.limits.heap
-    c.args.limits.depth (covered_selected p c.requires.covered))
+    subst (λ is. kinds_in is ≡ kinds_of 0 q.bodies) (items_made c.before)
+    (narrowed_kinds (wide c.before) ∙ program_kinds q c.args.limits.heap c.args.limits.depth (covered_selected p c.requires.covered))
 
 pub returns-clause-stores : goal.returns-clause-stores
 returns-clause-stores c = λ stand.
-    subst (λ is. IsTrue (stores_marked None is)) (items_made c.before) (program_stands (source c.args.p.now) c.args.limits.heap
-    c.args.limits.depth stand)
+    subst (λ is. IsTrue (stores_marked None is)) (items_made c.before)
+    (narrowed_stores None (wide c.before) ∙ program_stands (source c.args.p.now) c.args.limits.heap c.args.limits.depth stand)
 
 pub returns-clause-words : goal.returns-clause-words
 returns-clause-words c = subst (λ ws. 0x10000000 + 8 * length ws ≡ heap_of (source c.args.p.now)) (words_made c.before) (ends_there c.before)

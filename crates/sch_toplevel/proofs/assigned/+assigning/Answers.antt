@@ -16,7 +16,7 @@ pub add_assigned-returns-in_ok-add_assigned-in-Letrec : goal.add_assigned-return
 add_assigned-returns-in_ok-add_assigned-in-Letrec t c = letrec_assigned _ (letrec_view _ _ _ _ c.in-Letrec.is refl c.as_slice-in-Letrec.ensures c.deref-in-Letrec.ensures) c.in_ok-add_assigned_each-in-Letrec.ensures c.in_ok-add_assigned-in-Letrec.ensures
 
 pub add_assigned-returns-in_ok-add_assigned_each-in-Call : goal.add_assigned-returns-in_ok-add_assigned_each-in-Call
-add_assigned-returns-in_ok-add_assigned_each-in-Call t c = call_assigned _ (call_view _ _ c.in-Call.is c.deref-in-Call.ensures c.as_slice-in-Call.ensures) c.in_ok-add_assigned-in-Call.ensures c.in_ok-add_assigned_each-in-Call.ensures
+add_assigned-returns-in_ok-add_assigned_each-in-Call t c = call_assigned _ (call_view _ _ _ c.in-Call.is refl c.deref-in-Call.ensures c.as_slice-in-Call.ensures) c.in_ok-add_assigned-in-Call.ensures c.in_ok-add_assigned_each-in-Call.ensures
 
 pub add_assigned_each-loop-e-preserved : goal.add_assigned_each-loop-e-preserved
 add_assigned_each-loop-e-preserved t c =

@@ -1,0 +1,3 @@
+pub mod AdmittedWords
+pub mod AnyCommand
+pub mod Digits

@@ -1,0 +1,16 @@
+use Rattle.std.proofs.Common.{◌∙◌, ◌++◌, ap}
+use Rattle.std.proofs.lemmas.Result.{on_ok_weaker}
+use Rattle.sch_control.specs.flow.RestoredView.{restored}
+use Rattle.sch_orders.specs.ListedCalls.{listed_calls}
+use Rattle.sch_homes.specs.HomeTable.{place_in}
+use Rattle.sch_homes.specs.Homes.{homes_end}
+use Rattle.sch_homes.specs.ListedMoves.{listed_call}
+use Rattle.sch_homes.proofs.listed_moves.list_moves.Goals as goal
+
+pub returns : goal.returns
+returns g c =
+    let b = c.args.b.now in
+    let end = homes_end b.entry (restored b.exp) b.places in
+    on_ok_weaker c.list_calls.result
+    (λ h. h end ∙ ap (λ places. c.args.calls.now ++ listed_calls (listed_call end (place_in places)) (restored b.exp)) c.as_slice.ensures)
+    c.list_calls.ensures

@@ -1,0 +1,5 @@
+pub mod TableExamples
+pub mod EachOnce
+pub mod TableFits
+pub mod CallsFit
+pub mod TableLoops

@@ -1,0 +1,293 @@
+//! Disks and streams that fail or take less than they are given, at each of their calls in turn.
+
+use crate::outside::{Outcome, Outside, call, call_well, check};
+use sch_cli::schc;
+use sch_io::{MemDisk, MemOutlet};
+use sch_word::{Answer, Bytes, Mem};
+use std::alloc::Global;
+use std::test::Fail;
+
+const LISTED: &str = "compile p.scm p --listing f --heap 4096";
+
+const TEXT: &[u8] = b"(define (f x) x)(display (f 1))";
+
+// Whether a file is there and holds these bytes.
+fn holds(file: &Option<Bytes>, bytes: &[u8]) -> bool {
+    match file {
+        Some(file) => file.as_slice() == bytes,
+        None => false,
+    }
+}
+
+// Calls the program where the disk's call of this number fails.
+fn call_failing(alloc: Global, line: &str, number: u64) -> Result<Outcome, Fail> {
+    let failing = [number];
+    let outside = Outside {
+        failing: &failing,
+        ..Outside::of(TEXT)
+    };
+    call(alloc, line, outside)
+}
+
+// A read that fails leaves all files as they were, and a write that fails those that are not written yet. Each row has the
+// line, the disk's call that fails, the status, what is said, and whether the executable is then on the disk.
+#[test]
+fn each_call_of_the_disk_fails(rt: HostRuntime) -> Result<(), Fail> {
+    let rows: [(&str, u64, u8, &[u8], bool); 9] = [
+        ("compile p.scm p", 0, 2, b"p.scm: read failed\n", false),
+        ("compile p.scm p", 1, 3, b"p: write failed\n", false),
+        (LISTED, 0, 2, b"p.scm: read failed\n", false),
+        (LISTED, 1, 3, b"p: write failed\n", false),
+        (LISTED, 2, 3, b"f: write failed\n", true),
+        ("run p.scm", 0, 2, b"p.scm: read failed\n", false),
+        ("step p.scm", 0, 2, b"p.scm: read failed\n", false),
+        ("list p.scm", 0, 2, b"p.scm: read failed\n", false),
+        ("count p.scm", 0, 2, b"p.scm: read failed\n", false),
+    ];
+    for (line, number, status, said, written) in rows {
+        let outcome = call_failing(rt.alloc(), line, number)?;
+        assert_eq!(rt; outcome.status, status, "at {line}");
+        assert_eq!(rt; outcome.said.as_slice(), said, "at {line}");
+        assert!(rt; outcome.printed.is_empty(), "at {line}");
+        assert!(rt; holds(&outcome.source, TEXT), "at {line}");
+        assert_eq!(rt; outcome.target.is_some(), written, "at {line}");
+        assert!(rt; outcome.listing.is_none(), "at {line}");
+    }
+    Ok(())
+}
+
+// Where the listing is not written, the executable is the one that is written with it.
+#[test]
+fn the_executable_is_written_first(rt: HostRuntime) -> Result<(), Fail> {
+    let whole = call_well(rt.alloc(), LISTED, TEXT)?;
+    assert_eq!(rt; whole.status, 0);
+    assert!(rt; whole.listing.is_some());
+    let image = whole.target.ok_or("no file")?;
+    let failed = call_failing(rt.alloc(), LISTED, 2)?;
+    assert!(rt; holds(&failed.target, image.as_slice()));
+    Ok(())
+}
+
+// A failure that is planned for a call behind the last one is never seen.
+#[test]
+fn a_failure_of_a_further_call_is_not_seen(rt: HostRuntime) -> Result<(), Fail> {
+    let rows: [(&str, u64); 5] = [
+        ("compile p.scm p", 2),
+        (LISTED, 3),
+        ("run p.scm --heap 4096", 1),
+        ("list p.scm", 1),
+        ("count p.scm --heap 4096", 1),
+    ];
+    for (line, number) in rows {
+        let outcome = call_failing(rt.alloc(), line, number)?;
+        assert_eq!(rt; outcome.status, 0, "at {line}");
+        assert!(rt; outcome.said.is_empty(), "at {line}");
+    }
+    Ok(())
+}
+
+const SHORT: Answer = Answer::Took(1);
+
+const NONE: Answer = Answer::Took(0);
+
+const ALL: Answer = Answer::Took(9);
+
+const FAILED: Answer = Answer::Failed;
+
+/// Programs, what the stream answers to their pieces, the status, and what the stream takes.
+const PIECES: [(&[u8], &[Answer], u8, &[u8]); 13] = [
+    (b"(display 12)", &[SHORT, SHORT], 0, b"12"),
+    (b"(display 12)", &[NONE], 74, b""),
+    (b"(display 12)", &[FAILED], 74, b""),
+    (b"(display 12)", &[SHORT, NONE], 74, b"1"),
+    (b"(display \"abc\")", &[SHORT, SHORT, FAILED], 74, b"ab"),
+    (b"", &[FAILED], 0, b""),
+    (b"(display \"\")", &[FAILED], 0, b""),
+    (b"(display 12)(newline)(display 3)", &[SHORT], 0, b"12\n3"),
+    (
+        b"(display 12)(newline)(display 3)",
+        &[ALL, SHORT, SHORT],
+        0,
+        b"12\n3",
+    ),
+    (
+        b"(display 12)(newline)(display 3)",
+        &[ALL, FAILED],
+        74,
+        b"12",
+    ),
+    (b"(display 12)(newline)(display 3)", &[ALL, NONE], 74, b"12"),
+    (
+        b"(display 12)(newline)(display 3)",
+        &[ALL, ALL, FAILED],
+        74,
+        b"12\n",
+    ),
+    (
+        b"(display 12)(newline)(display 3)",
+        &[ALL, ALL, NONE],
+        74,
+        b"12\n",
+    ),
+];
+
+// What a program and its image print where the stream takes less than it is given, or fails, at each piece in turn.
+#[test]
+fn each_answer_to_a_program_is_short_or_fails(rt: HostRuntime) -> Result<(), Fail> {
+    for (file, out, status, printed) in PIECES {
+        let said: &[u8] = if status == 0 {
+            b""
+        } else {
+            b"stop 74: output failed\n"
+        };
+        let wanted = (status, printed, said);
+        let source = Outside {
+            out,
+            ..Outside::of(file)
+        };
+        check(
+            rt.alloc(),
+            "run p.scm --heap 4096 --depth 20",
+            source,
+            wanted,
+        )?;
+        let compiled = call_well(rt.alloc(), LISTED, file)?;
+        let image = compiled.target.ok_or("no file")?;
+        let image = Outside {
+            out,
+            ..Outside::of(image.as_slice())
+        };
+        check(rt.alloc(), "step p.scm", image, wanted)?;
+    }
+    Ok(())
+}
+
+// A stream without room for a piece fails.
+#[test]
+fn a_stream_without_room_fails(rt: HostRuntime) -> Result<(), Fail> {
+    let alloc = rt.alloc();
+    let mut words = Vec::new(alloc);
+    for word in ["run", "p.scm", "--heap", "4096"] {
+        words.push(String::from_str(alloc, word)?)?;
+    }
+    let files = [(
+        Bytes::from_slice(alloc, b"p.scm")?,
+        Bytes::from_slice(alloc, b"(display 12)")?,
+    )];
+    let rows: [(usize, u8, &[u8]); 2] = [(1, 74, b""), (2, 0, b"12")];
+    for (room, status, taken) in rows {
+        let mut disk = MemDisk::new(alloc, &files, 0, &[])?;
+        let mut out = MemOutlet::new(alloc, &[], room)?;
+        let mut err = MemOutlet::new(alloc, &[], 1000)?;
+        let answer = schc(alloc, words.as_slice(), &mut disk, &mut out, &mut err);
+        assert_eq!(rt; answer, status, "with room for {room}");
+        assert_eq!(rt; out.taken(), taken, "with room for {room}");
+    }
+    Ok(())
+}
+
+// As many answers that take one byte, and then another one.
+fn plan_of(alloc: Global, plan: (usize, Answer)) -> Result<Vec<Answer>, Mem> {
+    let (count, last) = plan;
+    let mut answers = Vec::new(alloc);
+    for _ in 0..count {
+        answers.push(Answer::Took(1))?;
+    }
+    answers.push(last)?;
+    Ok(answers)
+}
+
+// Prints a text over a stream that takes single bytes and then answers otherwise: what the call answers, and what was taken.
+fn check_text(
+    alloc: Global,
+    line: &str,
+    plan: (usize, Answer),
+    wanted: (u8, &[u8]),
+) -> Result<(), Fail> {
+    let plan = plan_of(alloc, plan)?;
+    let outside = Outside {
+        out: plan.as_slice(),
+        ..Outside::of(TEXT)
+    };
+    let (status, printed) = wanted;
+    let said: &[u8] = if status == 0 { b"" } else { b"output failed\n" };
+    check(alloc, line, outside, (status, printed, said))
+}
+
+// A text that is printed goes on after a write that took one byte, and ends at one that failed or took nothing.
+#[test]
+fn each_answer_to_a_text_is_short_or_fails(rt: HostRuntime) -> Result<(), Fail> {
+    let alloc = rt.alloc();
+    for line in ["list p.scm --heap 4096", "count p.scm --heap 4096"] {
+        let well = call_well(alloc, line, TEXT)?;
+        assert_eq!(rt; well.status, 0, "at {line}");
+        let whole = well.printed.as_slice();
+        check_text(alloc, line, (0, Answer::Took(1)), (0, whole))?;
+        for count in [0, 1, 2, 9] {
+            let begun = whole.get(..count).ok_or("too short")?;
+            check_text(alloc, line, (count, Answer::Failed), (3, begun))?;
+            check_text(alloc, line, (count, Answer::Took(0)), (3, begun))?;
+            check_text(alloc, line, (count, Answer::Took(2)), (0, whole))?;
+        }
+    }
+    Ok(())
+}
+
+// Makes a call again over a standard error that takes single bytes and then answers otherwise, behind each count of them: the
+// status is the same, and the part of the line before that was taken.
+fn check_line(
+    alloc: Global,
+    line: &str,
+    outside: Outside,
+    well: &Outcome,
+    last: Answer,
+) -> Result<(), Fail> {
+    let said = well.said.as_slice();
+    let printed = well.printed.as_slice();
+    let most = said.len().checked_add(1).ok_or("too long")?;
+    for count in 0..most {
+        let begun = said.get(..count).ok_or("too short")?;
+        let plan = plan_of(alloc, (count, last))?;
+        let other = Outside {
+            err: plan.as_slice(),
+            ..outside
+        };
+        check(alloc, line, other, (well.status, printed, begun))?;
+    }
+    Ok(())
+}
+
+// No failure of the standard error changes a status, wherever in the line it is.
+#[test]
+fn each_answer_to_a_line_is_short_or_fails(rt: HostRuntime) -> Result<(), Fail> {
+    let alloc = rt.alloc();
+    let output = [Answer::Failed];
+    let rows: [(&str, &[u8], &[u64], &[Answer], u8); 14] = [
+        ("run", b"", &[], &[], 1),
+        ("run none.scm", b"", &[], &[], 2),
+        ("compile p.scm p", b"", &[1], &[], 3),
+        (LISTED, b"", &[2], &[], 3),
+        ("list p.scm", b"", &[], &output, 3),
+        ("count p.scm --heap 4096", b"", &[], &output, 3),
+        ("run p.scm", b"(display", &[], &[], 4),
+        ("list p.scm", b"(if)", &[], &[], 5),
+        ("count p.scm", b"(foo)", &[], &[], 6),
+        ("compile p.scm p", b"1152921504606846976", &[], &[], 7),
+        ("step p.scm", b"0123456789", &[], &[], 8),
+        ("run p.scm --heap 4096 --steps 0", b"", &[], &[], 9),
+        ("run p.scm --heap 4096", b"(car 1)", &[], &[], 65),
+        ("run p.scm --heap 4096", b"(display 1)", &[], &output, 74),
+    ];
+    for (line, file, failing, out, status) in rows {
+        let outside = Outside {
+            failing,
+            out,
+            ..Outside::of(file)
+        };
+        let well = call(alloc, line, outside)?;
+        assert_eq!(rt; well.status, status, "at {line}");
+        check_line(alloc, line, outside, &well, Answer::Failed)?;
+        check_line(alloc, line, outside, &well, Answer::Took(0))?;
+    }
+    Ok(())
+}
