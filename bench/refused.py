@@ -1,21 +1,28 @@
 #!/usr/bin/env python3
-"""Refuses requests for memory of `schc`, one in each run, and looks at how it ends.
+"""Refuses each request for memory of a call of `schc`, one in each run, and looks at how the call ends.
 
-Run by hand, after the program was built:  bench/refused.py [COUNT [FIRST [LAST]]]
-Three lines over a small but whole text, `run`, `compile` with a listing and `count`, are run once for each of their requests, or
-for COUNT of them, evenly spread from the FIRST to the LAST. Where a request is refused the line ends with 10 and says so,
-nothing is printed and no file has changed; or the request is one that need not be met, and all is as where none is refused. It
-needs gcc, and prints how many requests were refused. The end is 1 where something is otherwise.
+Run by hand, after the program was built:  bench/refused.py [--every N] [--host]
+Three lines over a small but whole text: `run`, `compile` with a listing and `count`. The call is made over a disk in memory that
+never fails and has ample room, by a small program of its own (`refused.rt.txt`), which is proved and built in a copy of the
+checkout, over the libraries that are proved there. It asks for a telling number of bytes right before the call and right behind
+it, and only requests between the two are refused: none that makes the disk, the streams or the words, and none that looks at
+them afterwards. A call must end with 10 and its line, with nothing printed and no file of the disk changed; or with 0, and all
+is as where nothing is refused, which is what the built program does with files of the host.
+
+With `--every N` only each Nth request is refused. With `--host` the built program is run, on files of the host, and each request
+of its process counts. It needs gcc, and prints how many requests were refused. The end is 1 where something is otherwise.
 """
+import argparse
 import collections
 import os
+import shutil
 import subprocess
 import sys
 import tempfile
 
-TOP = os.path.dirname(os.path.dirname(os.path.abspath(__file__)))
+BENCH = os.path.dirname(os.path.abspath(__file__))
+TOP = os.path.dirname(BENCH)
 PROGRAM = os.path.join(TOP, "crates", "schc", "out", "schc")
-SHIM = os.path.join(TOP, "bench", "refused.c")
 OPTIONS = ["--heap", "65536", "--depth", "1000"]
 LINES = [["run", "source"], ["compile", "source", "image", "--listing", "listing"], ["count", "source"]]
 TEXT = r"""(define (tally l)
@@ -33,64 +40,104 @@ TEXT = r"""(define (tally l)
 (do ((i 0 (+ i 1))) ((= i 3)) (display i))
 (newline)
 """
+# The files before a call, and the telling number of bytes, both as `refused.rt.txt` has them.
 BEFORE = {"source": TEXT.encode(), "image": b"an older image\n", "listing": b"an older listing\n"}
+MARK = "7654321"
 
-End = collections.namedtuple("End", "status printed said files")
-
-
-def end_of(words, folder, number):
-    """How a line ends whose request of this number is refused, and how many requests it makes. None has the number 0."""
-    work = os.path.join(folder, "work")
-    os.makedirs(work, exist_ok=True)
-    for name, content in BEFORE.items():
-        with open(os.path.join(work, name), "wb") as file:
-            file.write(content)
-    requests = os.path.join(folder, "requests")
-    env = {"LD_PRELOAD": os.path.join(folder, "refused.so"), "REFUSED": str(number), "REQUESTS": requests}
-    done = subprocess.run([PROGRAM, *words, *OPTIONS], cwd=work, env=env, capture_output=True)
-    files = {}
-    for name in sorted(os.listdir(work)):
-        with open(os.path.join(work, name), "rb") as file:
-            files[name] = file.read()
-    with open(requests) as file:
-        return End(done.returncode, done.stdout, done.stderr, files), int(file.read())
+# The status, and what was printed, what was said and what the files then hold, each behind a byte that no text has.
+End = collections.namedtuple("End", "status left")
+Requests = collections.namedtuple("Requests", "before numbered behind more refused")
 
 
-def kind_of(end, whole):
-    """Whether a line ends without memory, or as where nothing is refused; None where it ends otherwise."""
-    if end == End(10, b"", b"out of memory\n", BEFORE):
-        return "out of memory"
-    return "not needed" if end == whole else None
+def parted(parts):
+    return b"".join(b"\xff" + part for part in parts)
 
 
-def numbers(requests, words):
-    """The numbers of the requests that are refused: all, or as many as is said."""
-    first = int(words[1]) if len(words) > 1 else 1
-    last = min(int(words[2]), requests) if len(words) > 2 else requests
-    count = min(int(words[0]), last - first + 1) if words else last - first + 1
-    return sorted({first + (last - first) * k // max(count - 1, 1) for k in range(count)})
+OUT_OF_MEMORY = End(10, parted([b"", b"out of memory\n", *BEFORE.values()]))
 
 
-def refuses(words, folder):
-    """Refuses requests of a line, prints what they were, and says whether all ended as they should."""
-    whole, requests = end_of(words, folder, 0)
+def link(source, target):
+    """Gives a file a second name, or copies it where that is on another disk."""
+    try:
+        os.link(source, target)
+    except OSError:
+        shutil.copy(source, target)
+
+
+def build(folder):
+    """Builds the program that has its disk in memory, in a copy of the checkout, and gives its name."""
+    copy = os.path.join(folder, "checkout")
+    crate = os.path.join(copy, "crates", "refused")
+    left_out = shutil.ignore_patterns("incremental")
+    shutil.copytree(os.path.join(TOP, "crates"), os.path.join(copy, "crates"), copy_function=link, ignore=left_out)
+    os.makedirs(os.path.join(crate, "src"))
+    shutil.copy(os.path.join(BENCH, "refused.rt.txt"), os.path.join(crate, "src", "main.rt"))
+    with open(os.path.join(TOP, "crates.txt")) as crates, open(os.path.join(copy, "crates.txt"), "w") as file:
+        file.write(crates.read() + "refused: sch_cli sch_io sch_word anyhow\n")
+    words = ["rt", "run", "--", TEXT, *LINES[0], *OPTIONS]
+    subprocess.run(words, cwd=crate, stdout=subprocess.DEVNULL, check=True)
+    return os.path.join(crate, "out", "refused")
+
+
+class Caller:
+    """A program that calls `schc`, on files in a folder of the host, or in memory."""
+
+    def __init__(self, program, folder, files, mark):
+        self.program = program
+        self.folder = folder
+        self.files = files
+        self.requests = os.path.join(folder, "requests")
+        self.env = {"LD_PRELOAD": os.path.join(folder, "refused.so"), "REQUESTS": self.requests, **mark}
+
+    def end_of(self, words, number):
+        """How a line ends whose request of this number is refused, and how many requests it has. None has the number 0."""
+        for name, content in self.files.items():
+            with open(os.path.join(self.folder, name), "wb") as file:
+                file.write(content)
+        if os.path.exists(self.requests):
+            os.remove(self.requests)
+        env = {**self.env, "REFUSED": str(number)}
+        done = subprocess.run([*self.program, *words, *OPTIONS], cwd=self.folder, env=env, capture_output=True)
+        with open(self.requests) as file:
+            requests = Requests(*map(int, file.read().split()))
+        if not self.files:
+            return End(done.returncode, done.stdout), requests
+        parts = [done.stdout, done.stderr]
+        for name in self.files:
+            with open(os.path.join(self.folder, name), "rb") as file:
+                parts.append(file.read())
+        return End(done.returncode, parted(parts)), requests
+
+
+def refuses(caller, words, every, wanted):
+    """Refuses requests of a line, which without a refusal ends as is wanted, prints how it ended, and says whether all was well."""
+    whole, asked = caller.end_of(words, 0)
+    well = whole == wanted and wanted.status == 0 and asked.numbered > 0 and asked.more == asked.refused == 0
+    if not well:
+        print(f"{words[0]}, without a refusal: status {whole.status}, {asked}, {whole.left[:100]!r}")
     kinds = collections.Counter()
-    for number in numbers(requests, sys.argv[1:]):
-        end, _ = end_of(words, folder, number)
-        kind = kind_of(end, whole)
+    for number in range(1, asked.numbered + 1, every):
+        end, requests = caller.end_of(words, number)
+        kind = {OUT_OF_MEMORY: "status 10", wanted: "status 0"}.get(end, "otherwise") if requests.refused == 1 else "otherwise"
         kinds[kind] += 1
-        if kind is None:
-            print(f"{words[0]}, request {number}: status {end.status}, {end.printed!r}, {end.said!r}")
-    shown = ", ".join(f"{count} {kind or 'otherwise'}" for kind, count in kinds.items())
-    print(f"{' '.join(words)}: {kinds.total()} of {requests} requests refused: {shown}")
-    return whole.status == 0 and not kinds[None]
+        if kind == "otherwise":
+            print(f"{words[0]}, request {number}: status {end.status}, {requests}, {end.left[:100]!r}")
+    shown = ", ".join(f"{count} {kind}" for kind, count in kinds.items())
+    print(f"{' '.join(words)}: {asked.before} requests before, {kinds.total()} of {asked.numbered} refused, {asked.behind} behind: {shown}", flush=True)
+    return well and kinds["status 10"] > 0 and not kinds["otherwise"]
 
 
 def main():
+    parser = argparse.ArgumentParser()
+    parser.add_argument("--every", type=int, default=1)
+    parser.add_argument("--host", action="store_true")
+    words = parser.parse_args()
     with tempfile.TemporaryDirectory() as folder:
-        shim = os.path.join(folder, "refused.so")
-        subprocess.run(["gcc", "-O2", "-shared", "-fPIC", "-o", shim, SHIM], check=True)
-        well = [refuses(words, folder) for words in LINES]
+        shim = ["gcc", "-O2", "-shared", "-fPIC", "-o", os.path.join(folder, "refused.so"), os.path.join(BENCH, "refused.c")]
+        subprocess.run(shim, check=True)
+        host = Caller([PROGRAM], folder, BEFORE, {})
+        caller = host if words.host else Caller([build(folder), TEXT], folder, {}, {"MARK": MARK})
+        well = [refuses(caller, line, words.every, host.end_of(line, 0)[0]) for line in LINES]
     sys.exit(0 if all(well) else 1)
 
 

@@ -18,7 +18,7 @@ use Rattle.sch_asm.specs.declared.routine.Routine.TheVariants.{End, Stop, Put, P
 use Rattle.sch_asm.specs.Routines.{label_of}
 use Rattle.sch_asm.specs.Items.{IsPlain, is_routine, labels_in, marks_arrive, uses_in, word_uses}
 use Rattle.sch_asm.specs.Stands.{marks_at}
-use Rattle.sch_asm.specs.Codes.{Codes, IsTooLarge, bytes_of, text_size}
+use Rattle.sch_asm.specs.Codes.{Codes, IsTooLarge, bytes_of, instructions_in, text_size}
 use Rattle.sch_asm.specs.Data.{IsShifted, word_in, with_word}
 use Rattle.sch_asm.specs.Effects.{is_scratch}
 
@@ -43,6 +43,9 @@ is_resolved = (refl, (_, refl, (_, refl, (_, _, refl, refl, (_, _, refl, (refl, 
 
 sizes : text_size items ≡ 27
 sizes = refl
+
+counted : (instructions_in items ≡ 5) × (instructions_in (Label 1024 ∷ []) ≡ 0) × (instructions_in (Mark (Save 0) ∷ Plain insn.Syscall ∷ []) ≡ 1)
+counted = (refl, refl, refl)
 
 marks_are : (marks_at marks 0x400000 ≡ Enter 7 ∷ Save 0 ∷ []) × (marks_at marks 0x400007 ≡ [])
 marks_are = (refl, refl)

@@ -13,3 +13,4 @@ mod Examples
 mod NarrowExamples
 pub mod Shortest
 pub mod NarrowItems
+pub mod AsMany

@@ -1,4 +1,4 @@
--- Which forms are narrow, and the shortest forms, at the numbers next to those of one byte.
+-- Which forms are narrow, and the narrow forms, at the numbers next to those of one byte.
 use Rattle.std.proofs.Common.{◌≡◌, List, [], ◌∷◌, Bool, true, false, map, refl}
 use Rattle.std.specs.Prelude.{ℤ, pos, negsuc}
 use Rattle.sch_insn.specs.declared.insn.Arg.{Arg}
@@ -68,7 +68,7 @@ others = (refl, refl, refl, refl, refl, refl, refl, refl)
 from_next : narrow_at (λ d. insn.Lea RAX (Rip d)) ≡ always
 from_next = refl
 
--- ---- shortest forms
+-- ---- narrow forms
 
 forms : (narrow (insn.SubNumber (Base32 RBP (pos 16)) (negsuc 0)) ≡ insn.SubNumber8 (Base8 RBP (pos 16)) (negsuc 0))
     × (narrow (insn.AddNumber (Base32 R12 (pos 128)) (pos 127)) ≡ insn.AddNumber8 (Base32 R12 (pos 128)) (pos 127))

@@ -1,4 +1,4 @@
--- Items in their shortest forms: what holds of items holds of these.
+-- Items in their narrow forms: what holds of items holds of these.
 use Rattle.std.proofs.Common.{◌≡◌, ℕ, ◌+◌, ◌≤◌, List, [], ◌∷◌, ◌++◌, Bool, true, false, refl, ap, ◌∙◌, arith}
 use Rattle.std.specs.Prelude.{not, ◌&&◌}
 use Rattle.std.specs.List.{list_all}
@@ -48,7 +48,7 @@ narrowed_size (Plain i ∷ is) = let h = narrowed_size is in let s = size_narrow
 narrowed_size (Label l ∷ is) = let h = narrowed_size is in omega (arith, h)
 narrowed_size (_ ∷ is) = let h = narrowed_size is in omega (arith, h)
 
--- Where the shortest forms stand, the items do.
+-- Where the narrow forms stand, the items do.
 module _ (setting : Setting) where
   pub stands_wide : (is : List Item) (waiting : List MarkKind) (a : ℕ) → Stands setting waiting a (narrowed is) → Stands setting waiting a is
   stands_wide [] waiting a h = h

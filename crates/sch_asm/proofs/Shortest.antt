@@ -1,4 +1,4 @@
--- The shortest form of an instruction does what the instruction does, is valid and plain where that is, and is no longer.
+-- The narrow form of an instruction does what the instruction does, is valid and plain where that is, and is no longer.
 use Rattle.std.proofs.Common.{◌≡◌, ℕ, ◌≤◌, List, [], ◌∷◌, ◌++◌, length, length-append, Bool, true, false, cond, refl, sym, ap, ◌∙◌, subst, arith}
 use Rattle.std.specs.Prelude.{ℤ, pos, negsuc, FitsSigned, not, ◌&&◌, int_le}
 use Rattle.std.specs.Int.{w8}

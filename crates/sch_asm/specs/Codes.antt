@@ -1,5 +1,5 @@
 -- What items are resolved to: instructions, marks and the bytes of words.
-use Rattle.std.specs.Prelude.{◌≡◌, ℕ, ◌+◌, ◌^◌, ◌<◌, List, [], ◌∷◌, length, ℤ}
+use Rattle.std.specs.Prelude.{◌≡◌, ℕ, suc, ◌+◌, ◌^◌, ◌<◌, List, [], ◌∷◌, length, ℤ}
 use Rattle.std.specs.Int.{w64, to_le_bytes}
 use Rattle.std.specs.List.{flat_map}
 use Rattle.sch_word.specs.runs.ProgramLayout.{text_address, max_text_size}
@@ -46,6 +46,14 @@ pub record AreResolved (items : List Item) (data_words : List Word) (code : List
   pub small : (l : ℕ) → place_of l < 2 ^ 31
   pub codes : Codes place_of text_address items code marks
   pub bytes : words ≡ flat_map (bytes_of place_of) data_words
+
+-- ---- how many items become instructions, whatever forms these have: labels and marks do not
+
+abbrev pub instructions_in : List Item → ℕ
+instructions_in [] = 0
+instructions_in (Label l ∷ is) = instructions_in is
+instructions_in (Mark m ∷ is) = instructions_in is
+instructions_in (_ ∷ is) = suc (instructions_in is)
 
 -- ---- how long a text is at most: where all jumps have their long forms
 

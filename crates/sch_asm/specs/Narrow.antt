@@ -1,5 +1,6 @@
--- The shortest forms of instructions. A displacement or a number from -128 to 127 has a form of one byte, which does what
--- the same in four bytes does. Jumps to labels have theirs from where they stand, and `mov` has none for its number.
+-- The narrow forms of instructions. A displacement or a number from -128 to 127 has a form of one byte, which does what the
+-- same in four bytes does; a displacement of zero has one too, since the form without any is not used. Jumps to labels have
+-- theirs from where they stand, and `mov` has none for its number.
 -- Source: Intel SDM, volume 2, section 2.1.5 (displacements), and the pages of add, or, and, sub, xor and cmp.
 use Rattle.std.specs.Prelude.{List, map, Bool, true, false, cond, not, ◌&&◌, ℤ, pos, negsuc, int_le}
 use Rattle.sch_insn.specs.declared.insn.Arg.{Arg}
@@ -147,7 +148,7 @@ is_narrow i = not (is_long_arg (operand_of i)) && not (is_long_number i)
 abbrev pub narrow_operand : Insn → Insn
 narrow_operand i = with_operand (narrow_arg (operand_of i)) i
 
--- the shortest form
+-- the narrow form: the shortest of those with one byte or four for the displacement and for the number
 abbrev pub narrow : Insn → Insn
 narrow i = narrow_operand (narrow_number i)
 

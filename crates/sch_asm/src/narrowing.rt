@@ -1,4 +1,4 @@
-//! The shortest forms of instructions.
+//! The narrow forms of instructions: a displacement and a number have one byte where they fit.
 
 ghost use Rattle.std.specs.Prelude.{◌≡◌, IfOk};
 ghost use Rattle.sch_asm.specs.Narrow.{is_byte, narrow, narrow_arg, narrow_item, narrow_number, narrow_operand, narrowed};
@@ -87,7 +87,7 @@ fn narrow_operand(insn: Insn) -> Insn
     }
 }
 
-/// An item with its instruction in the shortest form.
+/// An item with its instruction in the narrow form.
 fn narrow_item(item: Item) -> Item
     ensures { result ≡ narrow_item item }
 {
@@ -97,7 +97,7 @@ fn narrow_item(item: Item) -> Item
     }
 }
 
-/// The items with each instruction in its shortest form: a displacement and a number of add, or, and, sub, xor and cmp
+/// The items with each instruction in its narrow form: a displacement and a number of add, or, and, sub, xor and cmp
 /// have one byte where they fit.
 pub fn narrowed(alloc: Global, items: &[Item]) -> Result<List<Item>, Mem>
     ensures { IfOk result (λ made. made ≡ narrowed items.now) }

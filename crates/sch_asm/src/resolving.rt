@@ -8,7 +8,7 @@ ghost use Rattle.sch_jumps.specs.Least.{IsExact, IsLeast};
 ghost use Rattle.sch_jumps.specs.Sizes.{is_near};
 ghost use Rattle.sch_jumps.specs.Spans.{set_of};
 ghost use Rattle.sch_asm.specs.Items.{AreItems, AreOwn, AreRoutines, IsItem};
-ghost use Rattle.sch_asm.specs.Codes.{AreResolved, IsTooLarge, bytes_of, value_of as word_value};
+ghost use Rattle.sch_asm.specs.Codes.{AreResolved, IsTooLarge, bytes_of, instructions_in, value_of as word_value};
 ghost use Rattle.sch_asm.specs.Forms.{jump_forms};
 ghost use Rattle.sch_asm.specs.Layout.{IsLaidOut, ReachFrom, Reaches, UseBelow, UsesBelow, WordBelow, WordsBelow, branch_of, displacement, emitted_from, insns_at, jump_of, jumps_in, jumps_of, marked_from, marks_of, option_list, size_from, size_of};
 ghost use Rattle.sch_asm.specs.Pieces.{shortest_size, skeleton};
@@ -35,6 +35,7 @@ pub struct Resolved {
 /// Gives a text its addresses: the items of `a` from `TEXT_ADDRESS` on and behind them those of
 /// `routines`, with the data of `a` at `DATA_ADDRESS`. The text is the shortest one: of its direct jumps the least set is
 /// long for which each short one reaches its label, and a jump is short exactly where its displacement fits a byte.
+/// There is one instruction for each item that is no label and no mark, whatever form it has.
 ///
 /// `TextTooLarge` comes exactly where the text has more than `MAX_TEXT_SIZE` bytes and there is memory for the tables
 /// of its labels and jumps. Time and memory are linear in the items, the words and the greatest label that stands.
@@ -45,6 +46,7 @@ pub fn resolve(alloc: Global, a: &Asm, routines: &Asm) -> Result<Resolved, AsmEr
     ensures valid { IfOk result (λ r. AllValid r.code) }
     ensures shortest { IfOk result (λ r. IsLeast (skeleton (a.now.items ++ routines.now.items)) (set_of (jump_forms r.code))) }
     ensures exact { IfOk result (λ r. IsExact (skeleton (a.now.items ++ routines.now.items)) (set_of (jump_forms r.code))) }
+    ensures as_many { IfOk result (λ r. length r.code ≡ instructions_in (a.now.items ++ routines.now.items)) }
     ensures words { IfOk result (λ r. length r.words ≡ 8 * length a.now.words) }
     ensures zeros { IfOk result (λ r. r.zeros ≡ a.now.zeros) }
     ensures size { IfOk result (λ r. length (flat_map spelling r.code) ≡ shortest_size (a.now.items ++ routines.now.items)) }

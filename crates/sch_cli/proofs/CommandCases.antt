@@ -1,13 +1,16 @@
 -- What the status of a verb on a source follows from, where the words are its command.
-use Rattle.std.proofs.Common.{ℕ, List, Option, Some, None}
+use Rattle.std.proofs.Common.{◌≡◌, ◌≢◌, ℕ, List, Option, Some, None, refl}
 use Rattle.sch_cli.specs.Compiles.{EndsCompile}
 use Rattle.sch_cli.specs.Counts.{EndsCount}
+use Rattle.sch_cli.specs.Images.{FollowsImage, IsStep}
 use Rattle.sch_cli.specs.Lists.{EndsList}
 use Rattle.sch_cli.specs.Prints.{EndsGen}
 use Rattle.sch_cli.specs.Seen.{DiskChange, StreamChange}
 use Rattle.sch_cli.specs.Sources.{CompletesCompile, CompletesRun, FollowsNumber, FollowsSource}
-use Rattle.sch_cli.specs.Steps.{EndsRun, RunsSource}
-use Rattle.sch_commands.specs.Command.{Command, IfCompile, IfCount, IfGen, IfList, IfRun, compile, count, gen, list, run, step}
+use Rattle.sch_cli.specs.Steps.{EndsRun, RunsSource, StepsImage}
+use Rattle.sch_commands.specs.Command.{Command, IfCompile, IfCount, IfGen, IfList, IfRun, IfStep, compile, count, gen, list, run, step}
+use Rattle.sch_cli.proofs.ImageStatus.{step_image}
+use Rattle.sch_cli.proofs.NoImageStatus.{compile_is_other, list_is_other}
 use Rattle.sch_cli.proofs.SourceStatus.{compile_completes, compile_source, count_source, gen_number, list_source, run_completes, run_source}
 
 if_compile : (command : Option Command) (P Q : (source target : List ℕ) → (listing : Option (List ℕ)) → (heap depth : ℕ) → Type 0)
@@ -30,6 +33,16 @@ if_run (Some (gen number steps)) P Q f p = tt
 if_run (Some (list source heap depth)) P Q f p = tt
 if_run (Some (count source heap depth steps)) P Q f p = tt
 if_run None P Q f p = tt
+
+if_step : (command : Option Command) (P Q : (image : List ℕ) → (steps : ℕ) → Type 0)
+    → ((image : List ℕ) (steps : ℕ) → P image steps → Q image steps) → IfStep command P → IfStep command Q
+if_step (Some (compile source target listing heap depth)) P Q f p = tt
+if_step (Some (run source heap depth steps)) P Q f p = tt
+if_step (Some (step image steps)) P Q f p = f image steps p
+if_step (Some (gen number steps)) P Q f p = tt
+if_step (Some (list source heap depth)) P Q f p = tt
+if_step (Some (count source heap depth steps)) P Q f p = tt
+if_step None P Q f p = tt
 
 if_list : (command : Option Command) (P Q : (source : List ℕ) → (heap depth : ℕ) → Type 0)
     → ((source : List ℕ) (heap depth : ℕ) → P source heap depth → Q source heap depth) → IfList command P → IfList command Q
@@ -69,6 +82,9 @@ module _ (command : Option Command) (status : ℕ) (disk : DiskChange) (err out 
   abbrev pub RunEnds : (source : List ℕ) → (heap depth steps : ℕ) → Type 0
   RunEnds source heap depth steps = EndsRun source status disk err (RunsSource source heap depth steps disk out)
 
+  abbrev pub StepEnds : (image : List ℕ) → (steps : ℕ) → Type 0
+  StepEnds image steps = EndsRun image status disk err (StepsImage image steps disk out)
+
   abbrev pub ListEnds : (source : List ℕ) → (heap depth : ℕ) → Type 0
   ListEnds source heap depth = EndsList source heap depth status disk err out
 
@@ -87,6 +103,11 @@ module _ (command : Option Command) (status : ℕ) (disk : DiskChange) (err out 
   run_verdict =
       if_run command RunEnds (λ source heap depth steps. FollowsSource source depth status disk)
       (λ source heap depth steps. run_source source heap depth disk steps status err out)
+
+  pub step_verdict : IfStep command StepEnds → IfStep command (λ image steps. FollowsImage image steps status disk out)
+  step_verdict =
+      if_step command StepEnds (λ image steps. FollowsImage image steps status disk out)
+      (λ image steps. step_image steps disk out image status err)
 
   pub list_verdict : IfList command ListEnds → IfList command (λ source heap depth. FollowsSource source depth status disk)
   list_verdict =
@@ -112,3 +133,19 @@ module _ (command : Option Command) (status : ℕ) (disk : DiskChange) (err out 
   run_complete =
       if_run command RunEnds (λ source heap depth steps. CompletesRun source heap depth steps status disk out)
       (λ source heap depth steps. run_completes source heap depth disk steps out status err)
+
+-- ---- a command that ends with 8
+
+pub step_alone : (command : Option Command) (status : ℕ) (disk : DiskChange) (err out : StreamChange) → (command ≡ None → status ≢ 8)
+    → IfCompile command (CompileEnds command status disk err out) → IfRun command (λ source heap depth steps. status ≢ 8)
+    → IfList command (ListEnds command status disk err out) → IfCount command (λ source heap depth steps. status ≢ 8)
+    → IfGen command (λ number steps. status ≢ 8) → status ≡ 8 → IsStep command
+step_alone (Some (compile source target listing heap depth)) status disk err out none compiled ran listed counted made e =
+    compile_is_other source target listing heap depth status disk err compiled e
+step_alone (Some (run source heap depth steps)) status disk err out none compiled ran listed counted made e = ran e
+step_alone (Some (step image steps)) status disk err out none compiled ran listed counted made e = tt
+step_alone (Some (gen number steps)) status disk err out none compiled ran listed counted made e = made e
+step_alone (Some (list source heap depth)) status disk err out none compiled ran listed counted made e =
+    list_is_other source heap depth status disk err out listed e
+step_alone (Some (count source heap depth steps)) status disk err out none compiled ran listed counted made e = counted e
+step_alone None status disk err out none compiled ran listed counted made e = none refl e

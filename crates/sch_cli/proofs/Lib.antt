@@ -1,7 +1,10 @@
 pub mod CommandCases
 pub mod CompiledFiles
+mod CountExamples
 pub mod CountedImages
 pub mod DiskSteps
+mod ImageExamples
+pub mod ImageStatus
 pub mod InTime
 pub mod LoneRuns
 pub mod MachineEnds

@@ -1,5 +1,5 @@
 -- A text that is compiled and run never has the status of a file that stands for no image, or whose image is stuck.
-use Rattle.std.proofs.Common.{◌≢◌, ℕ, List, Result}
+use Rattle.std.proofs.Common.{◌≢◌, ℕ, List, Option, Result, ◌∙◌, sym}
 use Rattle.std.specs.Prelude.{⊤}
 use Rattle.sch_read.specs.declared.error.ReadError.{ReadError}
 use Rattle.sch_read.specs.declared.error.ReadError.TheVariants as read
@@ -20,12 +20,17 @@ use Rattle.sch_lang.specs.Meaning.{Closure}
 use Rattle.sch_lang.specs.Run.{outcome, run}
 use Rattle.sch_step.specs.declared.ends.RunEnd.{RunEnd}
 use Rattle.sch_generator.specs.GeneratedText.{generated_text}
+use Rattle.sch_listing.specs.ListingText.{listing_text}
 use Rattle.sch_cli.specs.Failures.{core_status, done_status, failure_status, read_status, refusal_status}
 use Rattle.sch_commands.specs.Command.{default_depth, default_heap}
+use Rattle.sch_cli.specs.Compiles as compiles
+use Rattle.sch_cli.specs.Compiles.{Compiles, EndsCompile}
 use Rattle.sch_cli.specs.Figures.{figures_text}
+use Rattle.sch_cli.specs.Lists as lists
+use Rattle.sch_cli.specs.Lists.{EndsList, ListsSource}
 use Rattle.sch_cli.specs.LoneRuns.{HasNoExit}
 use Rattle.sch_cli.specs.Prints.{Generates, Prints, measured, not_measured, whole, in_part}
-use Rattle.sch_cli.specs.Refusals.{IsRefused}
+use Rattle.sch_cli.specs.Refusals.{IsOfText, IsRefused}
 use Rattle.sch_cli.specs.Files.{IsUnread}
 use Rattle.sch_cli.specs.Seen.{DiskChange, StreamChange}
 use Rattle.sch_cli.specs.Statuses.{end_status, status_number}
@@ -34,6 +39,7 @@ use Rattle.sch_cli.specs.declared.status.Status.{Status}
 use Rattle.sch_cli.specs.declared.status.Status.TheVariants.{Done, Usage, ReadFailed, WriteFailed, BadText, BadForm, Unbound, PastLimit, BadImage, StepsSpent, OutOfMemory, Stopped}
 use Rattle.sch_cli.specs.declared.failure.Failure.{Failure}
 use Rattle.sch_cli.specs.declared.failure.Failure.TheVariants as failure
+use Rattle.sch_cli.proofs.TextFailures.{refused_of_text}
 
 read_is_other : (e : ReadError) → status_number (read_status e) ≢ 8
 read_is_other (read.Unclosed at) e = cc
@@ -59,16 +65,19 @@ refusal_is_other (compiling.StackTooLarge words) e = cc
 refusal_is_other (compiling.TextTooLarge bytes) e = cc
 refusal_is_other compiling.Memory e = cc
 
+pub of_text_is_other : (why : Failure) → IsOfText why → status_number (failure_status why) ≢ 8
+of_text_is_other failure.TooLong h e = cc
+of_text_is_other (failure.Compile error) h e = refusal_is_other error e
+of_text_is_other failure.Memory h e = cc
+of_text_is_other failure.ReadFailed h e = h
+of_text_is_other failure.WriteFailed h e = h
+of_text_is_other failure.ListingFailed h e = h
+of_text_is_other (failure.Image error) h e = h
+of_text_is_other failure.StepsSpent h e = h
+of_text_is_other failure.OutputFailed h e = h
+
 pub refused_is_other : (text : List ℕ) (depth : ℕ) (why : Failure) → IsRefused text depth why → status_number (failure_status why) ≢ 8
-refused_is_other text depth failure.TooLong h e = cc
-refused_is_other text depth (failure.Compile error) h e = refusal_is_other error e
-refused_is_other text depth failure.Memory h e = cc
-refused_is_other text depth failure.ReadFailed h e = h
-refused_is_other text depth failure.WriteFailed h e = h
-refused_is_other text depth failure.ListingFailed h e = h
-refused_is_other text depth (failure.Image error) h e = h
-refused_is_other text depth failure.StepsSpent h e = h
-refused_is_other text depth failure.OutputFailed h e = h
+refused_is_other text depth why h = of_text_is_other why (refused_of_text text depth why h)
 
 -- a text that comes to no exit
 pub unended_is_other : (text : List ℕ) (heap depth steps : ℕ) (why : Failure) → HasNoExit text heap depth steps why → status_number (failure_status why) ≢ 8
@@ -142,3 +151,30 @@ unread_is_other name limit failure.OutputFailed disk h e = h
 pub generated_is_other : (number steps : ℕ) (out : StreamChange) (answer : Result ⊤ Failure) → Generates number steps out answer → status_number (done_status answer) ≢ 8
 generated_is_other number steps out answer (measured _ figures are prints) e = printed_is_other (figures_text figures) out answer prints e
 generated_is_other number steps out _ (not_measured why h nothing) e = unended_is_other (generated_text number) default_heap default_depth steps why h e
+
+-- ---- `compile` and `list`
+
+compiles_other : (source target : List ℕ) (listing : Option (List ℕ)) (heap depth : ℕ) (disk : DiskChange) (answer : Result ⊤ Failure)
+    → Compiles source target listing heap depth disk answer → status_number (done_status answer) ≢ 8
+compiles_other source target listing heap depth disk _ (compiles.written_all wrote calls) e = cc
+compiles_other source target listing heap depth disk _ (compiles.not_read failed unchanged calls) e = cc
+compiles_other source target listing heap depth disk _ (compiles.not_written failed has spoils calls) e = cc
+compiles_other source target listing heap depth disk _ (compiles.not_listed name is failed wrote calls) e = cc
+compiles_other source target listing heap depth disk _ (compiles.refused why of h unchanged calls) e = of_text_is_other why of e
+compiles_other source target listing heap depth disk _ (compiles.no_memory unchanged calls) e = cc
+
+pub compile_is_other : (source target : List ℕ) (listing : Option (List ℕ)) (heap depth status : ℕ) (disk : DiskChange) (err : StreamChange)
+    → EndsCompile source target listing heap depth status disk err → status ≢ 8
+compile_is_other source target listing heap depth status disk err ends e =
+    compiles_other source target listing heap depth disk ends.answer ends.compiles (sym ends.status_is ∙ e)
+
+lists_other : (name : List ℕ) (heap depth : ℕ) (disk : DiskChange) (out : StreamChange) (answer : Result ⊤ Failure)
+    → ListsSource name heap depth disk out answer → status_number (done_status answer) ≢ 8
+lists_other name heap depth disk out _ (lists.not_read failed nothing) e = cc
+lists_other name heap depth disk out _ (lists.no_memory nothing) e = cc
+lists_other name heap depth disk out _ (lists.refused why of h nothing) e = of_text_is_other why of e
+lists_other name heap depth disk out _ (lists.listed answer text file found made prints) e = printed_is_other (listing_text made.listing) out answer prints e
+
+pub list_is_other : (name : List ℕ) (heap depth status : ℕ) (disk : DiskChange) (err out : StreamChange)
+    → EndsList name heap depth status disk err out → status ≢ 8
+list_is_other name heap depth status disk err out ends e = lists_other name heap depth disk out ends.answer ends.lists (sym ends.status_is ∙ e)

@@ -18,10 +18,10 @@ abbrev disk_at : ℕ → DiskState
 disk_at faults = record { files = None; faults = faults; calls = 0 }
 
 -- a disk that did not fail, and one that did
-abbrev calm : DiskChange
+abbrev pub calm : DiskChange
 calm = record { before = disk_at 0; after = disk_at 0 }
 
-abbrev failed : DiskChange
+abbrev pub failed : DiskChange
 failed = record { before = disk_at 0; after = disk_at 1 }
 
 long_7 : Follows (Err TooLong) 7 calm
@@ -55,7 +55,7 @@ accepted_0 = inl (lit< tt)
 accepted_65 : Follows (Ok tt) 65 calm
 accepted_65 = inr (lit< tt)
 
-accepted_7 : Follows (Ok tt) 7 failed → ⊥
+pub accepted_7 : Follows (Ok tt) 7 failed → ⊥
 accepted_7 (inl l) = omega (arith, l)
 accepted_7 (inr l) = omega (arith, l)
 
@@ -78,10 +78,10 @@ one_file = insert empty (97 ∷ []) (41 ∷ [])
 abbrev telling : DiskState
 telling = record { files = Some one_file; faults = 0; calls = 0 }
 
-abbrev told : DiskChange
+abbrev pub told : DiskChange
 told = record { before = telling; after = telling }
 
-held : get one_file (97 ∷ []) ≡ Some (41 ∷ [])
+pub held : get one_file (97 ∷ []) ≡ Some (41 ∷ [])
 held = get-insert nat_list_cmp_total empty (97 ∷ []) (41 ∷ []) (97 ∷ [])
 
 -- the text of the source is that byte, and no other

@@ -55,13 +55,13 @@ module _ (disk : DiskChange) (source : List ℕ) where
       by (Some b) (Some a) t = f b a t
 
   -- from what its file is
-  told_is : (Is IsSo : List ℕ → Type 0) → FilesChange disk (λ before _. IsSomeAnd (get before source) Is) → ((text : List ℕ) → Is text → IsSo text) → TextIs disk source IsSo
+  pub told_is : (Is IsSo : List ℕ → Type 0) → FilesChange disk (λ before _. IsSomeAnd (get before source) Is) → ((text : List ℕ) → Is text → IsSo text) → TextIs disk source IsSo
   told_is Is IsSo change f =
       told (λ before _. IsSomeAnd (get before source) Is) IsSo change
       (λ before after is text e. f text (subst (λ found. IsSomeAnd found Is) e is))
 
   -- from nothing but that it is told
-  told_any : (IsSo : List ℕ → Type 0) → SameFiles disk → ((text : List ℕ) → IsSo text) → TextIs disk source IsSo
+  pub told_any : (IsSo : List ℕ → Type 0) → SameFiles disk → ((text : List ℕ) → IsSo text) → TextIs disk source IsSo
   told_any IsSo unchanged f = told (λ before after. after ≡ before) IsSo unchanged (λ before after is text e. f text)
 
 -- ---- verdicts

@@ -5,6 +5,7 @@ pub mod Executes
 pub mod Failures
 pub mod Figures
 pub mod Files
+pub mod Images
 pub mod Laws
 pub mod Lists
 pub mod LoneRuns

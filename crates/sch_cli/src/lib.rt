@@ -7,6 +7,7 @@ ghost use Rattle.sch_commands.specs.Command.{IfCompile, IfCount, IfGen, IfList, 
 ghost use Rattle.sch_commands.specs.CommandView.{command_of};
 ghost use Rattle.sch_cli.specs.Compiles.{EndsCompile};
 ghost use Rattle.sch_cli.specs.Counts.{EndsCount};
+ghost use Rattle.sch_cli.specs.Images.{FollowsImage, IsStep};
 ghost use Rattle.sch_cli.specs.Lists.{EndsList};
 ghost use Rattle.sch_cli.specs.Prints.{EndsGen};
 ghost use Rattle.sch_cli.specs.Messages.{Says, out_of_memory_line, usage_line};
@@ -130,6 +131,13 @@ pub fn schc<D: Disk, O: Outlet, E: Outlet>(
         FollowsSource source depth result (disk_change D.files D.faults D.calls disk.old disk.new)) }
     ensures figures_verdict { IfGen (command (map string_bytes words.now)) (λ number steps.
         FollowsNumber number result (disk_change D.files D.faults D.calls disk.old disk.new)) }
+
+    // Of `step` the status follows from the bytes of the file. It is 8 only of no more than 134,217,728 bytes, and of these only
+    // where they stand for no image, or for one that got stuck or exited with a status of no stop. No other verb ends with 8.
+    ensures step_verdict { IfStep (command (map string_bytes words.now)) (λ image steps.
+        FollowsImage image steps result (disk_change D.files D.faults D.calls disk.old disk.new)
+        (stream_change O.bytes O.left O.faults out.old out.new)) }
+    ensures step_alone { result ≡ 8 → IsStep (command (map string_bytes words.now)) }
 
     // A small source is compiled, and run, where the disk does not fail and there is memory.
     ensures compile_complete { IfCompile (command (map string_bytes words.now)) (λ source target listing heap depth.

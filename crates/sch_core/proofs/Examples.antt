@@ -1,4 +1,4 @@
--- Worked rows of the limits on variables: 1,000 of a body, and the first form that has more.
+-- Worked rows: the limits on variables, 1,000 of a body, and the first form that has more; names and drafts of definitions.
 use Rattle.std.proofs.Common.{◌≡◌, ℕ, [], ◌∷◌, Option, Some, None, true, false, refl}
 use Rattle.sch_word.specs.declared.constant.Const.TheVariants.{Nil}
 use Rattle.sch_lang.specs.Tree.{constant, lambda, no_expressions, and_expression}
@@ -8,6 +8,7 @@ use Rattle.sch_sketch.specs.Draft as draft
 use Rattle.sch_link_tables.specs.Programs.{Definition}
 use Rattle.sch_core.specs.Excess.{first_definition_excess}
 use Rattle.sch_core.specs.Excess.{excess, first_excess}
+use Rattle.sch_core.specs.LibraryDefinitions.{AreNamedProcedures}
 use Rattle.sch_core.specs.SmallDefinitions.{is_small}
 
 most_variables : excess 1000 (constant Nil) ≡ None
@@ -39,3 +40,16 @@ most_small = refl
 one_more_small : is_small (constant_of 332) ≡ false
 unfolding constant_of
 one_more_small = refl
+
+-- a name with the draft of a procedure, a draft that is none, a name that is not there, and a draft too many
+named_procedure : AreNamedProcedures (Some [] ∷ []) (draft.lambda 0 false (draft.constant Nil) ∷ [])
+named_procedure = (tt, tt)
+
+no_procedure : AreNamedProcedures (Some [] ∷ []) (draft.constant Nil ∷ []) → ⊥
+no_procedure h = h.0
+
+no_name : AreNamedProcedures (None ∷ []) (draft.lambda 0 false (draft.constant Nil) ∷ []) → ⊥
+no_name h = h
+
+no_more_names : AreNamedProcedures [] (draft.lambda 0 false (draft.constant Nil) ∷ []) → ⊥
+no_more_names h = h

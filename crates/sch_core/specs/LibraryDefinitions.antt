@@ -1,13 +1,13 @@
 -- A library whose definitions are drafts, and the names that it and a text may use.
-use Rattle.std.specs.Prelude.{◌≡◌, ◌≤◌, ◌*◌, ℕ, true, List, [], ◌∷◌, ◌++◌, map}
+use Rattle.std.specs.Prelude.{◌≡◌, ◌≤◌, ◌*◌, ℕ, true, List, [], ◌∷◌, ◌++◌, length, map, Some}
 use Rattle.sch_word.specs.trees.Shape.{max_levels}
 use Rattle.sch_read.specs.Valid.{max_weight}
 use Rattle.sch_names.specs.Scope.{is_among}
-use Rattle.sch_sketch.specs.Draft.{Draft, Drafts, lambda, no_drafts, and_draft}
+use Rattle.sch_sketch.specs.Draft.{Names, Draft, Drafts, lambda, no_drafts, and_draft}
 use Rattle.sch_link_tables.specs.Constants.{HasConstants}
 use Rattle.sch_link_tables.specs.Named.{own_global, library_global, globals_in, globals_in_each}
 use Rattle.sch_link_tables.specs.Programs.{Definition, names_of_each}
-use Rattle.sch_core.specs.SoundDrafts.{IsSound, levels}
+use Rattle.sch_core.specs.SoundDrafts.{IsProcedure, IsSound, levels}
 use Rattle.sch_core.specs.Excess.{AreFew}
 use Rattle.sch_core.specs.Quotable.{HasWords}
 use Rattle.sch_core.specs.SizesOfStatics.{statics_in_each}
@@ -19,6 +19,12 @@ procedure_of d = lambda d.formals d.rest d.body
 abbrev pub procedures_of_each : List Definition → Drafts
 procedures_of_each [] = no_drafts
 procedures_of_each (d ∷ ds) = and_draft (procedure_of d) (procedures_of_each ds)
+
+-- there is a name for each draft, and each draft is that of a procedure
+abbrev pub AreNamedProcedures : Names → List Draft → Type 0
+AreNamedProcedures [] [] = Unit {0}
+AreNamedProcedures (Some v ∷ vs) (e ∷ es) = IsProcedure e × AreNamedProcedures vs es
+AreNamedProcedures _ _ = ⊥
 
 -- a definition of a valid program: its procedure stands in no scope
 abbrev pub IsDefinition : Definition → Type 0
@@ -51,9 +57,10 @@ AreKnown ds own forms = AreAmong (map own_global own ++ map library_global (name
 -- ## Libraries
 
 -- A library of valid programs' definitions: its procedures are sound, each names itself and earlier ones alone, none
--- has too much of anything, and together they are small.
+-- has too much of anything, together they are small, and they are no more than the items of a text can be.
 pub record IsSoundLibrary (ds : List Definition) : Type 0 where
   pub sound : AreDefinitions ds
   pub ordered : AreOrdered [] ds
   pub few : AreFew ds
   pub small : statics_in_each (procedures_of_each ds) ≤ 2 * max_weight
+  pub few_definitions : length ds ≤ max_weight

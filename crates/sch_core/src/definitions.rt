@@ -1,15 +1,17 @@
 //! The definitions of a library's text.
 
-ghost use Rattle.std.specs.Prelude.{◌≡◌, ◌≤◌, ◌*◌, Some, map, IfOk, IfErr, MatchResult, List as Listed};
-ghost use Rattle.sch_names.specs.ScopeView.{one_name, given_names};
+ghost use Rattle.std.specs.Prelude.{◌≡◌, ◌≤◌, ◌*◌, true, Some, map, IfOk, IfErr, MatchResult, List as Listed};
+ghost use Rattle.sch_word.specs.trees.Shape.{max_operands};
+ghost use Rattle.sch_names.specs.ScopeView.{given_names};
 ghost use Rattle.sch_link_tables.specs.Programs as words;
 ghost use Rattle.sch_link_tables.specs.Programs.{names_of_each};
 ghost use Rattle.sch_link_program.specs.Definitions.{definition_of, definitions_of};
-ghost use Rattle.sch_link_program.specs.Size.{size_of_definitions};
+ghost use Rattle.sch_link_program.specs.Size.{size_of_definitions, have_few_formals};
 ghost use Rattle.sch_read.specs.Valid.{max_weight, weights};
 ghost use Rattle.sch_read.specs.Views.{data_of};
 ghost use Rattle.sch_sketch.specs.DraftView.{draft_of};
-ghost use Rattle.sch_core.specs.LibraryDefinitions.{procedure_of};
+ghost use Rattle.sch_core.specs.LibraryDefinitions.{procedure_of, AreNamedProcedures};
+ghost use Rattle.sch_core.specs.SoundDrafts.{IsProcedure};
 ghost use Rattle.sch_core.specs.Libraries.{IsLibraryOf, IsLibraryError};
 ghost use Rattle.sch_core.specs.Excess.{definition_excess, first_definition_excess};
 ghost use Rattle.sch_toplevel.specs.Items.{item_places};
@@ -21,7 +23,7 @@ use crate::quotable::are_quotable;
 use crate::small::is_small;
 use sch_link_drafts::{Numbers, number};
 use sch_link_program::Definition;
-use sch_link_tables::{Output, number_of_32};
+use sch_link_tables::Output;
 use sch_names::{Name, Names};
 use sch_read::Datum;
 use sch_sketch::Draft;
@@ -29,23 +31,20 @@ use sch_toplevel::{Items, read_items};
 use sch_word::{List, Mem};
 use std::alloc::Global;
 
-/// The definition of this name whose procedure is this draft. An item without a fault has a name and the draft of a
-/// procedure; what has neither is out of memory.
-fn definition<'a>(name: &Name<'a>, draft: Draft<'a>) -> Result<Definition<'a>, Mem>
-    ensures named { IfOk result (λ d. one_name name.now ≡ Some d.name.now) }
-    ensures made { IfOk result (λ d. draft_of draft.entry ≡ procedure_of (definition_of d)) }
+/// The definition of this name whose procedure is this draft.
+fn definition<'a>(name: &'a [u8], draft: Draft<'a>) -> Definition<'a>
+    requires procedure { IsProcedure (draft_of draft) }
+    ensures named { result.name.now ≡ name.now }
+    ensures made { draft_of draft.entry ≡ procedure_of (definition_of result) }
 {
-    let Some(name) = *name else {
-        return Err(Mem);
-    };
     match draft {
-        Draft::Lambda(formals, rest, body) => Ok(Definition {
+        Draft::Lambda(formals, rest, body) => Definition {
             name,
             formals,
             rest,
             body: Box::into_inner(body),
-        }),
-        _ => Err(Mem),
+        },
+        _ => unreachable!(),
     }
 }
 
@@ -55,6 +54,7 @@ fn definitions<'a>(
     names: &[Name<'a>],
     drafts: List<Draft<'a>>,
 ) -> Result<List<Definition<'a>>, Mem>
+    requires whole { AreNamedProcedures (given_names names.now) (map draft_of drafts) }
     ensures named { IfOk result (λ ds. given_names names.now ≡ map Some (names_of_each (definitions_of ds))) }
     ensures made { IfOk result (λ ds. map draft_of drafts.entry ≡ map procedure_of (definitions_of ds)) }
 {
@@ -63,21 +63,21 @@ fn definitions<'a>(
     let mut left = List::from_vec(items);
     let mut all = List::new(alloc);
     for name in names {
-        let Some(draft) = left.pop() else {
-            return Err(Mem);
+        let Some(name) = *name else {
+            unreachable!();
         };
-        let d = definition(name, draft)?;
-        all.push(d)?;
+        let Some(draft) = left.pop() else {
+            unreachable!();
+        };
+        all.push(definition(name, draft))?;
     }
-    if left.is_empty() {
-        return Ok(all);
-    }
-    Err(Mem)
+    Ok(all)
 }
 
 /// What the procedure of a definition has too much of. A small one has too much of nothing; any other is numbered to be
 /// counted, where the numbers of globals, symbols, sites and literals are all one.
 fn definition_excess(alloc: Global, d: &Definition<'_>) -> Result<Option<Kind>, Mem>
+    requires formals { d.now.formals ≤ max_operands }
     ensures { IfOk result (λ kind. kind ≡ definition_excess (definition_of d.now)) }
 {
     if is_small(d) {
@@ -91,8 +91,7 @@ fn definition_excess(alloc: Global, d: &Definition<'_>) -> Result<Option<Kind>, 
     };
     let mut out = Output::new(alloc);
     let body = number(alloc, &numbers, None, &d.body, &mut out)?;
-    let formals = number_of_32(d.formals)?;
-    excess(alloc, formals, &body)
+    excess(alloc, d.formals as u32, &body)
 }
 
 /// The first definition that has too much of something, and the place of its item.
@@ -101,6 +100,7 @@ fn first_definition_excess(
     items: &[Datum],
     definitions: &[Definition<'_>],
 ) -> Result<Option<(Kind, u32)>, Mem>
+    requires formals { have_few_formals (definitions_of definitions.now) ≡ true }
     ensures { IfOk result (λ found. found ≡ first_definition_excess (item_places (data_of items.now)) (definitions_of definitions.now)) }
 {
     let n = items.len().min(definitions.len());

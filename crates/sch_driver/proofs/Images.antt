@@ -16,7 +16,7 @@ use Rattle.sch_asm.specs.declared.error.AsmError.{AsmError}
 use Rattle.sch_asm.specs.declared.error.AsmError.TheVariants.{TextTooLarge, Memory}
 use Rattle.sch_asm.specs.declared.item.Item.{Item}
 use Rattle.sch_asm.specs.declared.item.Mark.{Mark}
-use Rattle.sch_asm.specs.Codes.{AreResolved, Codes, text_size, IsTooLarge}
+use Rattle.sch_asm.specs.Codes.{AreResolved, Codes, instructions_in, text_size, IsTooLarge}
 use Rattle.sch_asm.specs.Pieces.{shortest_size}
 use Rattle.sch_asm.specs.Data.{data_at}
 use Rattle.sch_asm.specs.Effects.{AreEffective}
@@ -48,7 +48,7 @@ use Rattle.sch_registers.specs.Registers.{registers_code, registers_words}
 use Rattle.sch_select.specs.Follows.{AreRuns, EndsFrames, EntersFrames, FollowsFrames, PassesFrames, TakesFrames}
 use Rattle.sch_select.specs.Marks.{CountsEntries, PassesMarks, TakesWays, marks_passed}
 use Rattle.sch_select.specs.Program.{frames_bytes, max_stack, program_code, program_zeros}
-use Rattle.sch_select.specs.Sizes.{instructions_in, steps_bound, steps_size}
+use Rattle.sch_select.specs.Sizes.{steps_bound, steps_size}
 use Rattle.sch_lang.specs.Bodies as bodies
 use Rattle.sch_lang.specs.Measures as core
 use Rattle.sch_lang.specs.Tree as lang

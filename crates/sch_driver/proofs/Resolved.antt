@@ -8,24 +8,12 @@ use Rattle.sch_asm.specs.declared.item.Item.{Item}
 use Rattle.sch_asm.specs.declared.item.Item.TheVariants.{Label, Plain, Jump, JumpIf, LoadLabel, LoadWord, StoreWord, Mark}
 use Rattle.sch_asm.specs.declared.item.Mark as mark
 use Rattle.sch_word.specs.declared.mark.MarkKind.{MarkKind}
-use Rattle.sch_asm.specs.Codes.{AreResolved, Codes}
+use Rattle.sch_asm.specs.Codes.{AreResolved, Codes, instructions_in}
+use Rattle.sch_asm.proofs.AsMany.{as_many}
 use Rattle.sch_runtime.specs.Code.{routine_items}
-use Rattle.sch_select.specs.Sizes.{instructions_in, kinds_in}
+use Rattle.sch_select.specs.Sizes.{kinds_in}
 
 -- ---- instructions
-
-module _ (place_of : ℕ → ℕ) where
-  codes_count : (a : ℕ) (is : List Item) (code : List Insn) (marks : List mark.Mark) → Codes place_of a is code marks
-      → length code ≡ instructions_in is
-  codes_count a [] code marks c = ap length c.0
-  codes_count a (Label l ∷ is) code marks c = codes_count a is code marks c.1
-  codes_count a (Mark m ∷ is) code marks c = codes_count a is code c.0 c.2
-  codes_count a (Plain i ∷ is) code marks c = ap length c.1 ∙ ap suc (codes_count (a + length (spelling i)) is c.0 marks c.2)
-  codes_count a (Jump l ∷ is) code marks c = ap length c.2 ∙ ap suc (codes_count (a + length (spelling c.0)) is c.1 marks c.4)
-  codes_count a (JumpIf k l ∷ is) code marks c = ap length c.2 ∙ ap suc (codes_count (a + length (spelling c.0)) is c.1 marks c.4)
-  codes_count a (LoadLabel r l ∷ is) code marks c = ap length c.2 ∙ ap suc (codes_count (a + 7) is c.1 marks c.4)
-  codes_count a (LoadWord r l ∷ is) code marks c = ap length c.2 ∙ ap suc (codes_count (a + 7) is c.1 marks c.4)
-  codes_count a (StoreWord l r ∷ is) code marks c = ap length c.2 ∙ ap suc (codes_count (a + 7) is c.1 marks c.4)
 
 both_count : (is more : List Item) → instructions_in (is ++ more) ≡ instructions_in is + instructions_in more
 both_count [] more = omega arith
@@ -46,7 +34,7 @@ routines_count = refl
 pub resolved_many : (is routines : List Item) (data_words : List Word) (code : List Insn) (marks : List mark.Mark) (words : List ℕ) → routines ≡ routine_items
     → AreResolved (is ++ routines) data_words code marks words → suc (instructions_in is) ≤ length code
 resolved_many is routines data_words code marks words are r =
-    let all = codes_count r.place_of text_address (is ++ routines) code marks r.codes in
+    let all = as_many r.place_of text_address (is ++ routines) code marks r.codes in
     let both = both_count is routines in
     let own = ap instructions_in are ∙ routines_count in
     omega (arith, all, both, own)

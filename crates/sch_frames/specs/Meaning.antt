@@ -1,5 +1,5 @@
 -- What a body does: its instructions in their order, over the places of a frame.
-use Rattle.std.specs.Prelude.{ℕ, zero, suc, Bool, true, false, cond, nat_eq, List, [], ◌∷◌, ◌++◌, length, map, Option, Some, None, slice_get}
+use Rattle.std.specs.Prelude.{ℕ, zero, suc, ◌+◌, ◌-◌, Bool, true, false, cond, nat_eq, List, [], ◌∷◌, ◌++◌, length, map, Option, Some, None, slice_get}
 use Rattle.sch_word.specs.declared.place.Place.{Place}
 use Rattle.sch_word.specs.declared.place.Place.TheVariants.{Reg, Slot}
 use Rattle.sch_word.specs.declared.mark.MarkKind.TheVariants.{Spill}
@@ -51,8 +51,7 @@ argument_register k = slice_get argument_registers k
 
 -- the slot for an operand that is handed over in none
 abbrev pub argument_slot : ℕ → ℕ
-argument_slot (suc (suc (suc (suc (suc (suc k)))))) = k
-argument_slot k = zero
+argument_slot k = k - length argument_registers
 
 -- ## What a place holds
 
@@ -172,7 +171,7 @@ arrived_in (q ∷ registers) k vs r = cond (nat_eq r q) (cell_of (slice_get vs k
 -- what the places hold where a procedure is entered
 abbrev pub entry_places : Value → List Value → Place → Cell
 entry_places self vs (Reg r) = cond (nat_eq r LINK_REGISTER) Link (cond (nat_eq r CLOSURE_REGISTER) (Is self) (arrived_in argument_registers 0 vs r))
-entry_places self vs (Slot j) = cell_of (slice_get vs (suc (suc (suc (suc (suc (suc j)))))))
+entry_places self vs (Slot j) = cell_of (slice_get vs (length argument_registers + j))
 
 -- the frame in which a body begins
 abbrev pub beginning : Option Entry → Value → List Value → Frame

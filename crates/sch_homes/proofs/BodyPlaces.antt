@@ -1,6 +1,6 @@
 -- Variables whose places differ lie apart in the frame, and what a body is entered with comes where nothing else stands.
 use Rattle.std.proofs.Common.{◌≡◌, ◌≢◌, ℕ, zero, suc, ◌+◌, ◌<◌, ◌≤◌, List, [], ◌∷◌, length, Option, Some, Bool, true, false, cond, refl, sym, ap, ◌∙◌, subst, arith}
-use Rattle.std.specs.Prelude.{nat_lt, slice_get}
+use Rattle.std.specs.Prelude.{◌-◌, nat_lt, slice_get}
 use Rattle.std.proofs.lemmas.Bool.{eqb-true}
 use Rattle.sch_word.proofs.facts.Booleans.{false_true}
 use Rattle.sch_word.specs.declared.place.Place.{Place}
@@ -35,7 +35,9 @@ arrival_same (suc (suc zero)) = refl
 arrival_same (suc (suc (suc zero))) = refl
 arrival_same (suc (suc (suc (suc zero)))) = refl
 arrival_same (suc (suc (suc (suc (suc zero))))) = refl
-arrival_same (suc (suc (suc (suc (suc (suc k)))))) = refl
+arrival_same (suc (suc (suc (suc (suc (suc k)))))) = ap Slot behind where
+  behind : k ≡ suc (suc (suc (suc (suc (suc k))))) - 6
+  behind = omega arith
 
 module _ (entry : Option Entry) (e : Expression) (places : List Place) where
   pub place_is : (x : ℕ) → x < length places → place entry e places x ≡ place_of places x

@@ -3,6 +3,7 @@ use Rattle.std.proofs.Common.{◌≡◌, ℕ, suc, ◌+◌, ◌-◌, ◌<◌, �
 use Rattle.std.proofs.Math.Nat.{le-max_left, le-max_right, max-le}
 use Rattle.sch_word.specs.trees.Shape.{max_operands}
 use Rattle.sch_word.specs.declared.place.Place.{Place}
+use Rattle.sch_word.specs.values.Registers.{argument_registers}
 use Rattle.sch_control.specs.declared.body.Entry.{Entry}
 use Rattle.sch_control.specs.declared.operation.Application.{Application}
 use Rattle.sch_control.specs.AtomsAndSites.{application_atoms}
@@ -28,7 +29,7 @@ use Rattle.sch_homes.proofs.SpareTemporaries.{IsTemporary, at_register, at_slot,
 module _ (used : ℕ) (lives : ℕ → Place) where
   pub call_before : (tail : Bool) (a : Application ℕ) → used ≤ call_end used lives tail a
   call_before tail a =
-      let l = le-max_left used (length a.operands - 6) in
+      let l = le-max_left used (length a.operands - length argument_registers) in
       let m = end_least (first_temporary used (length a.operands)) (call_moves used lives tail a) in
       omega (arith, l, m)
 

@@ -8,6 +8,7 @@ use Rattle.std.proofs.lemmas.Bool.{and_parts, cases_eq, ltb-false, ltb-true, ne_
 use Rattle.sch_word.proofs.facts.Booleans.{false_true, not_left, not_right, not_true}
 use Rattle.sch_word.specs.declared.place.Place.{Place}
 use Rattle.sch_word.specs.declared.place.Place.TheVariants.{Reg, Slot}
+use Rattle.sch_word.specs.values.Registers.{argument_registers}
 use Rattle.sch_control.specs.declared.operation.Application.{Application}
 use Rattle.sch_control.specs.declared.operation.Atom.{Atom}
 use Rattle.sch_control.specs.declared.operation.Atom.TheVariants.{Constant, Literal, Variable}
@@ -42,11 +43,11 @@ slot_target tail (suc (suc (suc zero))) le = absurd (omega (arith, le))
 slot_target tail (suc (suc (suc (suc zero)))) le = absurd (omega (arith, le))
 slot_target tail (suc (suc (suc (suc (suc zero))))) le = absurd (omega (arith, le))
 slot_target tail (suc (suc (suc (suc (suc (suc zero)))))) le = absurd (omega (arith, le))
-slot_target true (suc (suc (suc (suc (suc (suc (suc k))))))) le = (k, (refl, inl (refl, omega arith)))
-slot_target false (suc (suc (suc (suc (suc (suc (suc k))))))) le = (next_frame + k, (refl, inr (omega arith)))
+slot_target true (suc (suc (suc (suc (suc (suc (suc k))))))) le = (suc (suc (suc (suc (suc (suc k))))) - 6, (refl, inl (refl, omega arith)))
+slot_target false (suc (suc (suc (suc (suc (suc (suc k))))))) le = (next_frame + (suc (suc (suc (suc (suc (suc k))))) - 6), (refl, inr (omega arith)))
 
 -- a slot behind those that a tail call hands over in, and before those of the next frame, is none
-target_off : (tail : Bool) (k m operands : ℕ) → k < suc operands → operands - 6 ≤ m → m < next_frame → same_place (target tail next_frame k) (Slot m) ≡ false
+target_off : (tail : Bool) (k m operands : ℕ) → k < suc operands → operands - length argument_registers ≤ m → m < next_frame → same_place (target tail next_frame k) (Slot m) ≡ false
 target_off tail zero m operands lt le low = refl
 target_off tail (suc zero) m operands lt le low = by tail where
   by : (tail : Bool) → same_place (target tail next_frame 1) (Slot m) ≡ false
@@ -72,8 +73,8 @@ target_off tail (suc (suc (suc (suc (suc (suc zero)))))) m operands lt le low = 
   by : (tail : Bool) → same_place (target tail next_frame 6) (Slot m) ≡ false
   by true = refl
   by false = refl
-target_off true (suc (suc (suc (suc (suc (suc (suc k))))))) m operands lt le low = ne_eqb k m (λ e. omega (arith, e, lt, le))
-target_off false (suc (suc (suc (suc (suc (suc (suc k))))))) m operands lt le low = ne_eqb (next_frame + k) m (λ e. omega (arith, e, low))
+target_off true (suc (suc (suc (suc (suc (suc (suc k))))))) m operands lt le low = ne_eqb (suc (suc (suc (suc (suc (suc k))))) - 6) m (λ e. omega (arith, e, lt, le))
+target_off false (suc (suc (suc (suc (suc (suc (suc k))))))) m operands lt le low = ne_eqb (next_frame + (suc (suc (suc (suc (suc (suc k))))) - 6)) m (λ e. omega (arith, e, low))
 
 module _ (tail : Bool) (count : ℕ) where
   pub target_at : (k : ℕ) → k < count → place_at (targets tail count) k ≡ target tail next_frame k
@@ -178,8 +179,8 @@ module _ (end low : ℕ) (lives : ℕ → Place) (Low : ℕ → Type 0) (below :
     slot_spare : (m : ℕ) → first ≤ m → m < next_frame → IsSpare args places (Slot m)
     slot_spare m le lt i h =
         let c = args_count in
-        let left = le-max_left end (operands - 6) in
-        let right = le-max_right end (operands - 6) in (
+        let left = le-max_left end (operands - length argument_registers) in
+        let right = le-max_right end (operands - length argument_registers) in (
           not_there _ _ (ap (λ q. same_place q (Slot m)) (target_at tail (suc operands) i (omega (arith, h, c))) ∙ target_off tail i m operands (omega (arith, h, c)) (omega (arith, right, le)) lt),
           call_unused lives Low (Slot m) (lives_off m (omega (arith, more, left, le))) a reads i,
         )

@@ -118,7 +118,7 @@ module _ (entry : Option Entry) (e : Expression) (places : List Place) (room : H
       by : IsTemporary test first u → P (place_at free u)
       by (register q i t h) = subst P (sym (at ∙ at_register test first u q i)) (r q h)
       by (slot le i) =
-          let l = le-max_left end (length a.operands - 6) in
+          let l = le-max_left end (length a.operands - length argument_registers) in
           let n = less in
           let m = first_fits in
           subst P (sym (at ∙ at_slot test first u i)) (s (first + (u - length (spare_registers (call_arguments lives a) (call_targets tail a)))) (omega (arith, l)) (omega (arith, n, m)))

@@ -6,6 +6,7 @@ use Rattle.std.proofs.lemmas.Bool.{and_parts, leb-true, ltb-false, ltb-true}
 use Rattle.sch_word.specs.declared.place.Place.{Place}
 use Rattle.sch_word.specs.declared.place.Place.TheVariants.{Reg, Slot}
 use Rattle.sch_word.specs.trees.Shape.{max_operands}
+use Rattle.sch_word.specs.values.Registers.{argument_registers}
 use Rattle.sch_control.specs.declared.body.Entry.{Entry}
 use Rattle.sch_control.specs.Tree as control
 use Rattle.sch_control.specs.Tree.{Expression, perform, bind, sequence, branch, fix, call, tail_call, return, end, save}
@@ -154,20 +155,20 @@ module _ (c : control.Code) (e : Expression) (places : List Place) (p : IsPlaced
 
   -- the formals that arrive in slots live there
   late_few : late_slots c.entry ≤ count_slots places
-  late_few = by (nat_lt 6 (formals_of c.entry)) refl where
-    late : (k : ℕ) → k < late_slots c.entry → in_slot (place_of places (8 + k)) ≡ true
+  late_few = by (nat_lt (length argument_registers) (formals_of c.entry)) refl where
+    late : (k : ℕ) → k < late_slots c.entry → in_slot (place_of places (2 + length argument_registers + k)) ≡ true
     late k lt =
-        let two : 2 + (6 + k) ≡ 8 + k = omega arith in
-        let six : suc (suc (suc (suc (suc (suc k))))) ≡ 6 + k = omega arith in
-        subst (λ n. in_slot (place_of places n) ≡ true) two
-        (in_slot_by k (place_of places (2 + (6 + k))) (subst (λ n. stays (arrival n) (place_of places (2 + (6 + k))) ≡ true) (sym six) (p.formals (6 + k) (omega (arith, lt)))))
+        let behind : 2 + (length argument_registers + k) ≡ 2 + length argument_registers + k = omega arith in
+        let past : suc (suc (suc (suc (suc (suc k))))) ≡ length argument_registers + k = omega arith in
+        subst (λ n. in_slot (place_of places n) ≡ true) behind
+        (in_slot_by k (place_of places (2 + (length argument_registers + k))) (subst (λ n. stays (arrival n) (place_of places (2 + (length argument_registers + k))) ≡ true) (sym past) (p.formals (length argument_registers + k) (omega (arith, lt)))))
 
-    by : (t : Bool) → nat_lt 6 (formals_of c.entry) ≡ t → late_slots c.entry ≤ count_slots places
+    by : (t : Bool) → nat_lt (length argument_registers) (formals_of c.entry) ≡ t → late_slots c.entry ≤ count_slots places
     by true h =
         let first = first_there in
-        let more : 6 < formals_of c.entry = ltb-true 6 (formals_of c.entry) h in
-        slots_from 8 places (late_slots c.entry) (omega (arith, first, more)) late
-    by false h = let few : formals_of c.entry ≤ 6 = ltb-false 6 (formals_of c.entry) h in omega (arith, few)
+        let more : length argument_registers < formals_of c.entry = ltb-true (length argument_registers) (formals_of c.entry) h in
+        slots_from (2 + length argument_registers) places (late_slots c.entry) (omega (arith, first, more)) late
+    by false h = let few : formals_of c.entry ≤ length argument_registers = ltb-false (length argument_registers) (formals_of c.entry) h in omega (arith, few)
 
   -- the return address lives in a register
   one_more : suc (count_slots places) ≤ length places

@@ -143,9 +143,9 @@ module _ (c : control.Code) (e : Expression) (places : List Place) (p : IsPlaced
     limit_more : words ≤ next_frame
     limit_more = let fit = words_fit c e places p in omega (arith, fit)
 
-    handed : length a.operands ≤ 6 + words
+    handed : length a.operands ≤ length argument_registers + words
     handed =
-        let l = le-max_right (homes_end c.entry e places) (length a.operands - 6) in
+        let l = le-max_right (homes_end c.entry e places) (length a.operands - length argument_registers) in
         let m = end_least (first_temporary (homes_end c.entry e places) (length a.operands)) (call_moves (homes_end c.entry e places) lives tail a) in
         omega (arith, l, m, within)
 
@@ -233,7 +233,7 @@ module _ (c : control.Code) (e : Expression) (places : List Place) (p : IsPlaced
       let end = late_before_end (late_slots c.entry) places in
       let most = homes_before c e places p in
       and_from _ _ (le-leb words 2048 (omega (arith, fit)))
-      (and_from _ _ (le-leb (formals_of c.entry) (6 + words) (omega (arith, end, most)))
+      (and_from _ _ (le-leb (formals_of c.entry) (length argument_registers + words) (omega (arith, end, most)))
       (entering_passes plan (instruction_placed words) (placed_steers words) c.entry copies _ laid_placed))
 
   pub code_forward : forward (labels e) (homes_code c.entry e places).instructions ≡ true

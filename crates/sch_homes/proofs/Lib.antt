@@ -26,5 +26,7 @@ pub mod ShuffledMoves
 pub mod SlotsApart
 pub mod SoonSaved
 pub mod SpareTemporaries
+pub mod StraightArguments
+pub mod StraightCalls
 pub mod TablePlan
 pub mod WholeFrame

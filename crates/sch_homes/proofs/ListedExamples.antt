@@ -8,7 +8,7 @@ use Rattle.sch_control.proofs.Examples.{applied, held_in}
 use Rattle.sch_orders.specs.declared.listed_call.ListedCall.{ListedCall}
 use Rattle.sch_orders.specs.ListedCalls.{listed_calls}
 use Rattle.sch_homes.specs.HomeTable.{place_in}
-use Rattle.sch_homes.specs.ListedMoves.{listed_call}
+use Rattle.sch_homes.specs.ListedMoves.{listed_call, straight_call}
 
 -- variables 2 to 4 live where the first three operands arrive
 abbrev lives : ℕ → Place
@@ -16,6 +16,13 @@ lives = place_in (Reg 15 ∷ Reg 14 ∷ Reg 3 ∷ Reg 8 ∷ Reg 9 ∷ [])
 
 abbrev listed : (site : ℕ) → (order : List ℕ) → List (List Place) → ListedCall
 listed site order cycles = record { site = site; order = order; cycles = cycles }
+
+-- each operand stands where it is wanted: it is a straight call, and listed as one
+standing_row : listed_call 5 lives false (applied 7 (held_in 1) (held_in 2 ∷ held_in 3 ∷ [])) ≡ listed 7 (0 ∷ 1 ∷ 2 ∷ []) []
+standing_row = refl
+
+straight_row : straight_call (applied 7 (held_in 1) (held_in 2 ∷ held_in 3 ∷ [])) ≡ listed 7 (0 ∷ 1 ∷ 2 ∷ []) []
+straight_row = refl
 
 -- two operands that change places: one cycle
 swap_row : listed_call 5 lives true (applied 7 (held_in 1) (held_in 3 ∷ held_in 2 ∷ [])) ≡ listed 7 (0 ∷ 1 ∷ 2 ∷ []) ((Reg 3 ∷ Reg 8 ∷ []) ∷ [])

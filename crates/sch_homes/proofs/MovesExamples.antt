@@ -19,6 +19,8 @@ use Rattle.sch_shuffle.specs.Tree.{fixed, literal, place, read, trees}
 use Rattle.sch_homes.specs.CallMoves.{aside_end, call_end, call_free, call_moves, first_temporary, is_spare, move_of, next_frame, operand_tree, slot_end, spare_registers, taken, targets, temporaries}
 use Rattle.sch_homes.specs.Homes.{calls_end}
 use Rattle.sch_homes.specs.HomeTable.{place_in}
+use Rattle.sch_homes.specs.StraightCalls.{are_apart, keeps_off, uses_other}
+use Rattle.sch_homes.specs.StraightCalls as apart
 
 -- variables 2 to 7 live where the first six operands arrive, 8 and 9 in slots
 abbrev lives : ℕ → Place
@@ -82,6 +84,13 @@ straight_laid = refl
 straight_end : call_end 5 lives false straight ≡ 5
 straight_end = refl
 
+-- no argument uses the target of another one
+straight_apart : (uses_other false 1 (operand_tree (held_in (Reg 3))) 1 ≡ false) × (keeps_off false 3 0 (operand_tree (held_in (Reg 9))) ≡ true) × (are_apart lives false straight ≡ true)
+straight_apart = (refl, refl, refl)
+
+straight_list : apart.straight_moves lives false straight ≡ call_moves 5 lives false straight
+straight_list = refl
+
 -- ## A swap in a tail call
 
 -- `(f y x)`: one of them by way of R9
@@ -98,6 +107,10 @@ swap_laid = refl
 
 swap_end : call_end 5 lives true swap ≡ 5
 swap_end = refl
+
+-- each of the two uses the target of the other
+swap_apart : (uses_other true 1 (operand_tree (held_in (Reg 8))) 2 ≡ true) × (keeps_off true 3 1 (operand_tree (held_in (Reg 8))) ≡ false) × (are_apart lives true swap ≡ false)
+swap_apart = (refl, refl, refl)
 
 -- ## Seven operands: the last goes to a slot
 

@@ -10,9 +10,16 @@ numbers_more : (count from : ℕ) → numbers from (suc count) ≡ numbers from 
 numbers_more zero from = ap (λ n. n ∷ []) (omega arith)
 numbers_more (suc count) from = let same : suc from + count ≡ from + suc count = omega arith in ap (λ ns. from ∷ ns) (numbers_more count (suc from) ∙ ap (λ n. numbers (suc from) count ++ n ∷ []) same)
 
-module _ (f : ℕ → Place) where
+-- the numbers from zero on, with one more
+pub one_more : (k : ℕ) (before after : List ℕ) → before ≡ numbers 0 k → after ≡ before ++ k ∷ [] → after ≡ numbers 0 (k + 1)
+one_more k before after b a =
+    let n : k + 1 ≡ suc k = omega arith in
+    let z : 0 + k ≡ k = omega arith in
+    a ∙ (ap (λ ks. ks ++ k ∷ []) b ∙ (ap (λ j. numbers 0 k ++ j ∷ []) (sym z) ∙ (sym (numbers_more k 0) ∙ ap (numbers 0) (sym n))))
+
+module _ {A : Type 0} (f : ℕ → A) where
   -- with one number more
-  pub map_more : (k : ℕ) (before after : List Place) (p : Place) → before ≡ map f (numbers 0 k) → after ≡ before ++ p ∷ [] → p ≡ f k → after ≡ map f (numbers 0 (k + 1))
+  pub map_more : (k : ℕ) (before after : List A) (p : A) → before ≡ map f (numbers 0 k) → after ≡ before ++ p ∷ [] → p ≡ f k → after ≡ map f (numbers 0 (k + 1))
   map_more k before after p b a e =
       let n : k + 1 ≡ suc k = omega arith in
       let z : 0 + k ≡ k = omega arith in
@@ -22,6 +29,7 @@ module _ (f : ℕ → Place) where
   pub map_length : (k : ℕ) → length (map f (numbers 0 k)) ≡ k
   map_length k = length-map (numbers 0 k) f ∙ numbers_length 0 k
 
+module _ (f : ℕ → Place) where
   mapped_at : (count from k : ℕ) → k < count → place_at (map f (numbers from count)) k ≡ f (from + k)
   mapped_at zero from k lt = absurd (omega (arith, lt))
   mapped_at (suc count) from zero lt = ap f (omega arith)

@@ -73,7 +73,7 @@ temporaries places first count = map (temporary places first) (numbers 0 count)
 
 -- The slots of temporaries begin behind others that are in use, and behind those in which a tail call hands operands over.
 abbrev pub first_temporary : (end operands : ℕ) → ℕ
-first_temporary end operands = max end (operands - 6)
+first_temporary end operands = max end (operands - length argument_registers)
 
 -- ## Calls
 

@@ -4,6 +4,7 @@ use Rattle.std.specs.Prelude.{ℕ, zero, suc, ◌+◌, ◌-◌, max, Bool, true,
 use Rattle.sch_word.specs.declared.place.Place.{Place}
 use Rattle.sch_word.specs.declared.place.Place.TheVariants.{Reg, Slot}
 use Rattle.sch_word.specs.trees.NumberSets.{has}
+use Rattle.sch_word.specs.values.Registers.{argument_registers}
 use Rattle.sch_control.specs.declared.body.Entry.{Entry}
 use Rattle.sch_control.specs.Meaning.{no_region}
 use Rattle.sch_control.specs.Tree.{Expression, perform, bind, sequence, branch, fix, call, tail_call, return, end, save}
@@ -14,9 +15,9 @@ use Rattle.sch_homes.specs.CallMoves.{call_end, call_moves, next_frame}
 
 -- ## The slots of variables
 
--- in how many slots arguments arrive: in as many as there are formals past the sixth
+-- in how many slots arguments arrive: in as many as there are formals that have no register
 abbrev pub late_slots : Option Entry → ℕ
-late_slots entry = formals_of entry - 6
+late_slots entry = formals_of entry - length argument_registers
 
 -- where a variable lives; what is no variable of the body lives in no slot of its frame
 abbrev pub lives_in : Option Place → Place

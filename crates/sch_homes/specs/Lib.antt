@@ -5,4 +5,5 @@ pub mod Homes
 pub mod Laws
 pub mod ListedMoves
 pub mod RestoresLive
+pub mod StraightCalls
 pub mod View

@@ -1,6 +1,7 @@
 -- What is listed of the moves of a body's calls: in which order each moves its arguments first, and which places go round.
-use Rattle.std.specs.Prelude.{ℕ, suc, Bool, List, length, map, Option, take}
+use Rattle.std.specs.Prelude.{ℕ, suc, Bool, List, [], length, map, Option, take}
 use Rattle.sch_word.specs.declared.place.Place.{Place}
+use Rattle.sch_word.specs.trees.Bindings.{numbers}
 use Rattle.sch_control.specs.declared.body.Entry.{Entry}
 use Rattle.sch_control.specs.declared.operation.Application.{Application}
 use Rattle.sch_control.specs.Tree.{Expression}
@@ -21,6 +22,10 @@ listed_call end lives tail a = record {
   order = first_moves end lives tail a;
   cycles = cycles (call_arguments lives a) (call_targets tail a);
 }
+
+-- where no argument uses the target of another one
+abbrev pub straight_call : Application ℕ → ListedCall
+straight_call a = record { site = a.site; order = numbers 0 (suc (length a.operands)); cycles = [] }
 
 -- the calls of a body in the order of its tree
 abbrev pub homes_calls : Option Entry → Expression → List Place → List ListedCall

@@ -11,6 +11,7 @@ ghost use Rattle.sch_homes.specs.HomeTable.{place_in};
 
 use crate::call_arguments::arguments;
 use crate::frame_places::FramePlaces;
+use crate::straight_calls::{are_apart, straight_moves};
 use crate::temporaries::{first_temporary, larger, spare_registers, targets, temporaries};
 use sch_control::{Application, Atom, Operand};
 use sch_shuffle::{Move as Step, Operand as Argument, make_moves};
@@ -29,7 +30,7 @@ pub(crate) fn short(n: usize) -> Result<u32, Mem>
 }
 
 /// An argument of a call by its number. Past the last one there is nothing.
-fn argument_of(
+pub(crate) fn argument_of(
     alloc: Global,
     lives: &FramePlaces<'_>,
     a: &Application<u32>,
@@ -97,11 +98,8 @@ fn moves_from(
     Ok(moves)
 }
 
-/// The moves of a call, whose arguments are set aside in registers that are spare, and in slots that are not in use. These end
-/// at `end`.
-///
-/// The time grows with the square of the number of arguments.
-pub(crate) fn call_moves(
+/// The moves of a call by a shuffle, whatever its arguments use.
+fn shuffled_moves(
     alloc: Global,
     lives: &FramePlaces<'_>,
     end: u32,
@@ -119,6 +117,26 @@ pub(crate) fn call_moves(
     let free = temporaries(alloc, spare.as_slice(), first, count)?;
     let steps = make_moves(alloc, args.as_slice(), targets.as_slice(), free.as_slice())?;
     moves_from(alloc, lives, a, steps.as_slice())
+}
+
+/// The moves of a call, whose arguments are set aside in registers that are spare, and in slots that are not in use. These end
+/// at `end`.
+///
+/// The time grows with the square of the number of arguments. Where no argument uses the target of another one, nothing is set
+/// aside and there is nothing to shuffle.
+pub(crate) fn call_moves(
+    alloc: Global,
+    lives: &FramePlaces<'_>,
+    end: u32,
+    tail: bool,
+    a: &Application<u32>,
+) -> Result<List<Move>, Mem>
+    ensures { IfOk result (λ moves. moves_of moves ≡ calls.call_moves end (place_in lives.now.places.now) tail a.now) }
+{
+    if are_apart(lives, tail, a)? {
+        return straight_moves(alloc, lives, tail, a);
+    }
+    shuffled_moves(alloc, lives, end, tail, a)
 }
 
 /// One past the slot in which a move sets something aside, if it does.
@@ -146,6 +164,7 @@ fn aside_end(end: u32, moves: &[Move]) -> Result<u32, Mem>
 }
 
 /// One past the last slot that a call needs.
+#[inline(never)]
 pub(crate) fn call_end(
     alloc: Global,
     lives: &FramePlaces<'_>,
@@ -155,7 +174,10 @@ pub(crate) fn call_end(
 ) -> Result<u32, Mem>
     ensures { IfOk result (λ n. n ≡ calls.call_end end (place_in lives.now.places.now) tail a.now) }
 {
-    let operands = short(a.operands.len())?;
-    let moves = call_moves(alloc, lives, end, tail, a)?;
-    aside_end(first_temporary(end, operands), moves.as_slice())
+    let first = first_temporary(end, short(a.operands.len())?);
+    if are_apart(lives, tail, a)? {
+        return Ok(first);
+    }
+    let moves = shuffled_moves(alloc, lives, end, tail, a)?;
+    aside_end(first, moves.as_slice())
 }

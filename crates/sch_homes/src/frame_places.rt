@@ -23,14 +23,23 @@ pub(crate) struct FramePlaces<'a> {
     pub places: &'a [Place],
 }
 
+impl FramePlaces<'_> {
+    /// Where a variable lives; what is no variable of the body lives in no slot of its frame.
+    pub fn place_of(&self, x: u32) -> Place
+        ensures { result ≡ place_in self.now.places.now x }
+    {
+        match self.places.get(x as usize) {
+            None => Place::Slot(NEXT_FRAME),
+            Some(p) => *p,
+        }
+    }
+}
+
 impl VariablePlaces for FramePlaces<'_> {
     ghost plan = { λ s. record { place = place_in s.places.now; home = λ x. Slot 0; limit = next_frame; moves = λ tail a. [] } };
 
     fn place(&self, x: u32) -> Result<Place, Mem> {
-        match self.places.get(x as usize) {
-            None => Ok(Place::Slot(NEXT_FRAME)),
-            Some(p) => Ok(*p),
-        }
+        Ok(self.place_of(x))
     }
 
     fn home(&self, _x: u32) -> Result<Place, Mem> {

@@ -12,6 +12,7 @@ mod frame_places;
 mod frame_room;
 mod listed_moves;
 mod saved_variables;
+mod straight_calls;
 mod temporaries;
 
 pub use frame_body::frame;

@@ -9,6 +9,7 @@ ghost use Rattle.sch_homes.specs.ListedMoves as listed;
 use crate::call_arguments::arguments;
 use crate::call_moves::short;
 use crate::frame_places::FramePlaces;
+use crate::straight_calls::{are_apart, argument_count, straight_order};
 use crate::temporaries::targets;
 use sch_control::{Application, Exp, PlacedBody, Restoring};
 use sch_orders::ListedCall;
@@ -16,8 +17,8 @@ use sch_shuffle::{cycles, evaluation_order};
 use sch_word::{List, Mem, add_numbers};
 use std::alloc::Global;
 
-/// What is listed of the moves of a call, wherever it sets something aside.
-fn listed_call(
+/// What is listed of the moves of a call by a shuffle, wherever it sets something aside.
+fn shuffled_call(
     alloc: Global,
     lives: &FramePlaces<'_>,
     tail: bool,
@@ -39,7 +40,37 @@ fn listed_call(
     })
 }
 
+/// What is listed of a call of which no argument uses the target of another one.
+fn straight_call(alloc: Global, a: &Application<u32>) -> Result<ListedCall, Mem>
+    ensures { IfOk result (λ c. c ≡ listed.straight_call a.now) }
+{
+    let count = argument_count(a)?;
+    let order = straight_order(alloc, count)?;
+    Ok(ListedCall {
+        site: a.site,
+        order,
+        cycles: List::new(alloc),
+    })
+}
+
+/// What is listed of the moves of a call, wherever it sets something aside.
+fn listed_call(
+    alloc: Global,
+    lives: &FramePlaces<'_>,
+    tail: bool,
+    a: &Application<u32>,
+) -> Result<ListedCall, Mem>
+    ensures { IfOk result (λ c. (end : ℕ)
+        → c ≡ listed.listed_call end (place_in lives.now.places.now) tail a.now) }
+{
+    if are_apart(lives, tail, a)? {
+        return straight_call(alloc, a);
+    }
+    shuffled_call(alloc, lives, tail, a)
+}
+
 /// Adds what is listed of a call.
+#[inline(never)]
 fn list_call(
     alloc: Global,
     lives: &FramePlaces<'_>,

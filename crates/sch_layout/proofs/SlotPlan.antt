@@ -3,6 +3,7 @@
 use Rattle.std.specs.Prelude.{ℕ, zero, suc, ◌+◌, ◌-◌, max, Bool, true, false, ◌&&◌, cond, nat_le, nat_lt, List, [], ◌∷◌, ◌++◌, length, map, None}
 use Rattle.sch_word.specs.declared.place.Place.{Place}
 use Rattle.sch_word.specs.declared.place.Place.TheVariants.{Slot}
+use Rattle.sch_word.specs.values.Registers.{argument_registers}
 use Rattle.sch_control.specs.declared.operation.Application.{Application}
 use Rattle.sch_control.specs.declared.operation.Atom.TheVariants.{Variable}
 use Rattle.sch_control.specs.declared.operation.Operand.{Operand}
@@ -49,7 +50,7 @@ own_place formals base (suc x) = cond (is_late formals (suc x)) (Slot (suc x - 8
 
 -- the slots in which late formals arrive are those before the base
 abbrev slots_base : control.Code → ℕ
-slots_base c = formals_of c.entry - 6
+slots_base c = formals_of c.entry - length argument_registers
 
 -- the home of the return address is the slot at the base, and the slots in which arguments are set aside are behind the variables
 abbrev pub slots_for : control.Code → Plan

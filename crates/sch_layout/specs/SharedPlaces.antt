@@ -5,6 +5,7 @@ use Rattle.sch_word.specs.declared.place.Place.{Place}
 use Rattle.sch_control.specs.declared.body.Entry.{Entry}
 use Rattle.sch_control.specs.declared.operation.Application.{Application}
 use Rattle.sch_word.specs.trees.NumberSets.{has}
+use Rattle.sch_word.specs.values.Registers.{argument_registers}
 use Rattle.sch_control.specs.AtomsAndSites.{application_atoms}
 use Rattle.sch_control.specs.Meaning.{binds, no_region, with_region}
 use Rattle.sch_control.specs.Tree.{Expression, perform, bind, sequence, branch, fix, call, tail_call, return, end, save}
@@ -77,7 +78,7 @@ module _ (plan : Plan) where
   Placed (call a restores) inside L =
       Brings false (FreeInCall (λ x. Perhaps (L x))) a
       × (Inside (λ x. Perhaps (L x)) × EachHas (λ x. (inside x ≡ true) × Alone (λ x. Perhaps (L x)) x) restores)
-  Placed (tail_call a) inside L = Brings true FreeInTail a × (length a.operands ≤ 6 + plan.limit)
+  Placed (tail_call a) inside L = Brings true FreeInTail a × (length a.operands ≤ length argument_registers + plan.limit)
   Placed (return e) inside L = Placed e inside (λ x t. x ≡ 0)
   Placed (end e) inside L = Placed e inside (λ x t. ⊥)
   Placed (save saves e) inside L =

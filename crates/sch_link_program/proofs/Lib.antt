@@ -5,3 +5,4 @@ pub mod DefinitionSteps
 mod Examples
 pub mod NameSets
 pub mod KeepSteps
+pub mod FewDefinitions

@@ -1,5 +1,5 @@
 -- The program of definitions and forms, from the parts that were made.
-use Rattle.std.proofs.Common.{◌≡◌, ℕ, Bool, true, false, cond, List, [], ◌∷◌, ◌++◌, length, map, ◌+◌, Option, arith, refl, ap, sym, ◌∙◌, ◌&&◌, ◌||◌}
+use Rattle.std.proofs.Common.{◌≡◌, ℕ, Bool, true, false, cond, List, [], ◌∷◌, ◌++◌, length, map, Option, arith, refl, ap, sym, ◌∙◌, ◌&&◌, ◌||◌}
 use Rattle.std.proofs.Math.Bool.{or-true}
 use Rattle.std.proofs.lemmas.Bool.{and_parts}
 use Rattle.sch_word.specs.declared.literal.Lit.{Lit}

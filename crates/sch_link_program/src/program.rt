@@ -1,6 +1,7 @@
 //! The parts of the program of a library's definitions and a text's forms.
 
-ghost use Rattle.std.specs.Prelude.{◌≡◌, ◌++◌, [], length, map, None, IfOk, IsTrue, OnOk};
+ghost use Rattle.std.specs.Prelude.{◌≡◌, ◌≤◌, ◌<◌, ◌^◌, ◌++◌, [], length, map, true, None, IfOk, IsTrue, OnOk};
+ghost use Rattle.sch_word.specs.trees.Shape.{max_operands};
 ghost use Rattle.sch_word.specs.values.LiteralView.{literal};
 ghost use Rattle.sch_lang.specs.View.{expression, lambdas_of};
 ghost use Rattle.sch_names.specs.NamesView.{names_of};
@@ -15,6 +16,7 @@ ghost use Rattle.sch_link_tables.specs.Programs as words;
 ghost use Rattle.sch_link_tables.specs.Programs.{globals_of_each, symbols_of_each, quotes_of_each, widths_of_definitions, program_of};
 ghost use Rattle.sch_link_program.specs.Definitions.{definitions_of, kept_definitions};
 ghost use Rattle.sch_link_program.specs.PartsView.{parts_of};
+ghost use Rattle.sch_link_program.specs.Size.{have_few_formals};
 ghost use Rattle.sch_link_program.specs.Ranged.{trees_in_range, BodiesHaveConstants};
 
 use crate::definition::{Definition, KeptDefinition};
@@ -23,7 +25,7 @@ use crate::parts::Parts;
 use crate::starting::starts;
 use sch_lang::Lambda;
 use sch_link_drafts::{Numbers, number, number_each};
-use sch_link_tables::{Output, Table, Tables, name_draft, name_each, number_of_32};
+use sch_link_tables::{Output, Table, Tables, name_draft, name_each};
 use sch_names::Names;
 use sch_sketch::Draft;
 use sch_word::{Bytes, List, Mem};
@@ -55,6 +57,7 @@ fn number_definition(
     d: &KeptDefinition<'_, '_>,
     out: &mut Output,
 ) -> Result<Lambda, Mem>
+    requires formals { d.now.formals ≤ max_operands }
     ensures made { IfOk result (λ l. expression l.body
         ≡ numbered [] (names_of tables.now.globals.names) (names_of tables.now.symbols.names)
         None (draft_of d.now.body.now) (length out.old.sites) (length out.old.literals)) }
@@ -72,10 +75,9 @@ fn number_definition(
     };
     let body = number(alloc, &numbers, None, d.body, out)?;
     let name = List::from_slice(alloc, d.name)?;
-    let formals = number_of_32(d.formals)?;
     Ok(Lambda {
         name,
-        formals,
+        formals: d.formals as u32,
         rest: d.rest,
         body,
     })
@@ -88,6 +90,7 @@ fn number_definitions(
     definitions: &[KeptDefinition<'_, '_>],
     out: &mut Output,
 ) -> Result<List<Lambda>, Mem>
+    requires formals { have_few_formals (kept_definitions definitions.now) ≡ true }
     ensures made { IfOk result (λ ls. lambdas_of ls
         ≡ words.procedures (names_of tables.now.globals.names) (names_of tables.now.symbols.names)
         (kept_definitions definitions.now) (length out.old.sites) (length out.old.literals)) }
@@ -151,6 +154,8 @@ fn program_with(
     own: &Own<'_>,
     forms: &[Draft<'_>],
 ) -> Result<Parts, Mem>
+    requires formals { have_few_formals (kept_definitions definitions.now) ≡ true }
+    requires few { length definitions.now < 2 ^ 32 }
     requires globals { own.now.named.now.globals.list ≡ firsts [] (globals_in_each (names_of own.now.names.now) (drafts_of forms.now)) }
     requires symbols { own.now.named.now.symbols.list ≡ firsts [] (symbols_in_each (drafts_of forms.now)) }
     ensures made { IfOk result (λ p. parts_of p
@@ -192,6 +197,8 @@ pub fn assemble(
     own: &Names,
     forms: &[Draft<'_>],
 ) -> Result<Parts, Mem>
+    requires formals { have_few_formals (definitions_of definitions.now) ≡ true }
+    requires few { length definitions.now < 2 ^ 32 }
     ensures made { IfOk result (λ p. parts_of p ≡ program_of (definitions_of definitions.now) (names_of own.now) (drafts_of forms.now)) }
     ensures ranged { IfOk result (λ p. IsTrue (trees_in_range (parts_of p))) }
 {

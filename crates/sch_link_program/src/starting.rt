@@ -1,48 +1,43 @@
 //! What the globals of a program hold at the start.
 
-ghost use Rattle.std.specs.Prelude.{◌≡◌, IfOk};
+ghost use Rattle.std.specs.Prelude.{◌≡◌, ◌<◌, ◌^◌, length, IfOk};
 ghost use Rattle.sch_names.specs.NamesView.{names_of, number_of};
 ghost use Rattle.sch_link_tables.specs.Programs as words;
 ghost use Rattle.sch_link_tables.specs.Programs.{names_of_each};
 ghost use Rattle.sch_link_program.specs.Definitions.{kept_definitions};
 
 use crate::definition::KeptDefinition;
-use sch_link_tables::number_of_32;
 use sch_names::Names;
-use sch_word::{Bytes, List, Mem, add_counts};
+use sch_word::{Bytes, List, Mem};
 use std::alloc::Global;
 
 /// The number of the procedure of this name: how many there are before it.
-fn procedure_number(definitions: &[KeptDefinition<'_, '_>], x: &[u8]) -> Result<u32, Mem>
-    ensures { IfOk result (λ n. n ≡ number_of x.now (names_of_each (kept_definitions definitions.now))) }
+fn procedure_number(definitions: &[KeptDefinition<'_, '_>], x: &[u8]) -> u32
+    requires few { length definitions.now < 2 ^ 32 }
+    ensures { result ≡ number_of x.now (names_of_each (kept_definitions definitions.now)) }
 {
     let mut n = 0;
     for d in definitions {
         if x == d.name {
-            return number_of_32(n);
+            return n;
         }
-        let next = add_counts(n, 1)?;
-        n = next;
+        n += 1;
     }
-    number_of_32(n)
+    n
 }
 
 /// What a global holds at the start: the library's procedure of its name, if it is the library's or holds it.
-fn start_of(
-    definitions: &[KeptDefinition<'_, '_>],
-    held: &Names,
-    global: &[u8],
-) -> Result<Option<u32>, Mem>
-    ensures { IfOk result (λ start. start ≡ words.starts_with (kept_definitions definitions.now) (names_of held.now) global.now) }
+fn start_of(definitions: &[KeptDefinition<'_, '_>], held: &Names, global: &[u8]) -> Option<u32>
+    requires few { length definitions.now < 2 ^ 32 }
+    ensures { result ≡ words.starts_with (kept_definitions definitions.now) (names_of held.now) global.now }
 {
     let [mark, x @ ..] = global else {
-        return Ok(None);
+        return None;
     };
     if *mark == 0 && !held.contains(x) {
-        return Ok(None);
+        return None;
     }
-    let n = procedure_number(definitions, x)?;
-    Ok(Some(n))
+    Some(procedure_number(definitions, x))
 }
 
 /// What each global holds at the start.
@@ -52,12 +47,12 @@ pub fn starts(
     held: &Names,
     globals: &[Bytes],
 ) -> Result<List<Option<u32>>, Mem>
+    requires few { length definitions.now < 2 ^ 32 }
     ensures { IfOk result (λ all. all ≡ words.starts (kept_definitions definitions.now) (names_of held.now) globals.now) }
 {
     let mut all = List::new(alloc);
     for global in globals {
-        let start = start_of(definitions, held, global.as_slice())?;
-        all.push(start)?;
+        all.push(start_of(definitions, held, global.as_slice()))?;
     }
     Ok(all)
 }

@@ -1,6 +1,6 @@
 -- What is live before each expression and at its calls, from the sets of its parts.
-use Rattle.std.proofs.Common.{◌≡◌, ℕ, Bool, true, false, List, None, refl, ap, sym, ◌∙◌, subst, inl, inr, ◌⊎◌}
-use Rattle.std.specs.Prelude.{◌↔◌, ◌||◌, ◌&&◌, not}
+use Rattle.std.proofs.Common.{◌≡◌, ℕ, Bool, true, false, List, refl, ap, sym, ◌∙◌, inl, inr, ◌⊎◌}
+use Rattle.std.specs.Prelude.{◌↔◌, ◌&&◌, not}
 use Rattle.std.specs.FinSet as set
 use Rattle.std.specs.Bool.{MatchBool}
 use Rattle.sch_sets.specs.Members.{NumberSet}
@@ -14,7 +14,7 @@ use Rattle.sch_control.specs.AtomsAndSites.{operation_atoms, application_atoms, 
 use Rattle.sch_control.specs.Meaning.{no_region}
 use Rattle.sch_control.specs.Tree.{Expression, perform, bind, sequence, branch, fix, call, tail_call, return, end, save}
 use Rattle.sch_control.specs.Valid.{member_variables}
-use Rattle.sch_control.specs.flow.Live.{named, Mentions, Perhaps, known, ByResult, AfterValue, Across, Live, Later}
+use Rattle.sch_control.specs.flow.Live.{named, Mentions, Perhaps, known, Across, Live, Later}
 use Rattle.sch_control.specs.flow.LiveTests.{behind, by_result}
 use Rattle.sch_control.specs.flow.Paths.{live}
 use Rattle.sch_control.proofs.NumberLists.{has_items}

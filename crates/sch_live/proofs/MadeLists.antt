@@ -1,16 +1,14 @@
 -- A tree whose calls list what is live after them lists it as the function of the tree does.
-use Rattle.std.proofs.Common.{◌≡◌, ◌≢◌, ℕ, Bool, true, false, List, refl, ap, sym, ◌∙◌, subst, Option, Some, None, cond}
-use Rattle.std.specs.Prelude.{◌↔◌, nat_eq, ◌||◌, ◌&&◌, not, filter}
-use Rattle.std.specs.Bool.{MatchBool}
-use Rattle.std.proofs.lemmas.Bool.{eqb-true, eq-eqb, eqb-false, ne_eqb}
+use Rattle.std.proofs.Common.{◌≡◌, ℕ, Bool, true, false, List, refl, ap, sym, ◌∙◌, subst}
+use Rattle.std.specs.Prelude.{◌↔◌, ◌&&◌, filter}
 use Rattle.std.proofs.Math.Path.{fun_ext}
 use Rattle.sch_word.specs.trees.Bindings.{numbers}
 use Rattle.sch_word.specs.trees.NumberSets.{has}
 use Rattle.sch_control.specs.Tree.{Expression, perform, bind, sequence, branch, fix, call, tail_call, return, end, save}
 use Rattle.sch_control.specs.flow.Bare.{unlisted}
-use Rattle.sch_control.specs.flow.Live.{known, ByResult, Perhaps, MayGive, Live, Later, nothing_later}
+use Rattle.sch_control.specs.flow.Live.{Perhaps, MayGive, Live, Later, nothing_later}
 use Rattle.sch_control.specs.flow.LiveSets.{HasLiveSets, LiveSets}
-use Rattle.sch_control.specs.flow.LiveTests.{by_result, is_live, Behind}
+use Rattle.sch_control.specs.flow.LiveTests.{is_live, Behind}
 use Rattle.sch_paths.proofs.paths.LiveByPaths.{then_is, both_same}
 use Rattle.sch_paths.proofs.paths.LiveTested.{and_is, differ_is, equal_is, false_is, live_test, match_is, perhaps_is}
 use Rattle.sch_paths.proofs.paths.UnlistedTrees.{live_unlisted, may_give_unlisted}

@@ -1,5 +1,5 @@
 -- The table that the two walks over a valid body make.
-use Rattle.std.proofs.Common.{◌≡◌, ℕ, ◌+◌, ◌<◌, ◌≤◌, Bool, true, false, List, length, ap, sym, ◌∙◌, subst, inr, arith}
+use Rattle.std.proofs.Common.{◌≡◌, ℕ, ◌+◌, ◌<◌, ◌≤◌, Bool, true, false, List, length, ap, sym, ◌∙◌, subst, arith}
 use Rattle.std.specs.Prelude.{nat_lt, nat_le}
 use Rattle.std.specs.FinSet as set
 use Rattle.std.proofs.Math.Path.{fun_ext}
@@ -9,7 +9,7 @@ use Rattle.sch_sets.proofs.Membership.{contains-empty}
 use Rattle.sch_word.specs.trees.NumberSets.{has}
 use Rattle.sch_word.proofs.facts.Booleans.{and_right}
 use Rattle.sch_control.specs.Tree.{Expression, Code}
-use Rattle.sch_control.specs.Valid.{first_scope, in_scope_whole, numbered, ended, first_bound, bound_in}
+use Rattle.sch_control.specs.Valid.{in_scope_whole, numbered, ended, first_bound, bound_in}
 use Rattle.sch_control.specs.flow.Bare.{erased}
 use Rattle.sch_control.specs.flow.Places.{formals_of}
 use Rattle.sch_regs.specs.NotedSets.{IsNoted, note, assign_noted}

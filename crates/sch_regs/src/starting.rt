@@ -12,7 +12,7 @@ use crate::choice::give;
 use crate::placing::{Placing, R8, R9, R10, RBX, RDI, RSI};
 use sch_control::Entry;
 use sch_sets::Set;
-use sch_word::{CLOSURE_REGISTER, LINK_REGISTER, Mem, Place};
+use sch_word::{ARGUMENT_REGISTERS, CLOSURE_REGISTER, LINK_REGISTER, Mem, Place};
 use std::alloc::Global;
 
 // A list in which each number counts as being in RBX.
@@ -79,7 +79,7 @@ fn arrival(k: u32) -> Place
         3 => Place::Reg(R10),
         4 => Place::Reg(RSI),
         5 => Place::Reg(RDI),
-        _ => Place::Slot(k - 6),
+        _ => Place::Slot(k - ARGUMENT_REGISTERS.len() as u32),
     }
 }
 

@@ -12,7 +12,7 @@ use Rattle.sch_control.specs.Meaning.{plain, do_body, no_region, with_region}
 use Rattle.sch_control.specs.Tree.{Expression, perform, bind, sequence, branch, fix, call, tail_call, return, end, save, Code}
 use Rattle.sch_control.specs.Valid.{in_scope_whole, numbered, without_repeats}
 use Rattle.sch_control.specs.flow.Bare.{unlisted, erased}
-use Rattle.sch_control.specs.flow.Live.{Across, MayGive, Live, Soon, Later, Perhaps, nothing_later}
+use Rattle.sch_control.specs.flow.Live.{Across, MayGive, Live, Soon, Later, nothing_later}
 use Rattle.sch_control.specs.flow.LiveSets.{LiveSets, HasLiveSets}
 use Rattle.sch_control.specs.flow.LiveTests.{is_soon, Behind}
 use Rattle.sch_control.specs.flow.Middle.{silent}

@@ -1,5 +1,5 @@
 -- A body with regions, and its tree with what each call restores.
-use Rattle.std.proofs.Common.{◌≡◌, ℕ, ◌<◌, ◌≤◌, ◌*◌, List, Bool, true, ap, sym, ◌∙◌, refl, subst, arith}
+use Rattle.std.proofs.Common.{◌≡◌, ℕ, ◌<◌, ◌*◌, List, Bool, true, ap, sym, ◌∙◌, refl, subst}
 use Rattle.std.specs.FinSet as set
 use Rattle.std.proofs.Math.Path.{fun_ext}
 use Rattle.sch_sets.specs.Members.{NumberSet}

@@ -2,6 +2,7 @@
 pub mod AppendedItems
 pub mod Labels
 pub mod RestItems
+pub mod AppendedForms
 pub mod ProgramLabels
 pub mod Sound
 pub mod ProgramSound
@@ -18,3 +19,6 @@ pub mod StoreExamples
 pub mod InstructionCounts
 pub mod JumpsAhead
 pub mod ReachedCodes
+pub mod RoutineForms
+pub mod ProgramFrames
+pub mod FrameExamples

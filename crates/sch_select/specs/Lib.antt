@@ -2,6 +2,8 @@ pub mod Select
 pub mod Program
 pub mod Sizes
 pub mod MarkedStores
+pub mod FrameWords
+pub mod Parted
 pub mod Jumps
 pub mod Marks
 pub mod Ends

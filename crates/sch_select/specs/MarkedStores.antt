@@ -1,6 +1,6 @@
 -- Where the marks of stores stand among items: each write of a word of a frame stands behind one of them, and they stand
--- nowhere else. Words of frames are written through RBP. One routine of the program's own, which makes lists of operands,
--- stands behind all bodies and fills slots through RCX: it has no marks, and nothing here is said of it.
+-- nowhere else. Bodies write words of frames through RBP alone (FrameWords). One routine of the program's own, which makes
+-- lists of operands, stands behind all bodies and fills slots through RCX: it has no marks, and nothing here is said of it.
 use Rattle.std.specs.Prelude.{ℕ, nat_eq, Bool, true, false, ◌&&◌, not, List, [], ◌∷◌, Option, Some, None}
 use Rattle.sch_word.specs.declared.mark.MarkKind.{MarkKind}
 use Rattle.sch_word.specs.declared.mark.MarkKind.TheVariants as mark

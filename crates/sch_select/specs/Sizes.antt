@@ -20,15 +20,6 @@ steps_size p = program_work p + (program_copies p + length p.bodies)
 abbrev pub steps_bound : Source → (entries answers charged : ℕ) → ℕ
 steps_bound p entries answers charged = 256 * steps_size p * suc entries + (10 * answers + 8 * charged + 16)
 
--- ## Instructions
-
--- how many items become instructions: labels and marks do not
-abbrev pub instructions_in : List Item → ℕ
-instructions_in [] = 0
-instructions_in (item.Label l ∷ is) = instructions_in is
-instructions_in (item.Mark m ∷ is) = instructions_in is
-instructions_in (_ ∷ is) = suc (instructions_in is)
-
 -- ## Marks
 
 -- the marks that stand among items, in their order

@@ -4,7 +4,7 @@ ghost use Rattle.std.specs.Prelude.{◌≡◌, ◌+◌, ◌*◌, ◌^◌, ◌<�
 ghost use Rattle.std.specs.List.{list_all};
 ghost use Rattle.sch_word.specs.declared.limits.TheConstants.{MAX_DEPTH};
 ghost use Rattle.sch_word.specs.runs.Runs.{max_statics};
-ghost use Rattle.sch_asm.specs.Codes.{text_size};
+ghost use Rattle.sch_asm.specs.Codes.{instructions_in, text_size};
 ghost use Rattle.sch_asm.specs.Items.{AreOwn};
 ghost use Rattle.sch_asm.specs.Narrow.{is_narrow_item, narrowed};
 ghost use Rattle.sch_asm.specs.Routines.{label_of};
@@ -25,7 +25,8 @@ ghost use Rattle.sch_select.specs.Program.{stack_bytes};
 ghost use Rattle.sch_select_memory.specs.Addresses.{max_heap_end};
 ghost use Rattle.sch_select_memory.specs.OwnCode.{own_code};
 ghost use Rattle.sch_select.specs.MarkedStores.{stores_marked};
-ghost use Rattle.sch_select.specs.Sizes.{instructions_in, kinds_in, kinds_of, steps_size};
+ghost use Rattle.sch_select.specs.Parted.{ArePartedBefore};
+ghost use Rattle.sch_select.specs.Sizes.{kinds_in, kinds_of, steps_size};
 
 use crate::body_items::{Frames, forms};
 use sch_asm::{Asm, Item, Routine, narrowed};
@@ -156,6 +157,10 @@ pub fn select(alloc: Global, p: &FrameProgram, limits: Limits) -> Result<Asm, Me
     ensures marks { IfOk result (λ a. kinds_in a.items ≡ kinds_of 0 (source p.now).bodies) }
     // Where each mark of a body stands at its instruction, each write of memory that RBP names stands behind one.
     ensures stores { IfOk result (λ a. IsTrue (all_marks_stand (source p.now).bodies) → IsTrue (stores_marked None a.items)) }
+    // In front of the program's own routines, the address that RBP has goes into no other register and no word of memory, but
+    // that of a slot into RCX for the routine of lists; an address that is made of numbers or of other registers is not looked
+    // at. The routines have the form of routines, and leave RBP alone.
+    ensures parts { IfOk result (λ a. ArePartedBefore (narrowed (own_code (heap_of (source p.now) + limits.heap))) a.items) }
     // The words end where the heap begins.
     ensures words { IfOk result (λ a. 0x10000000 + 8 * length a.words ≡ heap_of (source p.now)) }
     ensures low { IfOk result (λ a. heap_of (source p.now) ≤ max_heap_address) }

@@ -1,6 +1,6 @@
 -- The items of a procedure with a rest variable (R5RS 4.1.4) before its body, and the program's own routine that makes
 -- the list of the operands that are left over. A pair begins where R12 has it, and the pairs stand one behind the other.
-use Rattle.std.specs.Prelude.{ℕ, suc, ◌+◌, ◌-◌, ◌*◌, Bool, true, false, nat_lt, List, [], ◌∷◌, drop, pos}
+use Rattle.std.specs.Prelude.{ℕ, suc, ◌+◌, ◌-◌, ◌*◌, Bool, true, false, nat_lt, List, [], ◌∷◌, drop, length, pos}
 use Rattle.sch_word.specs.runs.ProgramLayout.{data_address}
 use Rattle.sch_word.specs.values.Registers.{argument_registers}
 use Rattle.sch_word.specs.declared.stop.Stop.TheVariants.{WrongCount, HeapLimit}
@@ -17,7 +17,7 @@ use Rattle.sch_select_memory.specs.Addresses.{heap_offset, stop_label, part_oper
 
 -- ## Labels of the routine, below those of bodies
 
--- a list whose first operand is in the register for the operand with m before it, or for 6 in a slot
+-- a list whose first operand is in the register for the operand with m before it, or where there is none in a slot
 abbrev pub list_label : (m : ℕ) → ℕ
 list_label m = 1048 + m
 
@@ -32,6 +32,10 @@ some_label m = 1064 + m
 -- where the pair before that of such an operand is made
 abbrev pub more_label : (m : ℕ) → ℕ
 more_label m = 1072 + m
+
+-- how many operands are in registers: the first with as many before it is in a slot
+abbrev pub first_in_slot : ℕ
+first_in_slot = length argument_registers
 
 abbrev pub loop_label : ℕ
 loop_label = 1080
@@ -77,7 +81,7 @@ abbrev pub loop_code : List Item → List Item
 loop_code rest = Label loop_label ∷ one_less (next_pair (slot_pair (done_code rest)))
 
 abbrev pub slots_code : List Item → List Item
-slots_code rest = Label (more_label 6) ∷ (Plain (MovTo (Reg RCX) RBP) ∷ loop_code rest)
+slots_code rest = Label (more_label first_in_slot) ∷ (Plain (MovTo (Reg RCX) RBP) ∷ loop_code rest)
 
 -- an operand in a register, and then those in others
 abbrev pub more_code : (m r : ℕ) → List Item → List Item
@@ -107,7 +111,7 @@ firsts_code heap_end m (r ∷ rs) rest =
 -- the first operand is in a slot, which then has the list
 abbrev pub first_slot_code : List Item → List Item
 first_slot_code rest =
-    none_code 6 slot_operand (Plain (MovFrom RDX slot_operand) ∷ (Plain (MovTo (part_operand 0) RDX) ∷
+    none_code first_in_slot slot_operand (Plain (MovFrom RDX slot_operand) ∷ (Plain (MovTo (part_operand 0) RDX) ∷
     (Plain (MovTo (Reg RDX) R12) ∷ (Plain (AddNumber (Reg RDX) (pos pair_tag)) ∷ (Plain (MovTo slot_operand RDX) ∷
     (Plain (AddNumber (Reg RCX) (pos 8)) ∷ (Jump loop_label ∷ rest)))))))
 
@@ -117,7 +121,7 @@ later_registers = drop 1 argument_registers
 
 abbrev pub rest_routine : (heap_end : ℕ) → List Item → List Item
 rest_routine heap_end rest =
-    firsts_code heap_end 0 argument_registers (Label (list_label 6) ∷ check_pairs heap_end
+    firsts_code heap_end 0 argument_registers (Label (list_label first_in_slot) ∷ check_pairs heap_end
     (first_slot_code (registers_code 1 later_registers (slots_code rest))))
 
 -- ## Before a body: RAX has the number of operands, of which `required` are not left over
@@ -130,12 +134,12 @@ check_enough required rest =
 
 -- RCX has the address of the slot for the operand with `required` before it
 abbrev pub slot_code : (required : ℕ) → List Item → List Item
-slot_code required rest = Plain (MovTo (Reg RCX) RBP) ∷ (Plain (AddNumber (Reg RCX) (pos (8 * (required - 6)))) ∷ rest)
+slot_code required rest = Plain (MovTo (Reg RCX) RBP) ∷ (Plain (AddNumber (Reg RCX) (pos (8 * (required - first_in_slot)))) ∷ rest)
 
 abbrev pub list_code : Bool → (required n : ℕ) → List Item → List Item
 list_code true required n rest = LoadLabel R11 n ∷ (Jump (list_label required) ∷ (Label n ∷ rest))
-list_code false required n rest = slot_code required (LoadLabel R11 n ∷ (Jump (list_label 6) ∷ (Label n ∷ rest)))
+list_code false required n rest = slot_code required (LoadLabel R11 n ∷ (Jump (list_label first_in_slot) ∷ (Label n ∷ rest)))
 
 -- the label n is the body's own
 abbrev pub rest_entry : (required n : ℕ) → List Item → List Item
-rest_entry required n rest = check_enough required (list_code (nat_lt required 6) required n rest)
+rest_entry required n rest = check_enough required (list_code (nat_lt required first_in_slot) required n rest)

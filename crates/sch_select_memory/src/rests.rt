@@ -6,7 +6,7 @@ ghost use Rattle.sch_word.specs.values.Registers.{argument_registers};
 ghost use Rattle.sch_select_memory.specs.Addresses.{max_heap_end};
 ghost use Rattle.sch_asm.specs.declared.item.Item.{Item};
 ghost use Rattle.sch_asm.specs.declared.item.Item.TheVariants as item;
-ghost use Rattle.sch_select_memory.specs.RestCode.{check_enough, check_pairs, first_code, first_slot_code, firsts_code, later_registers};
+ghost use Rattle.sch_select_memory.specs.RestCode.{check_enough, check_pairs, first_code, first_in_slot, first_slot_code, firsts_code, later_registers};
 ghost use Rattle.sch_select_memory.specs.RestCode.{list_code, list_label, more_code, registers_code, rest_entry, rest_routine, slots_code};
 
 use crate::addresses::{DATA_OFFSET, heap_offset, immediate, slot_bytes, stop};
@@ -15,7 +15,10 @@ use sch_asm::Item;
 use sch_insn::condition::{A, B, E, NE};
 use sch_insn::register::{R8, R9, R10, R11, R12, RAX, RBP, RBX, RCX, RDI, RDX, RSI};
 use sch_insn::{Arg, Insn};
-use sch_word::{List, Mem, Stop};
+use sch_word::{ARGUMENT_REGISTERS, List, Mem, Stop};
+
+// How many operands are in registers: the first with as many in front is in a slot.
+const FIRST_IN_SLOT: u32 = ARGUMENT_REGISTERS.len() as u32;
 
 // The labels of the routine, most of them numbered by the operands in front.
 const LIST_LABEL: u32 = 1048;
@@ -33,7 +36,7 @@ const DONE_LABEL: u32 = 1081;
 /// A way into the routine: the heap has a pair for each operand that is left.
 fn check_list(out: &mut List<Item>, m: u32, heap_end: u32) -> Result<(), Mem>
     requires low { heap_end ≤ max_heap_end }
-    requires few { m ≤ 6 }
+    requires few { m ≤ first_in_slot }
     ensures { OnOk result ((rest : List Item) → out.new ++ rest
         ≡ out.old ++ item.Label (list_label m) ∷ check_pairs heap_end rest) }
 {
@@ -51,7 +54,7 @@ fn check_list(out: &mut List<Item>, m: u32, heap_end: u32) -> Result<(), Mem>
 
 /// The first operand is in a register, which then has the list.
 fn first_register(out: &mut List<Item>, m: u32, r: u8) -> Result<(), Mem>
-    requires few { m ≤ 5 }
+    requires few { m < first_in_slot }
     ensures { OnOk result ((rest : List Item) → out.new ++ rest ≡ out.old ++ first_code m r rest) }
 {
     out.extend_from_slice(&[
@@ -71,7 +74,7 @@ fn first_register(out: &mut List<Item>, m: u32, r: u8) -> Result<(), Mem>
 /// The same, with the room of the heap looked at.
 fn first_list(out: &mut List<Item>, heap_end: u32, m: u32, r: u8) -> Result<(), Mem>
     requires low { heap_end ≤ max_heap_end }
-    requires few { m ≤ 5 }
+    requires few { m < first_in_slot }
     ensures { OnOk result ((rest : List Item) → out.new ++ rest
         ≡ out.old ++ item.Label (list_label m) ∷ check_pairs heap_end (first_code m r rest)) }
 {
@@ -97,12 +100,12 @@ fn first_slot(out: &mut List<Item>) -> Result<(), Mem>
     ensures { OnOk result ((rest : List Item) → out.new ++ rest ≡ out.old ++ first_slot_code rest) }
 {
     out.extend_from_slice(&[
-        Item::Label(REST_LABEL + 6),
+        Item::Label(REST_LABEL + FIRST_IN_SLOT),
         Item::Plain(Insn::CmpNumber(Arg::Reg(RAX), 0)),
-        Item::JumpIf(NE, SOME_LABEL + 6),
+        Item::JumpIf(NE, SOME_LABEL + FIRST_IN_SLOT),
         Item::Plain(Insn::MovNumber(Arg::Base32(RCX, 0), NIL)),
         Item::Plain(Insn::JumpTo(Arg::Reg(R11))),
-        Item::Label(SOME_LABEL + 6),
+        Item::Label(SOME_LABEL + FIRST_IN_SLOT),
         Item::Plain(Insn::MovFrom(RDX, Arg::Base32(RCX, 0))),
         Item::Plain(Insn::MovTo(Arg::Base32(R12, 0), RDX)),
         Item::Plain(Insn::MovTo(Arg::Reg(RDX), R12)),
@@ -115,7 +118,7 @@ fn first_slot(out: &mut List<Item>) -> Result<(), Mem>
 
 /// A pair is linked to the next one, for an operand in a register.
 fn more(out: &mut List<Item>, m: u32, r: u8) -> Result<(), Mem>
-    requires few { m ≤ 5 }
+    requires few { m < first_in_slot }
     ensures { OnOk result ((rest : List Item) → out.new ++ rest ≡ out.old ++ more_code m r rest) }
 {
     out.extend_from_slice(&[
@@ -146,7 +149,7 @@ fn slots(out: &mut List<Item>) -> Result<(), Mem>
     ensures { OnOk result ((rest : List Item) → out.new ++ rest ≡ out.old ++ slots_code rest) }
 {
     out.extend_from_slice(&[
-        Item::Label(MORE_LABEL + 6),
+        Item::Label(MORE_LABEL + FIRST_IN_SLOT),
         Item::Plain(Insn::MovTo(Arg::Reg(RCX), RBP)),
         Item::Label(LOOP_LABEL),
         Item::Plain(Insn::SubNumber(Arg::Reg(RAX), 1)),
@@ -172,7 +175,7 @@ pub(crate) fn rest_routine(out: &mut List<Item>, heap_end: u32) -> Result<(), Me
     ensures { OnOk result ((rest : List Item) → out.new ++ rest ≡ out.old ++ rest_routine heap_end rest) }
 {
     first_lists(out, heap_end)?;
-    check_list(out, 6, heap_end)?;
+    check_list(out, FIRST_IN_SLOT, heap_end)?;
     first_slot(out)?;
     mores(out)?;
     slots(out)
@@ -194,21 +197,21 @@ fn check_enough(out: &mut List<Item>, required: u32) -> Result<(), Mem>
 /// The list is made by the routine, which comes back to the label n.
 fn make_list(out: &mut List<Item>, required: u32, n: u32) -> Result<(), Mem>
     requires { required ≤ max_operands }
-    ensures { OnOk result ((rest : List Item) → out.new ++ rest ≡ out.old ++ list_code (nat_lt required 6) required n rest) }
+    ensures { OnOk result ((rest : List Item) → out.new ++ rest ≡ out.old ++ list_code (nat_lt required first_in_slot) required n rest) }
 {
-    if required < 6 {
+    if required < FIRST_IN_SLOT {
         out.extend_from_slice(&[
             Item::LoadLabel(R11, n),
             Item::Jump(LIST_LABEL + required),
             Item::Label(n),
         ])
     } else {
-        let slot = slot_bytes(required - 6);
+        let slot = slot_bytes(required - FIRST_IN_SLOT);
         out.extend_from_slice(&[
             Item::Plain(Insn::MovTo(Arg::Reg(RCX), RBP)),
             Item::Plain(Insn::AddNumber(Arg::Reg(RCX), slot)),
             Item::LoadLabel(R11, n),
-            Item::Jump(LIST_LABEL + 6),
+            Item::Jump(LIST_LABEL + FIRST_IN_SLOT),
             Item::Label(n),
         ])
     }

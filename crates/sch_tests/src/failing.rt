@@ -1,8 +1,6 @@
 //! Disks and streams that fail or take less than they are given, at each of their calls in turn.
 
-use crate::outside::{Outcome, Outside, call, call_well, check};
-use sch_cli::schc;
-use sch_io::{MemDisk, MemOutlet};
+use crate::outside::{Outcome, Outside, Wanted, call, call_well, check, ended};
 use sch_word::{Answer, Bytes, Mem};
 use std::alloc::Global;
 use std::test::Fail;
@@ -29,29 +27,31 @@ fn call_failing(alloc: Global, line: &str, number: u64) -> Result<Outcome, Fail>
     call(alloc, line, outside)
 }
 
-// A read that fails leaves all files as they were, and a write that fails those that are not written yet. Each row has the
-// line, the disk's call that fails, the status, what is said, and whether the executable is then on the disk.
+/// A line, the disk's call that fails, the status, what is said, and whether the executable is then on the disk.
+const DISKS: &[(&str, u64, u8, &[u8], bool)] = &[
+    ("compile p.scm p", 0, 2, b"p.scm: read failed\n", false),
+    ("compile p.scm p", 1, 3, b"p: write failed\n", false),
+    (LISTED, 0, 2, b"p.scm: read failed\n", false),
+    (LISTED, 1, 3, b"p: write failed\n", false),
+    (LISTED, 2, 3, b"f: write failed\n", true),
+    ("run p.scm", 0, 2, b"p.scm: read failed\n", false),
+    ("step p.scm", 0, 2, b"p.scm: read failed\n", false),
+    ("list p.scm", 0, 2, b"p.scm: read failed\n", false),
+    ("count p.scm", 0, 2, b"p.scm: read failed\n", false),
+];
+
+// A read that fails leaves all files as they were, and a write that fails those that are not written yet.
 #[test]
 fn each_call_of_the_disk_fails(rt: HostRuntime) -> Result<(), Fail> {
-    let rows: [(&str, u64, u8, &[u8], bool); 9] = [
-        ("compile p.scm p", 0, 2, b"p.scm: read failed\n", false),
-        ("compile p.scm p", 1, 3, b"p: write failed\n", false),
-        (LISTED, 0, 2, b"p.scm: read failed\n", false),
-        (LISTED, 1, 3, b"p: write failed\n", false),
-        (LISTED, 2, 3, b"f: write failed\n", true),
-        ("run p.scm", 0, 2, b"p.scm: read failed\n", false),
-        ("step p.scm", 0, 2, b"p.scm: read failed\n", false),
-        ("list p.scm", 0, 2, b"p.scm: read failed\n", false),
-        ("count p.scm", 0, 2, b"p.scm: read failed\n", false),
-    ];
-    for (line, number, status, said, written) in rows {
-        let outcome = call_failing(rt.alloc(), line, number)?;
-        assert_eq!(rt; outcome.status, status, "at {line}");
-        assert_eq!(rt; outcome.said.as_slice(), said, "at {line}");
-        assert!(rt; outcome.printed.is_empty(), "at {line}");
-        assert!(rt; holds(&outcome.source, TEXT), "at {line}");
-        assert_eq!(rt; outcome.target.is_some(), written, "at {line}");
-        assert!(rt; outcome.listing.is_none(), "at {line}");
+    for (line, number, status, said, written) in DISKS {
+        let outcome = call_failing(rt.alloc(), line, *number)?;
+        let is_left = holds(&outcome.source, TEXT)
+            && outcome.target.is_some() == *written
+            && outcome.listing.is_none();
+        assert!(rt;
+            is_left && ended(&outcome, (*status, b"", said)),
+            "at {line}"
+        );
     }
     Ok(())
 }
@@ -60,28 +60,27 @@ fn each_call_of_the_disk_fails(rt: HostRuntime) -> Result<(), Fail> {
 #[test]
 fn the_executable_is_written_first(rt: HostRuntime) -> Result<(), Fail> {
     let whole = call_well(rt.alloc(), LISTED, TEXT)?;
-    assert_eq!(rt; whole.status, 0);
-    assert!(rt; whole.listing.is_some());
+    let is_whole = whole.status == 0 && whole.listing.is_some();
     let image = whole.target.ok_or("no file")?;
     let failed = call_failing(rt.alloc(), LISTED, 2)?;
-    assert!(rt; holds(&failed.target, image.as_slice()));
+    assert!(rt; is_whole && holds(&failed.target, image.as_slice()));
     Ok(())
 }
+
+const FURTHER: &[(&str, u64)] = &[
+    ("compile p.scm p", 2),
+    (LISTED, 3),
+    ("run p.scm --heap 4096", 1),
+    ("list p.scm", 1),
+    ("count p.scm --heap 4096", 1),
+];
 
 // A failure that is planned for a call behind the last one is never seen.
 #[test]
 fn a_failure_of_a_further_call_is_not_seen(rt: HostRuntime) -> Result<(), Fail> {
-    let rows: [(&str, u64); 5] = [
-        ("compile p.scm p", 2),
-        (LISTED, 3),
-        ("run p.scm --heap 4096", 1),
-        ("list p.scm", 1),
-        ("count p.scm --heap 4096", 1),
-    ];
-    for (line, number) in rows {
-        let outcome = call_failing(rt.alloc(), line, number)?;
-        assert_eq!(rt; outcome.status, 0, "at {line}");
-        assert!(rt; outcome.said.is_empty(), "at {line}");
+    for (line, number) in FURTHER {
+        let outcome = call_failing(rt.alloc(), line, *number)?;
+        assert!(rt; outcome.status == 0 && outcome.said.is_empty(), "at {line}");
     }
     Ok(())
 }
@@ -95,7 +94,7 @@ const ALL: Answer = Answer::Took(9);
 const FAILED: Answer = Answer::Failed;
 
 /// Programs, what the stream answers to their pieces, the status, and what the stream takes.
-const PIECES: [(&[u8], &[Answer], u8, &[u8]); 13] = [
+const PIECES: &[(&[u8], &[Answer], u8, &[u8])] = &[
     (b"(display 12)", &[SHORT, SHORT], 0, b"12"),
     (b"(display 12)", &[NONE], 74, b""),
     (b"(display 12)", &[FAILED], 74, b""),
@@ -131,57 +130,52 @@ const PIECES: [(&[u8], &[Answer], u8, &[u8]); 13] = [
     ),
 ];
 
+// What is said where the standard output did not take a program's piece.
+fn said_of(status: u8) -> &'static [u8] {
+    if status == 0 {
+        b""
+    } else {
+        b"stop 74: output failed\n"
+    }
+}
+
+// Runs a program over a stream that answers so, and then steps its image.
+fn check_pieces(alloc: Global, file: &[u8], out: &[Answer], wanted: Wanted) -> Result<(), Fail> {
+    let source = Outside {
+        out,
+        ..Outside::of(file)
+    };
+    check(alloc, "run p.scm --heap 4096 --depth 20", source, wanted)?;
+    let compiled = call_well(alloc, LISTED, file)?;
+    let image = compiled.target.ok_or("no file")?;
+    let image = Outside {
+        out,
+        ..Outside::of(image.as_slice())
+    };
+    check(alloc, "step p.scm", image, wanted)
+}
+
 // What a program and its image print where the stream takes less than it is given, or fails, at each piece in turn.
 #[test]
 fn each_answer_to_a_program_is_short_or_fails(rt: HostRuntime) -> Result<(), Fail> {
     for (file, out, status, printed) in PIECES {
-        let said: &[u8] = if status == 0 {
-            b""
-        } else {
-            b"stop 74: output failed\n"
-        };
-        let wanted = (status, printed, said);
-        let source = Outside {
-            out,
-            ..Outside::of(file)
-        };
-        check(
-            rt.alloc(),
-            "run p.scm --heap 4096 --depth 20",
-            source,
-            wanted,
-        )?;
-        let compiled = call_well(rt.alloc(), LISTED, file)?;
-        let image = compiled.target.ok_or("no file")?;
-        let image = Outside {
-            out,
-            ..Outside::of(image.as_slice())
-        };
-        check(rt.alloc(), "step p.scm", image, wanted)?;
+        check_pieces(rt.alloc(), file, out, (*status, printed, said_of(*status)))?;
     }
     Ok(())
 }
 
+const ROOMS: &[(usize, u8, &[u8])] = &[(1, 74, b""), (2, 0, b"12")];
+
 // A stream without room for a piece fails.
 #[test]
 fn a_stream_without_room_fails(rt: HostRuntime) -> Result<(), Fail> {
-    let alloc = rt.alloc();
-    let mut words = Vec::new(alloc);
-    for word in ["run", "p.scm", "--heap", "4096"] {
-        words.push(String::from_str(alloc, word)?)?;
-    }
-    let files = [(
-        Bytes::from_slice(alloc, b"p.scm")?,
-        Bytes::from_slice(alloc, b"(display 12)")?,
-    )];
-    let rows: [(usize, u8, &[u8]); 2] = [(1, 74, b""), (2, 0, b"12")];
-    for (room, status, taken) in rows {
-        let mut disk = MemDisk::new(alloc, &files, 0, &[])?;
-        let mut out = MemOutlet::new(alloc, &[], room)?;
-        let mut err = MemOutlet::new(alloc, &[], 1000)?;
-        let answer = schc(alloc, words.as_slice(), &mut disk, &mut out, &mut err);
-        assert_eq!(rt; answer, status, "with room for {room}");
-        assert_eq!(rt; out.taken(), taken, "with room for {room}");
+    for (room, status, taken) in ROOMS {
+        let outside = Outside {
+            room: *room,
+            ..Outside::of(b"(display 12)")
+        };
+        let wanted = (*status, *taken, said_of(*status));
+        check(rt.alloc(), "run p.scm --heap 4096", outside, wanted)?;
     }
     Ok(())
 }
@@ -215,22 +209,26 @@ fn check_text(
 }
 
 // A text that is printed goes on after a write that took one byte, and ends at one that failed or took nothing.
-#[test]
-fn each_answer_to_a_text_is_short_or_fails(rt: HostRuntime) -> Result<(), Fail> {
-    let alloc = rt.alloc();
-    for line in ["list p.scm --heap 4096", "count p.scm --heap 4096"] {
-        let well = call_well(alloc, line, TEXT)?;
-        assert_eq!(rt; well.status, 0, "at {line}");
-        let whole = well.printed.as_slice();
-        check_text(alloc, line, (0, Answer::Took(1)), (0, whole))?;
-        for count in [0, 1, 2, 9] {
-            let begun = whole.get(..count).ok_or("too short")?;
-            check_text(alloc, line, (count, Answer::Failed), (3, begun))?;
-            check_text(alloc, line, (count, Answer::Took(0)), (3, begun))?;
-            check_text(alloc, line, (count, Answer::Took(2)), (0, whole))?;
-        }
+fn check_texts(alloc: Global, line: &str) -> Result<(), Fail> {
+    let well = call_well(alloc, line, TEXT)?;
+    if well.status != 0 {
+        return Err(Fail::from("another end"));
+    }
+    let whole = well.printed.as_slice();
+    check_text(alloc, line, (0, Answer::Took(1)), (0, whole))?;
+    for count in [0, 1, 2, 9] {
+        let begun = whole.get(..count).ok_or("too short")?;
+        check_text(alloc, line, (count, Answer::Failed), (3, begun))?;
+        check_text(alloc, line, (count, Answer::Took(0)), (3, begun))?;
+        check_text(alloc, line, (count, Answer::Took(2)), (0, whole))?;
     }
     Ok(())
+}
+
+#[test]
+fn each_answer_to_a_text_is_short_or_fails(rt: HostRuntime) -> Result<(), Fail> {
+    check_texts(rt.alloc(), "list p.scm --heap 4096")?;
+    check_texts(rt.alloc(), "count p.scm --heap 4096")
 }
 
 // Makes a call again over a standard error that takes single bytes and then answers otherwise, behind each count of them: the
@@ -257,35 +255,36 @@ fn check_line(
     Ok(())
 }
 
+/// A line, the file, the disk's calls that fail, what the standard output answers, and the status.
+const LINES: &[(&str, &[u8], &[u64], &[Answer], u8)] = &[
+    ("run", b"", &[], &[], 1),
+    ("run none.scm", b"", &[], &[], 2),
+    ("compile p.scm p", b"", &[1], &[], 3),
+    (LISTED, b"", &[2], &[], 3),
+    ("list p.scm", b"", &[], &[FAILED], 3),
+    ("count p.scm --heap 4096", b"", &[], &[FAILED], 3),
+    ("run p.scm", b"(display", &[], &[], 4),
+    ("list p.scm", b"(if)", &[], &[], 5),
+    ("count p.scm", b"(foo)", &[], &[], 6),
+    ("compile p.scm p", b"1152921504606846976", &[], &[], 7),
+    ("step p.scm", b"0123456789", &[], &[], 8),
+    ("run p.scm --heap 4096 --steps 0", b"", &[], &[], 9),
+    ("run p.scm --heap 4096", b"(car 1)", &[], &[], 65),
+    ("run p.scm --heap 4096", b"(display 1)", &[], &[FAILED], 74),
+];
+
 // No failure of the standard error changes a status, wherever in the line it is.
 #[test]
 fn each_answer_to_a_line_is_short_or_fails(rt: HostRuntime) -> Result<(), Fail> {
     let alloc = rt.alloc();
-    let output = [Answer::Failed];
-    let rows: [(&str, &[u8], &[u64], &[Answer], u8); 14] = [
-        ("run", b"", &[], &[], 1),
-        ("run none.scm", b"", &[], &[], 2),
-        ("compile p.scm p", b"", &[1], &[], 3),
-        (LISTED, b"", &[2], &[], 3),
-        ("list p.scm", b"", &[], &output, 3),
-        ("count p.scm --heap 4096", b"", &[], &output, 3),
-        ("run p.scm", b"(display", &[], &[], 4),
-        ("list p.scm", b"(if)", &[], &[], 5),
-        ("count p.scm", b"(foo)", &[], &[], 6),
-        ("compile p.scm p", b"1152921504606846976", &[], &[], 7),
-        ("step p.scm", b"0123456789", &[], &[], 8),
-        ("run p.scm --heap 4096 --steps 0", b"", &[], &[], 9),
-        ("run p.scm --heap 4096", b"(car 1)", &[], &[], 65),
-        ("run p.scm --heap 4096", b"(display 1)", &[], &output, 74),
-    ];
-    for (line, file, failing, out, status) in rows {
+    for (line, file, failing, out, status) in LINES {
         let outside = Outside {
             failing,
             out,
             ..Outside::of(file)
         };
         let well = call(alloc, line, outside)?;
-        assert_eq!(rt; well.status, status, "at {line}");
+        assert!(rt; well.status == *status, "at {line}");
         check_line(alloc, line, outside, &well, Answer::Failed)?;
         check_line(alloc, line, outside, &well, Answer::Took(0))?;
     }

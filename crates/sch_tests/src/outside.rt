@@ -1,22 +1,26 @@
-//! The program's call over a disk and streams in memory that may fail.
+//! The program's call over a disk and streams in memory that may fail, and tables of calls.
 
 use sch_cli::schc;
 use sch_io::{Disk, MemDisk, MemOutlet};
-use sch_word::{Answer, Bytes};
+use sch_word::{Answer, Bytes, Mem};
 use std::alloc::Global;
 use std::test::Fail;
+
+/// With the least heap and a small depth, so that an image has few zeros to load.
+pub(crate) const RUN: &str = "run a --heap 4096 --depth 20";
 
 /// The most bytes of a file that a call writes.
 const ROOM: u64 = 100_000;
 
-/// What is outside a call: the file `p.scm`, the numbers of the disk's calls that fail, and what the two streams answer to
-/// their first writes.
+/// What is outside a call: the file, which is `a` and `p.scm`, the numbers of the disk's calls that fail, what the two streams
+/// answer to their first writes, and how many bytes the standard output takes.
 #[derive(Clone, Copy)]
 pub(crate) struct Outside<'a> {
     pub(crate) file: &'a [u8],
     pub(crate) failing: &'a [u64],
     pub(crate) out: &'a [Answer],
     pub(crate) err: &'a [Answer],
+    pub(crate) room: usize,
 }
 
 impl<'a> Outside<'a> {
@@ -27,6 +31,7 @@ impl<'a> Outside<'a> {
             failing: &[],
             out: &[],
             err: &[],
+            room: 50_000,
         }
     }
 }
@@ -42,18 +47,32 @@ pub(crate) struct Outcome {
     pub(crate) listing: Option<Bytes>,
 }
 
-/// Calls the program with the words of a line, which are parted by spaces.
-pub(crate) fn call(alloc: Global, line: &str, outside: Outside) -> Result<Outcome, Fail> {
+// The words of a line, which are parted by spaces. An empty line has none.
+fn words_of(alloc: Global, line: &str) -> Result<Vec<String>, Mem> {
     let mut words = Vec::new(alloc);
-    for word in line.split(' ') {
-        words.push(String::from_str(alloc, word)?)?;
+    if !line.is_empty() {
+        for word in line.split(' ') {
+            words.push(String::from_str(alloc, word)?)?;
+        }
     }
-    let files = [(
-        Bytes::from_slice(alloc, b"p.scm")?,
-        Bytes::from_slice(alloc, outside.file)?,
-    )];
+    Ok(words)
+}
+
+/// Calls the program with the words of a line.
+pub(crate) fn call(alloc: Global, line: &str, outside: Outside) -> Result<Outcome, Fail> {
+    let words = words_of(alloc, line)?;
+    let files = [
+        (
+            Bytes::from_slice(alloc, b"a")?,
+            Bytes::from_slice(alloc, outside.file)?,
+        ),
+        (
+            Bytes::from_slice(alloc, b"p.scm")?,
+            Bytes::from_slice(alloc, outside.file)?,
+        ),
+    ];
     let mut disk = MemDisk::new(alloc, &files, ROOM, outside.failing)?;
-    let mut out = MemOutlet::new(alloc, outside.out, 50_000)?;
+    let mut out = MemOutlet::new(alloc, outside.out, outside.room)?;
     let mut err = MemOutlet::new(alloc, outside.err, 1000)?;
     let status = schc(alloc, words.as_slice(), &mut disk, &mut out, &mut err);
     let printed = Vec::from_slice(alloc, out.taken())?;
@@ -76,30 +95,102 @@ pub(crate) fn call_well(alloc: Global, line: &str, file: &[u8]) -> Result<Outcom
     call(alloc, line, Outside::of(file))
 }
 
-/// Calls the program: its status, what the standard output took, and what is said.
+/// What is wanted of a call: its status, what the standard output took, and what is said.
+pub(crate) type Wanted<'a> = (u8, &'a [u8], &'a [u8]);
+
+/// Whether a call ended so.
+pub(crate) fn ended(outcome: &Outcome, wanted: Wanted) -> bool {
+    let (status, printed, said) = wanted;
+    outcome.status == status
+        && outcome.printed.as_slice() == printed
+        && outcome.said.as_slice() == said
+}
+
+/// Calls the program: what is wanted comes of it.
 pub(crate) fn check(
     alloc: Global,
     line: &str,
     outside: Outside,
-    wanted: (u8, &[u8], &[u8]),
+    wanted: Wanted,
 ) -> Result<(), Fail> {
     let outcome = call(alloc, line, outside)?;
-    let (status, printed, said) = wanted;
-    if outcome.status != status
-        || outcome.printed.as_slice() != printed
-        || outcome.said.as_slice() != said
-    {
-        return Err(Fail::from("another end or output"));
+    if ended(&outcome, wanted) {
+        return Ok(());
     }
-    Ok(())
+    Err(Fail::from("another end or output"))
 }
 
-/// Calls the program where nothing fails.
+/// Calls the program where nothing fails: an executable is written exactly where one is compiled.
 pub(crate) fn check_well(
     alloc: Global,
     line: &str,
     file: &[u8],
-    wanted: (u8, &[u8], &[u8]),
+    wanted: Wanted,
 ) -> Result<(), Fail> {
-    check(alloc, line, Outside::of(file), wanted)
+    let outcome = call_well(alloc, line, file)?;
+    let compiles = wanted.0 == 0 && line.starts_with("compile");
+    if ended(&outcome, wanted) && outcome.target.is_some() == compiles {
+        return Ok(());
+    }
+    Err(Fail::from("another end or output"))
+}
+
+/// Calls the program with one line and each of these files, which ends with 0: what is printed.
+pub(crate) fn check_printed(
+    alloc: Global,
+    line: &str,
+    rows: &[(&[u8], &[u8])],
+) -> Result<(), Fail> {
+    for (file, printed) in rows {
+        check_well(alloc, line, file, (0, printed, b""))?;
+    }
+    Ok(())
+}
+
+/// A file, and what is wanted of a call with it.
+pub(crate) type Ended<'a> = (&'a [u8], Wanted<'a>);
+
+/// Calls the program with one line and each of these files.
+pub(crate) fn check_files(alloc: Global, line: &str, rows: &[Ended]) -> Result<(), Fail> {
+    for (file, wanted) in rows {
+        check_well(alloc, line, file, *wanted)?;
+    }
+    Ok(())
+}
+
+/// A line, a file, and what is wanted of their call.
+pub(crate) type Called<'a> = (&'a str, &'a [u8], Wanted<'a>);
+
+/// Calls the program with each of these lines and its file.
+pub(crate) fn check_lines(alloc: Global, rows: &[Called]) -> Result<(), Fail> {
+    for (line, file, wanted) in rows {
+        check_well(alloc, line, file, *wanted)?;
+    }
+    Ok(())
+}
+
+/// A text, one that stands behind it so many times, and one at the end.
+pub(crate) type Repeated<'a> = (&'a [u8], &'a [u8], usize, &'a [u8]);
+
+/// Pushes these bytes so many times.
+pub(crate) fn repeat(source: &mut Bytes, part: &[u8], count: usize) -> Result<(), Mem> {
+    for _ in 0..count {
+        source.extend_from_slice(part)?;
+    }
+    Ok(())
+}
+
+/// Calls the program with one line and the file of each of these texts.
+pub(crate) fn check_repeated(
+    alloc: Global,
+    line: &str,
+    rows: &[(Repeated, Wanted)],
+) -> Result<(), Fail> {
+    for ((first, part, count, last), wanted) in rows {
+        let mut source = Bytes::from_slice(alloc, first)?;
+        repeat(&mut source, part, *count)?;
+        source.extend_from_slice(last)?;
+        check_well(alloc, line, source.as_slice(), *wanted)?;
+    }
+    Ok(())
 }

@@ -1,264 +1,205 @@
-//! The program's call over a disk and outlets in memory.
+//! The program's call over a disk and streams in memory: what is compiled and refused, words and options, and images.
 ghost use Rattle.std.specs.Prelude.{◌≤◌, length};
 
-use sch_cli::{report_words, schc};
+use crate::outside::{
+    Called, Ended, Repeated, Wanted, call_well, check_files, check_lines, check_printed,
+    check_repeated, check_well,
+};
+use sch_cli::report_words;
 use sch_elf::{program_image, write_image};
-use sch_io::{Disk, MemDisk, MemOutlet};
-use sch_word::{Answer, Bytes};
+use sch_io::MemOutlet;
+use sch_word::Bytes;
 use std::alloc::Global;
 use std::io::{Error, ErrorKind};
 use std::test::Fail;
 
-/// The most bytes of a file that a call writes.
-const ROOM: u64 = 100_000;
+const COMPILE: &str = "compile a p";
 
-// What a call answered, what the file `b` then holds, and what was said.
-#[derive(Drop)]
-pub(crate) struct Outcome {
-    pub(crate) status: u8,
-    pub(crate) target: Option<Bytes>,
-    pub(crate) said: Vec<u8>,
-}
-
-// Calls the program on a disk whose only file is `a`.
-pub(crate) fn call(alloc: Global, words: &[&str], source: &[u8]) -> Result<Outcome, Fail> {
-    let mut all = Vec::new(alloc);
-    for word in words {
-        all.push(String::from_str(alloc, word)?)?;
-    }
-    let files = [(
-        Bytes::from_slice(alloc, b"a")?,
-        Bytes::from_slice(alloc, source)?,
-    )];
-    let mut disk = MemDisk::new(alloc, &files, ROOM, &[])?;
-    let mut out = MemOutlet::new(alloc, &[], 0)?;
-    let mut err = MemOutlet::new(alloc, &[], 1000)?;
-    let status = schc(alloc, all.as_slice(), &mut disk, &mut out, &mut err);
-    let said = Vec::from_slice(alloc, err.taken())?;
-    let target = disk.read(alloc, "b", ROOM).ok();
-    Ok(Outcome {
-        status,
-        target,
-        said,
-    })
-}
-
-fn compile(alloc: Global, source: &[u8]) -> Result<Outcome, Fail> {
-    call(alloc, &["compile", "a", "b"], source)
-}
+const COMPILED: &[(&[u8], &[u8])] = &[
+    (b"", b""),
+    (b" \t\n\r\x0c", b""),
+    (b"; a comment", b""),
+    (b"(display -42)\n(newline)", b""),
+    (b"(DISPLAY 007)(display +1)(display -0)", b""),
+    (b"( display\t\n 1152921504606846975 ) (\nNewline )", b""),
+    (b"(display -1152921504606846976)(display #\\space)", b""),
+    (b"(display #t)(display #f)", b""),
+    (b"(begin (newline))", b""),
+    (b"(begin)", b""),
+    (b"(lambda (if) if)", b""),
+    (b"(define x 1)", b""),
+    (b"(display 1)(display (+))1", b""),
+    (b"(display '1)2 3", b""),
+    (b"(display \"a\")", b""),
+    (b"(newline)(display (car 1))", b""),
+    (b"(car)", b""),
+];
 
 #[test]
 fn texts_that_compile(rt: HostRuntime) -> Result<(), Fail> {
-    let texts: [&[u8]; 17] = [
-        b"",
-        b" \t\n\r\x0c",
-        b"; a comment",
-        b"(display -42)\n(newline)",
-        b"(DISPLAY 007)(display +1)(display -0)",
-        b"( display\t\n 1152921504606846975 ) (\nNewline )",
-        b"(display -1152921504606846976)(display #\\space)",
-        b"(display #t)(display #f)",
-        b"(begin (newline))",
-        b"(begin)",
-        b"(lambda (if) if)",
-        b"(define x 1)",
-        b"(display 1)(display (+))1",
-        b"(display '1)2 3",
-        b"(display \"a\")",
-        b"(newline)(display (car 1))",
-        b"(car)",
-    ];
-    for text in texts {
-        let outcome = compile(rt.alloc(), text)?;
-        assert_eq!(rt; outcome.status, 0);
-        assert_eq!(rt; outcome.said.as_slice(), [].as_slice());
-        assert!(rt; outcome.target.is_some());
-    }
-    Ok(())
+    check_printed(rt.alloc(), COMPILE, COMPILED)
 }
+
+const REFUSED: &[Ended] = &[
+    (b"(display (list 1 2", (4, b"", b"a: byte 9: unclosed\n")),
+    (b"(display 1", (4, b"", b"a: byte 0: unclosed\n")),
+    (b")", (4, b"", b"a: byte 0: stray close\n")),
+    (b"(a . b c)", (4, b"", b"a: byte 7: bad token\n")),
+    (b"1.5", (4, b"", b"a: byte 0: bad number\n")),
+    (b"\"a\\q\"", (4, b"", b"a: byte 2: bad string\n")),
+    (b"(define if 1)", (5, b"", b"a: byte 0: keyword defined\n")),
+    (b"(if)", (5, b"", b"a: byte 0: bad form\n")),
+    (b"()", (5, b"", b"a: byte 0: bad form\n")),
+    (b"#(1)", (5, b"", b"a: byte 0: bad form\n")),
+    (b"(quasiquote x)", (5, b"", b"a: byte 0: bad form\n")),
+    (b"(+ 1 (begin))", (5, b"", b"a: byte 5: bad form\n")),
+    (b"(lambda (x x) x)", (5, b"", b"a: byte 0: bad form\n")),
+    (b"(let ((x 1) (x 2)) x)", (5, b"", b"a: byte 0: bad form\n")),
+    (b"(display 1) x", (6, b"", b"a: byte 12: unbound x\n")),
+    (
+        b"(display 1152921504606846976)",
+        (7, b"", b"a: byte 9: limit literal\n"),
+    ),
+    (b"(newlin)", (6, b"", b"a: byte 1: unbound newlin\n")),
+    (b"(foo)", (6, b"", b"a: byte 1: unbound foo\n")),
+    (b"(set! y 1)", (6, b"", b"a: byte 6: unbound y\n")),
+];
 
 #[test]
 fn texts_that_are_refused(rt: HostRuntime) -> Result<(), Fail> {
-    let rows: [(&[u8], u8, &[u8]); 19] = [
-        (b"(display (list 1 2", 4, b"a: byte 9: unclosed\n"),
-        (b"(display 1", 4, b"a: byte 0: unclosed\n"),
-        (b")", 4, b"a: byte 0: stray close\n"),
-        (b"(a . b c)", 4, b"a: byte 7: bad token\n"),
-        (b"1.5", 4, b"a: byte 0: bad number\n"),
-        (b"\"a\\q\"", 4, b"a: byte 2: bad string\n"),
-        (b"(define if 1)", 5, b"a: byte 0: keyword defined\n"),
-        (b"(if)", 5, b"a: byte 0: bad form\n"),
-        (b"()", 5, b"a: byte 0: bad form\n"),
-        (b"#(1)", 5, b"a: byte 0: bad form\n"),
-        (b"(quasiquote x)", 5, b"a: byte 0: bad form\n"),
-        (b"(+ 1 (begin))", 5, b"a: byte 5: bad form\n"),
-        (b"(lambda (x x) x)", 5, b"a: byte 0: bad form\n"),
-        (b"(let ((x 1) (x 2)) x)", 5, b"a: byte 0: bad form\n"),
-        (b"(display 1) x", 6, b"a: byte 12: unbound x\n"),
-        (
-            b"(display 1152921504606846976)",
-            7,
-            b"a: byte 9: limit literal\n",
-        ),
-        (b"(newlin)", 6, b"a: byte 1: unbound newlin\n"),
-        (b"(foo)", 6, b"a: byte 1: unbound foo\n"),
-        (b"(set! y 1)", 6, b"a: byte 6: unbound y\n"),
-    ];
-    for (source, status, said) in rows {
-        let outcome = compile(rt.alloc(), source)?;
-        assert_eq!(rt; outcome.status, status);
-        assert_eq!(rt; outcome.said.as_slice(), said);
-        assert!(rt; outcome.target.is_none());
-    }
-    Ok(())
+    check_files(rt.alloc(), COMPILE, REFUSED)
 }
 
-// A thousand levels of parentheses are the most.
+const OPERANDS: &[u8] = b"a: byte 0: limit operands\n";
+
+const LIMITS: &[(Repeated, Wanted)] = &[
+    // A thousand levels of parentheses are the most.
+    (
+        (b"", b"(", 1001, b""),
+        (7, b"", b"a: byte 1000: limit nesting\n"),
+    ),
+    // 200 operands are the most, of operations and of calls.
+    ((b"(+", b" 1", 200, b")"), (0, b"", b"")),
+    ((b"(+", b" 1", 201, b")"), (7, b"", OPERANDS)),
+    ((b"(list", b" 1", 200, b")"), (0, b"", b"")),
+    ((b"(list", b" 1", 201, b")"), (7, b"", OPERANDS)),
+    // A source of the greatest length.
+    ((b"", b" ", 1_048_576, b""), (0, b"", b"")),
+    ((b"", b" ", 1_048_577, b""), (7, b"", b"a: limit file\n")),
+];
+
 #[test]
-fn texts_that_nest_too_deep(rt: HostRuntime) -> Result<(), Fail> {
-    let mut deep = Vec::new(rt.alloc());
-    for _ in 0..1001 {
-        deep.push(b'(')?;
-    }
-    let outcome = compile(rt.alloc(), deep.as_slice())?;
-    assert_eq!(rt; outcome.status, 7);
-    assert_eq!(rt;
-        outcome.said.as_slice(),
-        b"a: byte 1000: limit nesting\n".as_slice()
-    );
-    Ok(())
+fn texts_at_their_limits(rt: HostRuntime) -> Result<(), Fail> {
+    check_repeated(rt.alloc(), COMPILE, LIMITS)
 }
 
-// 200 operands are the most, of operations and of calls.
+// Constants and variables whose values are dropped: a body has as many as its text has room for.
+const PARTS: &[(Repeated, Wanted)] = &[(
+    (b"(define (f x)", b" 1 x", 10_000, b" 7)(display (f 0))"),
+    (0, b"7", b""),
+)];
+
 #[test]
-fn forms_of_too_many_operands(rt: HostRuntime) -> Result<(), Fail> {
-    for name in ["+", "list"] {
-        let wide = of_ones(rt.alloc(), name, 200)?;
-        let outcome = compile(rt.alloc(), wide.as_slice())?;
-        assert_eq!(rt; outcome.status, 0);
-        let wider = of_ones(rt.alloc(), name, 201)?;
-        let outcome = compile(rt.alloc(), wider.as_slice())?;
-        assert_eq!(rt; outcome.status, 7);
-        assert_eq!(rt;
-            outcome.said.as_slice(),
-            b"a: byte 0: limit operands\n".as_slice()
-        );
-    }
-    Ok(())
-}
-
-// `(NAME 1 1 ..)`.
-fn of_ones(alloc: Global, name: &str, count: usize) -> Result<Vec<u8>, Fail> {
-    let mut form = Vec::from_slice(alloc, b"(")?;
-    form.extend_from_slice(name.as_bytes())?;
-    for _ in 0..count {
-        form.extend_from_slice(b" 1")?;
-    }
-    form.push(b')')?;
-    Ok(form)
+fn a_body_of_many_parts(rt: HostRuntime) -> Result<(), Fail> {
+    check_repeated(rt.alloc(), "run a", PARTS)
 }
 
 // The places of the numbers are those of the ELF-64 header and program headers.
+const PLACES: &[(usize, &[u8])] = &[
+    (0, &[0x7f, b'E', b'L', b'F', 2, 1, 1, 0]),
+    (24, &[0, 0, 0x40, 0, 0, 0, 0, 0]),
+    (80, &[0, 0, 0x40, 0, 0, 0, 0, 0]),
+    (136, &[0, 0, 0, 0x10, 0, 0, 0, 0]),
+];
+
 #[test]
 fn program_has_its_header(rt: HostRuntime) -> Result<(), Fail> {
-    let outcome = compile(rt.alloc(), b"(display -42)\n(newline)\n")?;
+    let outcome = call_well(rt.alloc(), COMPILE, b"(display -42)\n(newline)\n")?;
     let file = outcome.target.ok_or("no file")?;
-    let places: [(usize, &[u8]); 4] = [
-        (0, &[0x7f, b'E', b'L', b'F', 2, 1, 1, 0]),
-        (24, &[0, 0, 0x40, 0, 0, 0, 0, 0]),
-        (80, &[0, 0, 0x40, 0, 0, 0, 0, 0]),
-        (136, &[0, 0, 0, 0x10, 0, 0, 0, 0]),
-    ];
-    for (place, bytes) in places {
-        let (_, rest) = file.as_slice().split_at_checked(place).ok_or("too short")?;
+    for (place, bytes) in PLACES {
+        let rest = file.as_slice().get(*place..).ok_or("too short")?;
         assert!(rt; rest.starts_with(bytes), "at {place}");
     }
     Ok(())
 }
 
+const USAGE: &[u8] =
+    b"usage: schc VERB NAME [NAME2] [--listing F] [--heap N] [--depth N] [--steps N]\n";
+
+// Lines of words, which are parted by single spaces: some words are empty.
+const NO_COMMANDS: &[&str] = &[
+    "",
+    "--help",
+    "compile",
+    "compile a",
+    "compile a a",
+    "compile  p",
+    "compile a ",
+    "compile a p c",
+    "compile a --listing",
+    "compile a p --listing p",
+    "run a --listing=c",
+    "step --listing c a",
+    "run --steps",
+    "step -a",
+    "run",
+    "run a p",
+    "run a --heap",
+    "run a --heap ",
+    "run a --heap 4080",
+    "run a --heap 4097",
+    "compile a p --heap 1073741840",
+    "compile a p --steps 1",
+    "run a --heap 4096 --heap 4096",
+    "run a --heap 4096 --heap=4096",
+    "run --heap a",
+    "run a -- --heap=4096",
+    "step a --heap 4096",
+    "run a --steps 1000000000000000001",
+    "run a --steps 1x",
+    "run a --depth 0",
+    "run a --depth 10000001",
+    "compile a p --depth",
+    "run a --depth 1 --steps 1 --depth 1",
+    "step a --depth 1",
+    "step ",
+];
+
 #[test]
 fn words_that_are_no_command(rt: HostRuntime) -> Result<(), Fail> {
-    let commands: [&[&str]; 35] = [
-        &[],
-        &["--help"],
-        &["compile"],
-        &["compile", "a"],
-        &["compile", "a", "a"],
-        &["compile", "", "b"],
-        &["compile", "a", ""],
-        &["compile", "a", "b", "c"],
-        &["compile", "a", "--listing"],
-        &["compile", "a", "b", "--listing", "b"],
-        &["run", "a", "--listing=c"],
-        &["step", "--listing", "c", "a"],
-        &["run", "--steps"],
-        &["step", "-a"],
-        &["run"],
-        &["run", "a", "b"],
-        &["run", "a", "--heap"],
-        &["run", "a", "--heap", ""],
-        &["run", "a", "--heap", "4080"],
-        &["run", "a", "--heap", "4097"],
-        &["compile", "a", "b", "--heap", "1073741840"],
-        &["compile", "a", "b", "--steps", "1"],
-        &["run", "a", "--heap", "4096", "--heap", "4096"],
-        &["run", "a", "--heap", "4096", "--heap=4096"],
-        &["run", "--heap", "a"],
-        &["run", "a", "--", "--heap=4096"],
-        &["step", "a", "--heap", "4096"],
-        &["run", "a", "--steps", "1000000000000000001"],
-        &["run", "a", "--steps", "1x"],
-        &["run", "a", "--depth", "0"],
-        &["run", "a", "--depth", "10000001"],
-        &["compile", "a", "b", "--depth"],
-        &["run", "a", "--depth", "1", "--steps", "1", "--depth", "1"],
-        &["step", "a", "--depth", "1"],
-        &["step", ""],
-    ];
-    for words in commands {
-        let outcome = call(rt.alloc(), words, b"")?;
-        assert_eq!(rt; outcome.status, 1);
-        assert_eq!(rt;
-            outcome.said.as_slice(),
-            b"usage: schc VERB NAME [NAME2] [--listing F] [--heap N] [--depth N] [--steps N]\n".as_slice()
-        );
-        assert!(rt; outcome.target.is_none());
+    for line in NO_COMMANDS {
+        check_well(rt.alloc(), line, b"", (1, b"", USAGE))?;
     }
     Ok(())
 }
+
+const SPENT: Wanted = (9, b"", b"steps spent\n");
+
+const DONE: Wanted = (0, b"", b"");
+
+const OPTIONS: &[Called] = &[
+    ("run --heap=4096 a", b"", DONE),
+    ("run a --heap 0000000000000004096", b"", DONE),
+    ("--steps 0 run a --heap 8192", b"", SPENT),
+    ("run --heap=8192 --steps=0 -- a", b"", SPENT),
+    ("compile a p --heap 1073741824", b"", DONE),
+    ("compile a --depth 10000000 p", b"", DONE),
+    ("run a --steps 0 --depth 1 --heap 8192", b"", SPENT),
+];
 
 #[test]
 fn words_with_options(rt: HostRuntime) -> Result<(), Fail> {
-    let commands: [(&[&str], u8); 7] = [
-        (&["run", "--heap=4096", "a"], 0),
-        (&["run", "a", "--heap", "0000000000000004096"], 0),
-        (&["--steps", "0", "run", "a", "--heap", "8192"], 9),
-        (&["run", "--heap=8192", "--steps=0", "--", "a"], 9),
-        (&["compile", "a", "b", "--heap", "1073741824"], 0),
-        (&["compile", "a", "--depth", "10000000", "b"], 0),
-        (
-            &["run", "a", "--steps", "0", "--depth", "1", "--heap", "8192"],
-            9,
-        ),
-    ];
-    for (words, status) in commands {
-        let outcome = call(rt.alloc(), words, b"")?;
-        assert_eq!(rt; outcome.status, status);
-    }
-    Ok(())
+    check_lines(rt.alloc(), OPTIONS)
 }
+
+const CAUSES: [(ErrorKind, u8, &[u8]); 2] = [
+    (ErrorKind::OutOfMemory, 10, b"out of memory\n"),
+    (ErrorKind::InvalidData, 1, USAGE),
+];
 
 #[test]
 fn words_that_the_host_does_not_give(rt: HostRuntime) -> Result<(), Fail> {
-    let causes: [(ErrorKind, u8, &[u8]); 2] = [
-        (ErrorKind::OutOfMemory, 10, b"out of memory\n"),
-        (
-            ErrorKind::InvalidData,
-            1,
-            b"usage: schc VERB NAME [NAME2] [--listing F] [--heap N] [--depth N] [--steps N]\n",
-        ),
-    ];
-    for (kind, status, said) in causes {
+    for (kind, status, said) in CAUSES {
         let mut err = MemOutlet::new(rt.alloc(), &[], 1000)?;
         assert_eq!(rt; report_words(&Error::from(kind), &mut err), status);
         assert_eq!(rt; err.taken(), said);
@@ -266,132 +207,53 @@ fn words_that_the_host_does_not_give(rt: HostRuntime) -> Result<(), Fail> {
     Ok(())
 }
 
-#[test]
-fn a_source_of_the_greatest_length(rt: HostRuntime) -> Result<(), Fail> {
-    let mut spaces = Vec::new(rt.alloc());
-    for _ in 0..1_048_576 {
-        spaces.push(b' ')?;
-    }
-    let outcome = compile(rt.alloc(), spaces.as_slice())?;
-    assert_eq!(rt; outcome.status, 0);
-    spaces.push(b' ')?;
-    let outcome = compile(rt.alloc(), spaces.as_slice())?;
-    assert_eq!(rt; outcome.status, 7);
-    assert_eq!(rt; outcome.said.as_slice(), b"a: limit file\n".as_slice());
-    assert!(rt; outcome.target.is_none());
-    Ok(())
-}
+const TWO_LINES: &[u8] = b"(display -42)(newline)";
 
-// Constants and variables whose values are dropped: a body has as many as its text has room for.
-#[test]
-fn a_body_of_many_parts(rt: HostRuntime) -> Result<(), Fail> {
-    let mut source = Vec::from_slice(rt.alloc(), b"(define (f x)")?;
-    for _ in 0..10_000 {
-        source.extend_from_slice(b" 1 x")?;
-    }
-    source.extend_from_slice(b" 7)(display (f 0))")?;
-    let ending = perform(rt.alloc(), &["run", "a"], source.as_slice(), &[])?;
-    assert_eq!(rt; ending.status, 0);
-    assert_eq!(rt; ending.printed.as_slice(), b"7".as_slice());
-    Ok(())
-}
-
-/// What a verb answered that runs something, what was printed, and what was said.
-#[derive(Drop)]
-pub struct Ending {
-    pub status: u8,
-    pub printed: Vec<u8>,
-    pub said: Vec<u8>,
-}
-
-/// Calls the program on a disk whose only file is `a`, over an outlet that answers by this plan.
-pub fn perform(
-    alloc: Global,
-    words: &[&str],
-    file: &[u8],
-    plan: &[Answer],
-) -> Result<Ending, Fail> {
-    let mut all = Vec::new(alloc);
-    for word in words {
-        all.push(String::from_str(alloc, word)?)?;
-    }
-    let files = [(
-        Bytes::from_slice(alloc, b"a")?,
-        Bytes::from_slice(alloc, file)?,
-    )];
-    let mut disk = MemDisk::new(alloc, &files, 0, &[])?;
-    let mut out = MemOutlet::new(alloc, plan, 1000)?;
-    let mut err = MemOutlet::new(alloc, &[], 1000)?;
-    let status = schc(alloc, all.as_slice(), &mut disk, &mut out, &mut err);
-    let printed = Vec::from_slice(alloc, out.taken())?;
-    let said = Vec::from_slice(alloc, err.taken())?;
-    Ok(Ending {
-        status,
-        printed,
-        said,
-    })
-}
+const SOURCES: &[Called] = &[
+    ("run a", TWO_LINES, (0, b"-42\n", b"")),
+    ("run a --heap 4096", b"", DONE),
+    ("run a --steps 0", TWO_LINES, SPENT),
+    ("run c", TWO_LINES, (2, b"", b"c: read failed\n")),
+    ("run a", b"(newline)(define (g . l) 1)", (0, b"\n", b"")),
+    (
+        "run a",
+        b"(newline) x",
+        (6, b"", b"a: byte 10: unbound x\n"),
+    ),
+];
 
 #[test]
 fn sources_run(rt: HostRuntime) -> Result<(), Fail> {
-    let source = b"(display -42)(newline)";
-    let whole = perform(rt.alloc(), &["run", "a"], source, &[])?;
-    assert_eq!(rt; whole.status, 0);
-    assert_eq!(rt; whole.printed.as_slice(), b"-42\n".as_slice());
-    assert_eq!(rt; whole.said.as_slice(), [].as_slice());
-    let small = ["run", "a", "--heap", "4096"];
-    let empty = perform(rt.alloc(), &small, b"", &[])?;
-    assert_eq!(rt; empty.status, 0);
-    assert_eq!(rt; empty.printed.as_slice(), [].as_slice());
-    let spent = perform(rt.alloc(), &["run", "a", "--steps", "0"], source, &[])?;
-    assert_eq!(rt; spent.status, 9);
-    assert_eq!(rt; spent.said.as_slice(), b"steps spent\n".as_slice());
-    let absent = perform(rt.alloc(), &["run", "c"], source, &[])?;
-    assert_eq!(rt; absent.status, 2);
-    assert_eq!(rt; absent.said.as_slice(), b"c: read failed\n".as_slice());
-    let other = perform(
-        rt.alloc(),
-        &["run", "a"],
-        b"(newline)(define (g . l) 1)",
-        &[],
-    )?;
-    assert_eq!(rt; other.status, 0);
-    assert_eq!(rt; other.printed.as_slice(), b"\n".as_slice());
-    let faulty = perform(rt.alloc(), &["run", "a"], b"(newline) x", &[])?;
-    assert_eq!(rt; faulty.status, 6);
-    assert_eq!(rt; faulty.printed.as_slice(), [].as_slice());
-    Ok(())
+    check_lines(rt.alloc(), SOURCES)
 }
+
+const STEPPED: &[(&[u8], &[u8])] = &[
+    (b"", b""),
+    (b"(display 7)(newline)", b"7\n"),
+    (b"(display 007)(display -0)", b"70"),
+    (b"(display #t)(display #\\a)(newline)", b"#ta\n"),
+    (b"(display -1152921504606846976)", b"-1152921504606846976"),
+    (b"(display 1152921504606846975)", b"1152921504606846975"),
+];
 
 #[test]
 fn compiled_images_step(rt: HostRuntime) -> Result<(), Fail> {
-    let sources: [(&[u8], &[u8]); 6] = [
-        (b"", b""),
-        (b"(display 7)(newline)", b"7\n"),
-        (b"(display 007)(display -0)", b"70"),
-        (b"(display #t)(display #\\a)(newline)", b"#ta\n"),
-        (b"(display -1152921504606846976)", b"-1152921504606846976"),
-        (b"(display 1152921504606846975)", b"1152921504606846975"),
-    ];
-    for (source, printed) in sources {
-        let words = ["compile", "a", "b", "--heap", "4096"];
-        let outcome = call(rt.alloc(), &words, source)?;
-        let image = outcome.target.ok_or("no file")?;
-        let outcome = perform(rt.alloc(), &["step", "a"], image.as_slice(), &[])?;
-        assert_eq!(rt; outcome.status, 0);
-        assert_eq!(rt; outcome.printed.as_slice(), printed);
-        assert_eq!(rt; outcome.said.as_slice(), [].as_slice());
+    for (source, printed) in STEPPED {
+        let compiled = call_well(rt.alloc(), "compile a p --heap 4096", source)?;
+        let image = compiled.target.ok_or("no file")?;
+        check_well(rt.alloc(), "step a", image.as_slice(), (0, printed, b""))?;
     }
     Ok(())
 }
 
-// The file of an image with this text.
-fn image(alloc: Global, text: &[u8]) -> Result<Bytes, Fail>
+// Steps the image with this text.
+fn check_image(alloc: Global, line: &str, text: &[u8], wanted: Wanted) -> Result<(), Fail>
     requires { length text.now ≤ 1000 }
 {
     let text = Bytes::from_slice(alloc, text)?;
     let image = program_image(alloc, text, Bytes::new(alloc), 0)?;
-    Ok(write_image(alloc, &image)?)
+    let file = write_image(alloc, &image)?;
+    check_well(alloc, line, file.as_slice(), wanted)
 }
 
 /// mov rax, 60; mov rdi, STATUS; syscall.
@@ -401,75 +263,64 @@ pub(crate) fn exit_with(status: u8) -> [u8; 16] {
     ]
 }
 
+const ENDINGS: &[(u8, Wanted)] = &[
+    (0, (0, b"", b"")),
+    (65, (65, b"", b"stop 65: wrong type\n")),
+    (66, (66, b"", b"stop 66: out of range\n")),
+    (67, (67, b"", b"stop 67: not a procedure\n")),
+    (68, (68, b"", b"stop 68: wrong argument count\n")),
+    (69, (69, b"", b"stop 69: division by zero\n")),
+    (70, (70, b"", b"stop 70: fixnum overflow\n")),
+    (71, (71, b"", b"stop 71: heap limit\n")),
+    (72, (72, b"", b"stop 72: depth limit\n")),
+    (73, (73, b"", b"stop 73: unset variable\n")),
+    (74, (74, b"", b"stop 74: output failed\n")),
+    (64, (8, b"", b"a: exit status 64\n")),
+    (75, (8, b"", b"a: exit status 75\n")),
+    (1, (8, b"", b"a: exit status 1\n")),
+];
+
 #[test]
 fn images_end(rt: HostRuntime) -> Result<(), Fail> {
-    let endings: [(u8, u8, &[u8]); 14] = [
-        (0, 0, b""),
-        (65, 65, b"stop 65: wrong type\n"),
-        (66, 66, b"stop 66: out of range\n"),
-        (67, 67, b"stop 67: not a procedure\n"),
-        (68, 68, b"stop 68: wrong argument count\n"),
-        (69, 69, b"stop 69: division by zero\n"),
-        (70, 70, b"stop 70: fixnum overflow\n"),
-        (71, 71, b"stop 71: heap limit\n"),
-        (72, 72, b"stop 72: depth limit\n"),
-        (73, 73, b"stop 73: unset variable\n"),
-        (74, 74, b"stop 74: output failed\n"),
-        (64, 8, b"a: exit status 64\n"),
-        (75, 8, b"a: exit status 75\n"),
-        (1, 8, b"a: exit status 1\n"),
-    ];
-    for (exit, status, said) in endings {
-        let file = image(rt.alloc(), &exit_with(exit))?;
-        let outcome = perform(rt.alloc(), &["step", "a"], file.as_slice(), &[])?;
-        assert_eq!(rt; outcome.status, status);
-        assert_eq!(rt; outcome.said.as_slice(), said);
+    for (exit, wanted) in ENDINGS {
+        check_image(rt.alloc(), "step a", &exit_with(*exit), *wanted)?;
     }
-    let file = image(rt.alloc(), &exit_with(0))?;
-    let spent = perform(
-        rt.alloc(),
-        &["step", "a", "--steps", "2"],
-        file.as_slice(),
-        &[],
-    )?;
-    assert_eq!(rt; spent.status, 9);
-    let done = perform(
-        rt.alloc(),
-        &["step", "a", "--steps", "3"],
-        file.as_slice(),
-        &[],
-    )?;
-    assert_eq!(rt; done.status, 0);
     Ok(())
 }
 
+// Three instructions are three steps.
+#[test]
+fn images_end_in_steps(rt: HostRuntime) -> Result<(), Fail> {
+    check_image(rt.alloc(), "step a --steps 2", &exit_with(0), SPENT)?;
+    check_image(rt.alloc(), "step a --steps 3", &exit_with(0), DONE)
+}
+
+const STUCK: &[(&[u8], &[u8])] = &[
+    (&[0xC3], b"a: stuck at 00400000: fetch\n"),
+    // mov rax, 123456789ABCDEF0; jmp rax
+    (
+        &[
+            0x48, 0xB8, 0xF0, 0xDE, 0xBC, 0x9A, 0x78, 0x56, 0x34, 0x12, 0x40, 0xFF, 0xE0,
+        ],
+        b"a: stuck at 123456789abcdef0: fetch\n",
+    ),
+    (
+        &[0x48, 0x8B, 0x83, 0, 0, 0, 0],
+        b"a: stuck at 00400000: access\n",
+    ),
+    (&[0x0F, 0x84, 0, 0, 0, 0], b"a: stuck at 00400000: flag\n"),
+    (
+        &[0x48, 0x99, 0x48, 0xF7, 0xF9],
+        b"a: stuck at 00400002: divide\n",
+    ),
+    (&[0x0F, 0x05], b"a: stuck at 00400000: kernel\n"),
+];
+
 #[test]
 fn images_get_stuck(rt: HostRuntime) -> Result<(), Fail> {
-    let texts: [(&[u8], &[u8]); 6] = [
-        (&[0xC3], b"a: stuck at 00400000: fetch\n"),
-        // mov rax, 123456789ABCDEF0; jmp rax
-        (
-            &[
-                0x48, 0xB8, 0xF0, 0xDE, 0xBC, 0x9A, 0x78, 0x56, 0x34, 0x12, 0x40, 0xFF, 0xE0,
-            ],
-            b"a: stuck at 123456789abcdef0: fetch\n",
-        ),
-        (
-            &[0x48, 0x8B, 0x83, 0, 0, 0, 0],
-            b"a: stuck at 00400000: access\n",
-        ),
-        (&[0x0F, 0x84, 0, 0, 0, 0], b"a: stuck at 00400000: flag\n"),
-        (
-            &[0x48, 0x99, 0x48, 0xF7, 0xF9],
-            b"a: stuck at 00400002: divide\n",
-        ),
-        (&[0x0F, 0x05], b"a: stuck at 00400000: kernel\n"),
-    ];
-    for (text, said) in texts {
-        let file = image(rt.alloc(), text)?;
-        let outcome = perform(rt.alloc(), &["step", "a"], file.as_slice(), &[])?;
-        assert_eq!(rt; outcome.status, 8);
-        assert_eq!(rt; outcome.said.as_slice(), said);
+    for (text, said) in STUCK {
+        assert!(rt; text.len() <= 1000);
+        check_image(rt.alloc(), "step a", text, (8, b"", said))?;
     }
     Ok(())
 }

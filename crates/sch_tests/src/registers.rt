@@ -1,9 +1,10 @@
 //! What compiled bodies save, restore and spill, by the marks that are listed of them.
 
-use crate::straight::check_printed;
+use crate::outside::{RUN, check_well, repeat};
 use sch_asm::Mark;
 use sch_driver::{Compiled, MAX_SOURCE_SIZE, compile};
-use sch_word::{Bytes, Limits, MarkKind, Mem, Place};
+use sch_listing::Cycle;
+use sch_word::{Bytes, Limits, MarkKind, Place};
 use std::alloc::Global;
 use std::test::Fail;
 
@@ -62,12 +63,6 @@ fn marks_of(alloc: Global, marks: &[Mark], body: u32) -> Result<Vec<(u8, u32)>, 
     Ok(all)
 }
 
-fn body_marks(alloc: Global, text: &[u8], name: &[u8]) -> Result<Vec<(u8, u32)>, Fail> {
-    let made = compiled(alloc, text)?;
-    let body = body_of(made.listing.bodies.as_slice(), name);
-    marks_of(alloc, made.listing.marks.as_slice(), body)
-}
-
 // The site of the last tail call of a body.
 fn last_tail(marks: &[Mark], body: u32) -> u32 {
     let mut inside = false;
@@ -99,136 +94,163 @@ fn gap(marks: &[Mark], body: u32) -> u64 {
     0
 }
 
+// Compiles a text: the marks of the body of this name.
+fn check_marks(alloc: Global, text: &[u8], name: &[u8], wanted: &[(u8, u32)]) -> Result<(), Fail> {
+    let made = compiled(alloc, text)?;
+    let body = body_of(made.listing.bodies.as_slice(), name);
+    let marks = marks_of(alloc, made.listing.marks.as_slice(), body)?;
+    if marks.as_slice() != wanted {
+        return Err(Fail::from("other marks"));
+    }
+    Ok(())
+}
+
+const ARM: &[u8] =
+    b"(define (h z) z)(define (g x y) (if (and x (h y)) y (not (h x))))(display (g 1 7))(display (g #f 7))";
+
+const ARM_MARKS: &[(u8, u32)] = &[
+    (b's', 0),
+    (b's', 2),
+    (b's', 3),
+    (b'c', 0),
+    (b'r', 0),
+    (b'r', 2),
+    (b'r', 3),
+    (b'.', 0),
+    (b'c', 0),
+    (b'r', 0),
+    (b'.', 0),
+    (b'.', 0),
+];
+
 // The return address is saved at the entry, as every way through has a call behind which it is wanted, and both operands in
 // the arm of the inner call, behind which they are.
 #[test]
 fn saves_in_an_arm(rt: HostRuntime) -> Result<(), Fail> {
-    let text =
-        b"(define (h z) z)(define (g x y) (if (and x (h y)) y (not (h x))))(display (g 1 7))(display (g #f 7))";
-    let marks = body_marks(rt.alloc(), text, b"g")?;
-    let wanted = [
-        (b's', 0),
-        (b's', 2),
-        (b's', 3),
-        (b'c', 0),
-        (b'r', 0),
-        (b'r', 2),
-        (b'r', 3),
-        (b'.', 0),
-        (b'c', 0),
-        (b'r', 0),
-        (b'.', 0),
-        (b'.', 0),
-    ];
-    assert_eq!(rt; marks.as_slice(), wanted.as_slice());
-    // The test of `x` lies between them.
-    let made = compiled(rt.alloc(), text)?;
+    check_marks(rt.alloc(), ARM, b"g", ARM_MARKS)
+}
+
+// The test of `x` lies between them.
+#[test]
+fn saves_behind_a_test(rt: HostRuntime) -> Result<(), Fail> {
+    let made = compiled(rt.alloc(), ARM)?;
     let body = body_of(made.listing.bodies.as_slice(), b"g");
     assert!(rt; gap(made.listing.marks.as_slice(), body) > 7);
     Ok(())
 }
 
+const ONE_ARM: &[u8] = b"(define (fact n) (if (= n 0) 1 (* n (fact (- n 1)))))(display (fact 5))";
+
+const ONE_ARM_MARKS: &[(u8, u32)] = &[
+    (b'.', 0),
+    (b's', 0),
+    (b's', 2),
+    (b'c', 0),
+    (b'r', 0),
+    (b'r', 2),
+    (b'.', 0),
+];
+
 // The arm that calls saves the return address and the operand, and the other one nothing.
 #[test]
 fn saves_in_one_arm(rt: HostRuntime) -> Result<(), Fail> {
-    let text = b"(define (fact n) (if (= n 0) 1 (* n (fact (- n 1)))))(display (fact 5))";
-    let marks = body_marks(rt.alloc(), text, b"fact")?;
-    let wanted = [
-        (b'.', 0),
-        (b's', 0),
-        (b's', 2),
-        (b'c', 0),
-        (b'r', 0),
-        (b'r', 2),
-        (b'.', 0),
-    ];
-    assert_eq!(rt; marks.as_slice(), wanted.as_slice());
-    Ok(())
+    check_marks(rt.alloc(), ONE_ARM, b"fact", ONE_ARM_MARKS)
 }
+
+const TWO_CALLS: &[u8] = b"(define (g x) x)(define (k x) (g 1) (g 2) (+ x 1))(display (k 4))";
+
+const TWO_CALLS_MARKS: &[(u8, u32)] = &[
+    (b's', 0),
+    (b's', 2),
+    (b'c', 0),
+    (b'c', 0),
+    (b'r', 0),
+    (b'r', 2),
+    (b'.', 0),
+];
 
 // Nothing is wanted between the two calls.
 #[test]
 fn restores_behind_the_last_call(rt: HostRuntime) -> Result<(), Fail> {
-    let text = b"(define (g x) x)(define (k x) (g 1) (g 2) (+ x 1))(display (k 4))";
-    let marks = body_marks(rt.alloc(), text, b"k")?;
-    let wanted = [
-        (b's', 0),
-        (b's', 2),
-        (b'c', 0),
-        (b'c', 0),
-        (b'r', 0),
-        (b'r', 2),
-        (b'.', 0),
-    ];
-    assert_eq!(rt; marks.as_slice(), wanted.as_slice());
-    check_printed(rt.alloc(), text, b"5")?;
-    Ok(())
+    check_marks(rt.alloc(), TWO_CALLS, b"k", TWO_CALLS_MARKS)?;
+    check_well(rt.alloc(), RUN, TWO_CALLS, (0, b"5", b""))
 }
+
+const SWAP: &[u8] =
+    b"(define (swap a b n) (if (= n 0) (display a) (swap b a (- n 1))))(swap 1 2 3)";
 
 // Two operands change places, by way of one register.
 #[test]
 fn swaps_by_one_temporary(rt: HostRuntime) -> Result<(), Fail> {
-    let text = b"(define (swap a b n) (if (= n 0) (display a) (swap b a (- n 1))))(swap 1 2 3)";
-    let marks = body_marks(rt.alloc(), text, b"swap")?;
-    let wanted = [(b'j', 0), (b't', 0), (b'j', 0)];
-    assert_eq!(rt; marks.as_slice(), wanted.as_slice());
-    // Of the second call there is one cycle, of RBX and R8.
-    let made = compiled(rt.alloc(), text)?;
-    let body = body_of(made.listing.bodies.as_slice(), b"swap");
-    let site = last_tail(made.listing.marks.as_slice(), body);
+    check_marks(
+        rt.alloc(),
+        SWAP,
+        b"swap",
+        &[(b'j', 0), (b't', 0), (b'j', 0)],
+    )
+}
+
+// How many of these cycles are of RBX and R8, for the call at this site.
+fn swaps_at(cycles: &[Cycle], site: u32) -> u64 {
     let mut found = 0u64;
-    for cycle in made.listing.cycles.as_slice() {
+    for cycle in cycles {
         if let [Place::Reg(3), Place::Reg(8)] = cycle.places.as_slice() {
             if cycle.site == site {
                 found = found.saturating_add(1);
             }
         }
     }
-    assert_eq!(rt; found, 1);
+    found
+}
+
+// Of the second call there is one cycle.
+#[test]
+fn swaps_by_one_cycle(rt: HostRuntime) -> Result<(), Fail> {
+    let made = compiled(rt.alloc(), SWAP)?;
+    let body = body_of(made.listing.bodies.as_slice(), b"swap");
+    let site = last_tail(made.listing.marks.as_slice(), body);
+    assert!(rt; swaps_at(made.listing.cycles.as_slice(), site) == 1);
     Ok(())
+}
+
+const SEVEN: &[u8] =
+    b"(define (f v) (let ((a (vector-ref v 0)) (b (vector-ref v 1)) (c (vector-ref v 2)) (d (vector-ref v 3)) (e (vector-ref v 4)) (g (vector-ref v 5)) (h (vector-ref v 6))) (+ a (+ b (+ c (+ d (+ e (+ g h))))))))(display (f (make-vector 7 1)))";
+
+// How many spills are among the marks.
+fn spills(marks: &[(u8, u32)]) -> u64 {
+    let mut count = 0u64;
+    for (kind, _) in marks {
+        if *kind == b'p' {
+            count = count.saturating_add(1);
+        }
+    }
+    count
 }
 
 // Of seven variables that live at once six have registers.
 #[test]
 fn spills_the_seventh(rt: HostRuntime) -> Result<(), Fail> {
-    let text =
-        b"(define (f v) (let ((a (vector-ref v 0)) (b (vector-ref v 1)) (c (vector-ref v 2)) (d (vector-ref v 3)) (e (vector-ref v 4)) (g (vector-ref v 5)) (h (vector-ref v 6))) (+ a (+ b (+ c (+ d (+ e (+ g h))))))))(display (f (make-vector 7 1)))";
-    let marks = body_marks(rt.alloc(), text, b"f")?;
-    let mut spills = 0u64;
-    for mark in marks.as_slice() {
-        if mark.0 == b'p' {
-            spills = spills.saturating_add(1);
-        }
-    }
-    assert_eq!(rt; spills, 1);
+    let made = compiled(rt.alloc(), SEVEN)?;
+    let body = body_of(made.listing.bodies.as_slice(), b"f");
+    let marks = marks_of(rt.alloc(), made.listing.marks.as_slice(), body)?;
+    assert!(rt; spills(marks.as_slice()) == 1);
     Ok(())
 }
 
-fn repeat(source: &mut Vec<u8>, part: &[u8], count: u32) -> Result<(), Mem> {
-    for _ in 0..count {
-        source.extend_from_slice(part)?;
-    }
-    Ok(())
-}
-
-// A procedure that binds this many variables, each inside the one before it, and calls another one inside them all.
-fn nest(alloc: Global, count: u32) -> Result<Vec<u8>, Mem> {
-    let mut source = Vec::new(alloc);
-    source.extend_from_slice(b"(define (g x) x)(define (f a) ")?;
+// Runs a procedure that binds this many variables, each inside the one before it, and calls another one inside them all.
+fn check_nest(alloc: Global, count: usize, printed: &[u8]) -> Result<(), Fail> {
+    let mut source = Bytes::from_slice(alloc, b"(define (g x) x)(define (f a) ")?;
     repeat(&mut source, b"(let ((a (+ 1 a))) ", count)?;
     source.extend_from_slice(b"(+ (g 0) a)")?;
     repeat(&mut source, b")", count)?;
     source.extend_from_slice(b")(display (f 0))")?;
-    Ok(source)
+    check_well(alloc, RUN, source.as_slice(), (0, printed, b""))
 }
 
 // Sets of variables have one, four and sixteen words.
 #[test]
 fn bodies_of_many_variables_run(rt: HostRuntime) -> Result<(), Fail> {
-    let rows: [(u32, &[u8]); 3] = [(50, b"50"), (70, b"70"), (300, b"300")];
-    for (count, printed) in rows {
-        let source = nest(rt.alloc(), count)?;
-        check_printed(rt.alloc(), source.as_slice(), printed)?;
-    }
-    Ok(())
+    check_nest(rt.alloc(), 50, b"50")?;
+    check_nest(rt.alloc(), 70, b"70")?;
+    check_nest(rt.alloc(), 300, b"300")
 }

@@ -17,16 +17,10 @@ fn words_of(alloc: Global, line: &str) -> Result<Vec<String>, Fail> {
 fn words_that_are_read(rt: HostRuntime) -> Result<(), Fail> {
     let words = words_of(rt.alloc(), "--heap=64 run --steps 7 -- -p")?;
     let read = read_words(rt.alloc(), words.as_slice())?;
-    assert!(rt; read.is_some());
-    if let Some(texts) = read {
-        assert_eq!(rt; texts.verb, Some("run"));
-        assert_eq!(rt; texts.name, Some("-p"));
-        assert_eq!(rt; texts.second, None);
-        assert_eq!(rt; texts.listing, None);
-        assert_eq!(rt; texts.heap, Some("64"));
-        assert_eq!(rt; texts.depth, None);
-        assert_eq!(rt; texts.steps, Some("7"));
-    }
+    let texts = read.ok_or("no words")?;
+    assert!(rt; texts.verb == Some("run") && texts.name == Some("-p"));
+    assert!(rt; texts.second.is_none() && texts.listing.is_none() && texts.depth.is_none());
+    assert!(rt; texts.heap == Some("64") && texts.steps == Some("7"));
     Ok(())
 }
 

@@ -1,79 +1,77 @@
 //! Pairs, vectors, strings, symbols and literals, run over memory (R5RS 6.3).
 
-use crate::program::{check_printed, check_stop, perform};
+use crate::program::{check, check_printed, check_rows, check_stops, perform, repeated};
 use std::str;
 use std::test::Fail;
 
+const OBJECTS: &[(&[u8], &[u8])] = &[
+    (
+        b"(define v (vector-ref '#(1 (2 . 3)) 1))(display (cdr v))",
+        b"3",
+    ),
+    (b"(display 'Abc)(display \"\")(display \"a b\")", b"abca b"),
+    (
+        b"(define p (cons 1 2))(set-car! p 5)(set-cdr! p #f)(display (car p))(display (cdr p))",
+        b"5#f",
+    ),
+    (
+        b"(define s (make-string 3 #\\x))(string-set! s 1 #\\y)(display s)(display (string-length s))(display (string-ref s 2))",
+        b"xyx3x",
+    ),
+    (
+        b"(define v (make-vector 3 7))(vector-set! v 2 'q)(display (vector-ref v 1))(display (vector-ref v 2))(display (vector-length v))",
+        b"7q3",
+    ),
+    (
+        b"(display (eq? '() '()))(display (eq? \"\" \"\"))(display (eq? 'a 'A))(display (pair? '(1)))(display (vector? '#()))(display (string? \"\"))(display (symbol? 'b))(display (procedure? car))",
+        b"#t#f#t#t#t#t#t#t",
+    ),
+    // A literal is one object, and may be written.
+    (
+        b"(define (f) '(1 2))(set-car! (f) 3)(display (car (f)))",
+        b"3",
+    ),
+    (
+        b"(define (f a . l) (cons a l))(write (f 1))(write (f 1 2 3 4 5 6 7 8))(define (g . l) l)(write (g))",
+        b"(1)(1 2 3 4 5 6 7 8)()",
+    ),
+    (
+        b"(display 'ABC)(write #\\space)(write '(1 . (2 . ())))(write '#(a \"b\\\\\"))",
+        b"abc#\\space(1 2)#(a \"b\\\\\")",
+    ),
+];
+
 #[test]
 fn objects_print(rt: HostRuntime) -> Result<(), Fail> {
-    let rows: [(&[u8], &[u8]); 9] = [
-        (
-            b"(define v (vector-ref '#(1 (2 . 3)) 1))(display (cdr v))",
-            b"3",
-        ),
-        (b"(display 'Abc)(display \"\")(display \"a b\")", b"abca b"),
-        (
-            b"(define p (cons 1 2))(set-car! p 5)(set-cdr! p #f)(display (car p))(display (cdr p))",
-            b"5#f",
-        ),
-        (
-            b"(define s (make-string 3 #\\x))(string-set! s 1 #\\y)(display s)(display (string-length s))(display (string-ref s 2))",
-            b"xyx3x",
-        ),
-        (
-            b"(define v (make-vector 3 7))(vector-set! v 2 'q)(display (vector-ref v 1))(display (vector-ref v 2))(display (vector-length v))",
-            b"7q3",
-        ),
-        (
-            b"(display (eq? '() '()))(display (eq? \"\" \"\"))(display (eq? 'a 'A))(display (pair? '(1)))(display (vector? '#()))(display (string? \"\"))(display (symbol? 'b))(display (procedure? car))",
-            b"#t#f#t#t#t#t#t#t",
-        ),
-        // A literal is one object, and may be written.
-        (
-            b"(define (f) '(1 2))(set-car! (f) 3)(display (car (f)))",
-            b"3",
-        ),
-        (
-            b"(define (f a . l) (cons a l))(write (f 1))(write (f 1 2 3 4 5 6 7 8))(define (g . l) l)(write (g))",
-            b"(1)(1 2 3 4 5 6 7 8)()",
-        ),
-        (
-            b"(display 'ABC)(write #\\space)(write '(1 . (2 . ())))(write '#(a \"b\\\\\"))",
-            b"abc#\\space(1 2)#(a \"b\\\\\")",
-        ),
-    ];
-    for (source, printed) in rows {
-        check_printed(rt.alloc(), source, printed)?;
-    }
-    Ok(())
+    check_rows(rt.alloc(), OBJECTS)
 }
+
+const WRONG: &[u8] = b"stop 65: wrong type\n";
+
+const RANGE: &[u8] = b"stop 66: out of range\n";
+
+const STOPS: &[(&[u8], u8, &[u8])] = &[
+    (b"(car 1)", 65, WRONG),
+    (b"(cdr '())", 65, WRONG),
+    (b"(set-car! \"a\" 1)", 65, WRONG),
+    (b"(vector-ref (make-vector 2 0) 2)", 66, RANGE),
+    (b"(vector-ref (make-vector 2 0) -1)", 66, RANGE),
+    (b"(vector-ref '(1) 0)", 65, WRONG),
+    (b"(vector-set! '#(1) #f 0)", 65, WRONG),
+    (b"(vector-set! '#(1) 1 0)", 66, RANGE),
+    (b"(make-vector -1 0)", 66, RANGE),
+    (b"(make-vector #t 0)", 65, WRONG),
+    (b"(make-string 2 0)", 65, WRONG),
+    (b"(string-set! \"ab\" 2 #\\c)", 66, RANGE),
+    (b"(string-set! \"ab\" 2 3)", 65, WRONG),
+    (b"(string-ref \"ab\" 'a)", 65, WRONG),
+    (b"(string-length 'ab)", 65, WRONG),
+    (b"(symbol->string \"ab\")", 65, WRONG),
+];
 
 #[test]
 fn objects_stop(rt: HostRuntime) -> Result<(), Fail> {
-    let wrong = b"stop 65: wrong type\n".as_slice();
-    let range = b"stop 66: out of range\n".as_slice();
-    let rows: [(&[u8], u8, &[u8]); 16] = [
-        (b"(car 1)", 65, wrong),
-        (b"(cdr '())", 65, wrong),
-        (b"(set-car! \"a\" 1)", 65, wrong),
-        (b"(vector-ref (make-vector 2 0) 2)", 66, range),
-        (b"(vector-ref (make-vector 2 0) -1)", 66, range),
-        (b"(vector-ref '(1) 0)", 65, wrong),
-        (b"(vector-set! '#(1) #f 0)", 65, wrong),
-        (b"(vector-set! '#(1) 1 0)", 66, range),
-        (b"(make-vector -1 0)", 66, range),
-        (b"(make-vector #t 0)", 65, wrong),
-        (b"(make-string 2 0)", 65, wrong),
-        (b"(string-set! \"ab\" 2 #\\c)", 66, range),
-        (b"(string-set! \"ab\" 2 3)", 65, wrong),
-        (b"(string-ref \"ab\" 'a)", 65, wrong),
-        (b"(string-length 'ab)", 65, wrong),
-        (b"(symbol->string \"ab\")", 65, wrong),
-    ];
-    for (source, status, said) in rows {
-        check_stop(rt.alloc(), source, status, b"", said)?;
-    }
-    Ok(())
+    check_stops(rt.alloc(), STOPS)
 }
 
 // The places of the last listed site of three parts, as ` 1 2 0`: those of the call of `f`, whose operands are sites of two.
@@ -99,41 +97,48 @@ fn is_one_of(places: &[u8], rows: &[&[u8]]) -> bool {
     false
 }
 
+const OPERANDS: &[u8] =
+    b"(define p (cons 1 2))(define x 10)(define (f a b) a)(display (f (+ x (car p)) (begin (set! x 20) (set-car! p 5) 0)))";
+
 // Both orders are allowed, and none mixes parts of two operands (R5RS 4.1.3). What is printed is what the listed order of the
 // call says: where the first operand comes before the second, 10 + 1, and else 20 + 5.
 #[test]
 fn operands_are_evaluated_whole(rt: HostRuntime) -> Result<(), Fail> {
-    let source =
-        b"(define p (cons 1 2))(define x 10)(define (f a b) a)(display (f (+ x (car p)) (begin (set! x 20) (set-car! p 5) 0)))";
-    let listed = perform(rt.alloc(), &["list", "a"], source, &[])?;
-    assert_eq!(rt; listed.status, 0);
+    let listed = perform(rt.alloc(), &["list", "a"], OPERANDS)?;
+    assert!(rt; listed.status == 0);
     let places = last_of_three(listed.printed.as_slice())?;
     let first = is_one_of(places, &[b" 0 1 2", b" 1 0 2", b" 1 2 0"]);
     let second = is_one_of(places, &[b" 0 2 1", b" 2 0 1", b" 2 1 0"]);
     assert!(rt; first || second, "no order");
     let wanted: &[u8] = if first { b"11" } else { b"25" };
-    check_printed(rt.alloc(), source, wanted)
+    check_printed(rt.alloc(), OPERANDS, wanted)
 }
+
+/// A text, a form that stands behind it so many times, the status, and what is said.
+const HEAPS: &[(&[u8], &[u8], u64, u8, &[u8])] = &[
+    (b"", b"(cons 1 2)", 256, 0, b""),
+    (b"", b"(cons 1 2)", 257, 71, FULL),
+    (b"(define (f . l) 1)", b"(f 1 2 3)", 85, 0, b""),
+    (b"(define (f . l) 1)", b"(f 1 2 3)", 86, 71, FULL),
+    (b"", b"(make-vector 31 0)(make-string 248 #\\a)", 8, 0, b""),
+    (
+        b"",
+        b"(make-vector 31 0)(make-string 249 #\\a)",
+        8,
+        71,
+        FULL,
+    ),
+];
+
+const FULL: &[u8] = b"stop 71: heap limit\n";
 
 // 4,096 bytes are 256 pairs, and a list of operands is charged as a whole.
 #[test]
 fn objects_fill_the_heap(rt: HostRuntime) -> Result<(), Fail> {
     let words = ["run", "a", "--heap", "4096"];
-    let rows: [(&[u8], &[u8], u64, u8); 6] = [
-        (b"", b"(cons 1 2)", 256, 0),
-        (b"", b"(cons 1 2)", 257, 71),
-        (b"(define (f . l) 1)", b"(f 1 2 3)", 85, 0),
-        (b"(define (f . l) 1)", b"(f 1 2 3)", 86, 71),
-        (b"", b"(make-vector 31 0)(make-string 248 #\\a)", 8, 0),
-        (b"", b"(make-vector 31 0)(make-string 249 #\\a)", 8, 71),
-    ];
-    for (first, form, count, status) in rows {
-        let mut source = Vec::from_slice(rt.alloc(), first)?;
-        for _ in 0..count {
-            source.extend_from_slice(form)?;
-        }
-        let ending = perform(rt.alloc(), &words, source.as_slice(), &[])?;
-        assert_eq!(rt; ending.status, status);
+    for (first, form, count, status, said) in HEAPS {
+        let source = repeated(rt.alloc(), first, form, *count)?;
+        check(rt.alloc(), &words, source.as_slice(), (*status, b"", said))?;
     }
     Ok(())
 }

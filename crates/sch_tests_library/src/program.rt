@@ -2,7 +2,7 @@
 
 use sch_cli::schc;
 use sch_io::{MemDisk, MemOutlet};
-use sch_word::{Answer, Bytes};
+use sch_word::{Bytes, Mem};
 use std::alloc::Global;
 use std::test::Fail;
 
@@ -17,13 +17,8 @@ pub(crate) struct Ending {
     pub(crate) said: Vec<u8>,
 }
 
-/// Calls the program on a disk whose only file is `a`, over an outlet that answers by this plan.
-pub(crate) fn perform(
-    alloc: Global,
-    words: &[&str],
-    file: &[u8],
-    plan: &[Answer],
-) -> Result<Ending, Fail> {
+/// Calls the program on a disk whose only file is `a`.
+pub(crate) fn perform(alloc: Global, words: &[&str], file: &[u8]) -> Result<Ending, Fail> {
     let mut all = Vec::new(alloc);
     for word in words {
         all.push(String::from_str(alloc, word)?)?;
@@ -33,7 +28,7 @@ pub(crate) fn perform(
         Bytes::from_slice(alloc, file)?,
     )];
     let mut disk = MemDisk::new(alloc, &files, 0, &[])?;
-    let mut out = MemOutlet::new(alloc, plan, 10_000)?;
+    let mut out = MemOutlet::new(alloc, &[], 10_000)?;
     let mut err = MemOutlet::new(alloc, &[], 1000)?;
     let status = schc(alloc, all.as_slice(), &mut disk, &mut out, &mut err);
     let printed = Vec::from_slice(alloc, out.taken())?;
@@ -45,20 +40,15 @@ pub(crate) fn perform(
     })
 }
 
-/// Runs a source that ends with 0.
-pub(crate) fn check_printed(alloc: Global, source: &[u8], printed: &[u8]) -> Result<(), Fail> {
-    check_stop(alloc, source, 0, printed, b"")
-}
-
-/// Runs a source that ends with this status.
-pub(crate) fn check_stop(
+/// Calls the program: its status, what is printed, and what is said.
+pub(crate) fn check(
     alloc: Global,
-    source: &[u8],
-    status: u8,
-    printed: &[u8],
-    said: &[u8],
+    words: &[&str],
+    file: &[u8],
+    wanted: (u8, &[u8], &[u8]),
 ) -> Result<(), Fail> {
-    let ending = perform(alloc, &RUN, source, &[])?;
+    let (status, printed, said) = wanted;
+    let ending = perform(alloc, words, file)?;
     if ending.status != status
         || ending.printed.as_slice() != printed
         || ending.said.as_slice() != said
@@ -66,4 +56,39 @@ pub(crate) fn check_stop(
         return Err(Fail::from("another end or output"));
     }
     Ok(())
+}
+
+/// Runs a source that ends with 0.
+pub(crate) fn check_printed(alloc: Global, source: &[u8], printed: &[u8]) -> Result<(), Fail> {
+    check(alloc, &RUN, source, (0, printed, b""))
+}
+
+/// Runs sources that end with 0: each with what it prints.
+pub(crate) fn check_rows(alloc: Global, rows: &[(&[u8], &[u8])]) -> Result<(), Fail> {
+    for (source, printed) in rows {
+        check_printed(alloc, source, printed)?;
+    }
+    Ok(())
+}
+
+/// Runs sources that print nothing and stop: each with its status and what is said.
+pub(crate) fn check_stops(alloc: Global, rows: &[(&[u8], u8, &[u8])]) -> Result<(), Fail> {
+    for (source, status, said) in rows {
+        check(alloc, &RUN, source, (*status, b"", said))?;
+    }
+    Ok(())
+}
+
+/// A text, and a form that stands behind it so many times.
+pub(crate) fn repeated(
+    alloc: Global,
+    first: &[u8],
+    form: &[u8],
+    count: u64,
+) -> Result<Vec<u8>, Mem> {
+    let mut source = Vec::from_slice(alloc, first)?;
+    for _ in 0..count {
+        source.extend_from_slice(form)?;
+    }
+    Ok(source)
 }

@@ -1,90 +1,86 @@
 //! Lists of operands, run over memory: behind many formals, and in calls of many operands (R5RS 4.1.4).
 
-use crate::program::{check_printed, check_stop};
+use crate::program::{check_printed, check_rows, check_stops};
 use std::alloc::Global;
 use std::test::Fail;
 
-// Formals before the rest variable that come in registers, and such that come in the frame.
+/// Formals before the rest variable that come in registers, and such that come in the frame.
+const FORMALS: &[(&[u8], &[u8])] = &[
+    (
+        b"(define (f a b c d e g . l) (write l))(f 1 2 3 4 5 6)",
+        b"()",
+    ),
+    (
+        b"(define (f a b c d e g . l) (write l))(f 1 2 3 4 5 6 7)",
+        b"(7)",
+    ),
+    (
+        b"(define (f a b c d e g . l) (write l))(f 1 2 3 4 5 6 7 8 9)",
+        b"(7 8 9)",
+    ),
+    (
+        b"(define (f a b c d e g h . l) (write l))(f 1 2 3 4 5 6 7)",
+        b"()",
+    ),
+    (
+        b"(define (f a b c d e g h . l) (write l)(write h))(f 1 2 3 4 5 6 7 8)",
+        b"(8)7",
+    ),
+    (
+        b"(define (f a b c d e g h i . l) (write (list a g h i l)))(f 1 2 3 4 5 6 7 8)",
+        b"(1 6 7 8 ())",
+    ),
+    (
+        b"(define (f a b c d e g h i . l) (write (list a g h i l)))(f 1 2 3 4 5 6 7 8 9)",
+        b"(1 6 7 8 (9))",
+    ),
+    (
+        b"(define (f a b c d e g h i . l) (write (list a g h i l)))(f 1 2 3 4 5 6 7 8 9 10 11)",
+        b"(1 6 7 8 (9 10 11))",
+    ),
+    (
+        b"(define k 7)(define (f a b c d e g h i . l) (lambda () (list k a i l)))(write ((f 1 2 3 4 5 6 7 8 9 10)))",
+        b"(7 1 8 (9 10))",
+    ),
+];
+
 #[test]
 fn behind_many_formals(rt: HostRuntime) -> Result<(), Fail> {
-    let rows: [(&[u8], &[u8]); 9] = [
-        (
-            b"(define (f a b c d e g . l) (write l))(f 1 2 3 4 5 6)",
-            b"()",
-        ),
-        (
-            b"(define (f a b c d e g . l) (write l))(f 1 2 3 4 5 6 7)",
-            b"(7)",
-        ),
-        (
-            b"(define (f a b c d e g . l) (write l))(f 1 2 3 4 5 6 7 8 9)",
-            b"(7 8 9)",
-        ),
-        (
-            b"(define (f a b c d e g h . l) (write l))(f 1 2 3 4 5 6 7)",
-            b"()",
-        ),
-        (
-            b"(define (f a b c d e g h . l) (write l)(write h))(f 1 2 3 4 5 6 7 8)",
-            b"(8)7",
-        ),
-        (
-            b"(define (f a b c d e g h i . l) (write (list a g h i l)))(f 1 2 3 4 5 6 7 8)",
-            b"(1 6 7 8 ())",
-        ),
-        (
-            b"(define (f a b c d e g h i . l) (write (list a g h i l)))(f 1 2 3 4 5 6 7 8 9)",
-            b"(1 6 7 8 (9))",
-        ),
-        (
-            b"(define (f a b c d e g h i . l) (write (list a g h i l)))(f 1 2 3 4 5 6 7 8 9 10 11)",
-            b"(1 6 7 8 (9 10 11))",
-        ),
-        (
-            b"(define k 7)(define (f a b c d e g h i . l) (lambda () (list k a i l)))(write ((f 1 2 3 4 5 6 7 8 9 10)))",
-            b"(7 1 8 (9 10))",
-        ),
-    ];
-    for (source, printed) in rows {
-        check_printed(rt.alloc(), source, printed)?;
-    }
-    Ok(())
+    check_rows(rt.alloc(), FORMALS)
 }
+
+const OPERANDS: &[(&[u8], &[u8])] = &[
+    (b"(define (f . l) l)(write (f))", b"()"),
+    (
+        b"(define (f . l) l)(write (f 1 2 3 4 5 6))",
+        b"(1 2 3 4 5 6)",
+    ),
+    (
+        b"(define (f . l) l)(write (f 1 2 3 4 5 6 7))",
+        b"(1 2 3 4 5 6 7)",
+    ),
+    (b"(define (f . l) l)(define (g) (f))(write (g))", b"()"),
+    (
+        b"(define (f . l) l)(define (g a) (f a 2 3 4 5 6 7 a))(write (g 1))",
+        b"(1 2 3 4 5 6 7 1)",
+    ),
+    (
+        b"(define (f a . l) (if (null? l) a (set! l (cons a l))) l)(write (f 1))(write (f 1 2))",
+        b"()(1 2)",
+    ),
+    (
+        b"(define (f . l) (if (null? l) 'none (car l)))(define (g n) (if (= n 0) (f) (g (- n 1))))(write (g 100))(write (f 3 4))",
+        b"none3",
+    ),
+    (
+        b"(define (f a . l) (eq? l l))(write (f 1 2))(write ((lambda l l) \"a\" #\\b))",
+        b"#t(\"a\" #\\b)",
+    ),
+];
 
 #[test]
 fn in_calls_of_no_and_of_some_operands(rt: HostRuntime) -> Result<(), Fail> {
-    let rows: [(&[u8], &[u8]); 8] = [
-        (b"(define (f . l) l)(write (f))", b"()"),
-        (
-            b"(define (f . l) l)(write (f 1 2 3 4 5 6))",
-            b"(1 2 3 4 5 6)",
-        ),
-        (
-            b"(define (f . l) l)(write (f 1 2 3 4 5 6 7))",
-            b"(1 2 3 4 5 6 7)",
-        ),
-        (b"(define (f . l) l)(define (g) (f))(write (g))", b"()"),
-        (
-            b"(define (f . l) l)(define (g a) (f a 2 3 4 5 6 7 a))(write (g 1))",
-            b"(1 2 3 4 5 6 7 1)",
-        ),
-        (
-            b"(define (f a . l) (if (null? l) a (set! l (cons a l))) l)(write (f 1))(write (f 1 2))",
-            b"()(1 2)",
-        ),
-        (
-            b"(define (f . l) (if (null? l) 'none (car l)))(define (g n) (if (= n 0) (f) (g (- n 1))))(write (g 100))(write (f 3 4))",
-            b"none3",
-        ),
-        (
-            b"(define (f a . l) (eq? l l))(write (f 1 2))(write ((lambda l l) \"a\" #\\b))",
-            b"#t(\"a\" #\\b)",
-        ),
-    ];
-    for (source, printed) in rows {
-        check_printed(rt.alloc(), source, printed)?;
-    }
-    Ok(())
+    check_rows(rt.alloc(), OPERANDS)
 }
 
 /// `(define (g) (f 0 1 ... ))`, with this many operands, each the digit of its place; what `f` makes is written.
@@ -125,13 +121,20 @@ fn in_calls_of_many_operands(rt: HostRuntime) -> Result<(), Fail> {
     Ok(())
 }
 
-// Fewer operands than formals are a wrong count, before anything is charged.
+const COUNT: &[u8] = b"stop 68: wrong argument count\n";
+
+/// Fewer operands than formals are a wrong count, before anything is charged.
+const STOPS: &[(&[u8], u8, &[u8])] = &[
+    (b"(define (f a . l) l)(f)", 68, COUNT),
+    (
+        b"(define (f a b c d e g h i . l) l)(f 1 2 3 4 5 6 7)",
+        68,
+        COUNT,
+    ),
+];
+
 #[test]
 fn counts_are_checked(rt: HostRuntime) -> Result<(), Fail> {
-    let said: &[u8] = b"stop 68: wrong argument count\n";
-    check_stop(rt.alloc(), b"(define (f a . l) l)(f)", 68, b"", said)?;
-    let eight: &[u8] = b"(define (f a b c d e g h i . l) l)(f 1 2 3 4 5 6 7)";
-    check_stop(rt.alloc(), eight, 68, b"", said)?;
-    check_printed(rt.alloc(), b"(define (f a . l) l)(write (f 1))", b"()")?;
-    Ok(())
+    check_stops(rt.alloc(), STOPS)?;
+    check_printed(rt.alloc(), b"(define (f a . l) l)(write (f 1))", b"()")
 }

@@ -1,144 +1,149 @@
 //! Procedures of the library, run over memory: as values, under names of the text, and what depth they take.
 
-use crate::program::{check_printed, check_stop, perform};
-use std::alloc::Global;
+use crate::program::{RUN, check, check_rows, check_stops, repeated};
 use std::test::Fail;
+
+const VALUES: &[(&[u8], &[u8])] = &[
+    (
+        b"(define (twice f a) (f (f a)))(display (twice not #f))",
+        b"#f",
+    ),
+    (b"(define p display)(p 5)(define q newline)(q)", b"5\n"),
+    (
+        b"(define (f g) (g 7 2))(display (f quotient))(display (f modulo))",
+        b"31",
+    ),
+    (
+        b"(display (eq? display display))(display (eq? not display))",
+        b"#t#f",
+    ),
+    (
+        b"(display (procedure? newline))(display not)",
+        b"#t#<procedure>",
+    ),
+    (b"(display ((if #t char->integer not) #\\a))", b"97"),
+    (
+        b"(let ((f integer->char) (g char?)) (display (g (f 98))))",
+        b"#t",
+    ),
+    (
+        b"(display (cond (7 => pair?)))(display (cond (7 => integer?)))",
+        b"#f#t",
+    ),
+];
 
 #[test]
 fn library_procedures_are_values(rt: HostRuntime) -> Result<(), Fail> {
-    let rows: [(&[u8], &[u8]); 8] = [
-        (
-            b"(define (twice f a) (f (f a)))(display (twice not #f))",
-            b"#f",
-        ),
-        (b"(define p display)(p 5)(define q newline)(q)", b"5\n"),
-        (
-            b"(define (f g) (g 7 2))(display (f quotient))(display (f modulo))",
-            b"31",
-        ),
-        (
-            b"(display (eq? display display))(display (eq? not display))",
-            b"#t#f",
-        ),
-        (
-            b"(display (procedure? newline))(display not)",
-            b"#t#<procedure>",
-        ),
-        (b"(display ((if #t char->integer not) #\\a))", b"97"),
-        (
-            b"(let ((f integer->char) (g char?)) (display (g (f 98))))",
-            b"#t",
-        ),
-        (
-            b"(display (cond (7 => pair?)))(display (cond (7 => integer?)))",
-            b"#f#t",
-        ),
-    ];
-    for (source, printed) in rows {
-        check_printed(rt.alloc(), source, printed)?;
-    }
-    Ok(())
+    check_rows(rt.alloc(), VALUES)
 }
 
-// A name of the library that the text defines or assigns is the text's own, and holds the procedure until then. The
-// library keeps its own.
+/// A name of the library that the text defines or assigns is the text's own, and holds the procedure until then. The
+/// library keeps its own.
+const NAMES: &[(&[u8], &[u8])] = &[
+    (b"(define (display a) 1)(display 2)", b""),
+    (b"(set! not (lambda (a) 7))(display (not 1))", b"7"),
+    (
+        b"(display (not 1))(set! not (lambda (a) 7))(display (not 1))",
+        b"#f7",
+    ),
+    (
+        b"(define old display)(set! display (lambda (a) (old (+ a 1))))(display 1)",
+        b"2",
+    ),
+    (
+        b"(define (not a) (if a 3 4))(define (f g) (g #f))(display (f not))",
+        b"4",
+    ),
+    (b"(display (let ((newline 3)) newline))", b"3"),
+    (
+        b"(let ((display (lambda (a) (newline)))) (display 2))",
+        b"\n",
+    ),
+    (b"(define car 5)(display car)", b"5"),
+    (
+        b"(lambda (x) (if #f (set! car x)))(display (car '(1)))(set! car (lambda (a) 7))(display (car '(1)))",
+        b"17",
+    ),
+];
+
 #[test]
 fn texts_have_names_of_the_library(rt: HostRuntime) -> Result<(), Fail> {
-    let rows: [(&[u8], &[u8]); 9] = [
-        (b"(define (display a) 1)(display 2)", b""),
-        (b"(set! not (lambda (a) 7))(display (not 1))", b"7"),
-        (
-            b"(display (not 1))(set! not (lambda (a) 7))(display (not 1))",
-            b"#f7",
-        ),
-        (
-            b"(define old display)(set! display (lambda (a) (old (+ a 1))))(display 1)",
-            b"2",
-        ),
-        (
-            b"(define (not a) (if a 3 4))(define (f g) (g #f))(display (f not))",
-            b"4",
-        ),
-        (b"(display (let ((newline 3)) newline))", b"3"),
-        (
-            b"(let ((display (lambda (a) (newline)))) (display 2))",
-            b"\n",
-        ),
-        (b"(define car 5)(display car)", b"5"),
-        (
-            b"(lambda (x) (if #f (set! car x)))(display (car '(1)))(set! car (lambda (a) 7))(display (car '(1)))",
-            b"17",
-        ),
-    ];
-    for (source, printed) in rows {
-        check_printed(rt.alloc(), source, printed)?;
-    }
-    Ok(())
+    check_rows(rt.alloc(), NAMES)
 }
+
+const COUNT: &[u8] = b"stop 68: wrong argument count\n";
+
+const STOPS: &[(&[u8], u8, &[u8])] = &[
+    (b"(display)", 68, COUNT),
+    (b"(not)", 68, COUNT),
+    (b"(display (quotient 1))", 68, COUNT),
+    (
+        b"(define (f g) (g 1 0))(f quotient)",
+        69,
+        b"stop 69: division by zero\n",
+    ),
+    (
+        b"(set! newline 1)(newline)",
+        67,
+        b"stop 67: not a procedure\n",
+    ),
+];
 
 #[test]
 fn library_procedures_stop(rt: HostRuntime) -> Result<(), Fail> {
+    check_stops(rt.alloc(), STOPS)
+}
+
+const AT_ONE: [&str; 6] = ["run", "a", "--heap", "4096", "--depth", "1"];
+
+const DEPTH: &[u8] = b"stop 72: depth limit\n";
+
+/// Sources at a depth of one call: the status, what is printed, and what is said.
+const ENDINGS: &[(&[u8], u8, &[u8], &[u8])] = &[
+    // An operation takes no depth. Where its name is assigned anywhere it is a global of the text, which is called.
+    (b"(define (f) (begin (car '(1)) 2))(f)", 0, b"", b""),
+    (
+        b"(lambda (x) (if #f (set! car x)))(define (f) (begin (car '(1)) 2))(f)",
+        72,
+        b"",
+        DEPTH,
+    ),
+    // A call of a procedure of the library takes depth as any other.
+    (b"(display 1)(newline)", 0, b"1\n", b""),
+    (b"(define (f) (display 1))(f)", 0, b"1", b""),
+    (b"(define (f) (begin (display 1) 2))(f)", 72, b"", DEPTH),
+];
+
+#[test]
+fn library_procedures_take_depth(rt: HostRuntime) -> Result<(), Fail> {
+    for (source, status, printed, said) in ENDINGS {
+        check(rt.alloc(), &AT_ONE, source, (*status, printed, said))?;
+    }
+    Ok(())
+}
+
+const WRONG_COUNTS: &[&[u8]] = &[b"(display 1)(display 1 2)", b"(newline (display 1))"];
+
+// What stands before is done.
+#[test]
+fn counts_are_checked_late(rt: HostRuntime) -> Result<(), Fail> {
+    for source in WRONG_COUNTS {
+        check(rt.alloc(), &RUN, source, (68, b"1", COUNT))?;
+    }
+    Ok(())
+}
+
+const AT_TWENTY: [&str; 6] = ["run", "a", "--heap", "4096", "--depth", "20"];
+
+const CELL: &[u8] = b"(let ((n 0)) (set! n 1))";
+
+// The procedures take no heap: 4,096 bytes have room for 256 cells beside them.
+#[test]
+fn library_procedures_take_no_heap(rt: HostRuntime) -> Result<(), Fail> {
     let alloc = rt.alloc();
-    let count = b"stop 68: wrong argument count\n";
-    check_stop(alloc, b"(display)", 68, b"", count)?;
-    check_stop(alloc, b"(display 1)(display 1 2)", 68, b"1", count)?;
-    check_stop(alloc, b"(newline (display 1))", 68, b"1", count)?;
-    check_stop(alloc, b"(not)", 68, b"", count)?;
-    check_stop(alloc, b"(display (quotient 1))", 68, b"", count)?;
-    let zero = b"stop 69: division by zero\n";
-    check_stop(alloc, b"(define (f g) (g 1 0))(f quotient)", 69, b"", zero)?;
-    let no_procedure = b"stop 67: not a procedure\n";
-    check_stop(alloc, b"(set! newline 1)(newline)", 67, b"", no_procedure)
-}
-
-// What a run with the least heap and this depth answers, and what it prints.
-fn run_at(alloc: Global, depth: &str, source: &[u8]) -> Result<(u8, Vec<u8>), Fail> {
-    let words: [&str; 6] = ["run", "a", "--heap", "4096", "--depth", depth];
-    let ending = perform(alloc, &words, source, &[])?;
-    Ok((ending.status, ending.printed))
-}
-
-// An operation takes no depth. Where its name is assigned anywhere it is a global of the text, which is called.
-#[test]
-fn operations_are_no_calls(rt: HostRuntime) -> Result<(), Fail> {
-    let rows: [(&[u8], u8); 2] = [
-        (b"(define (f) (begin (car '(1)) 2))(f)", 0),
-        (
-            b"(lambda (x) (if #f (set! car x)))(define (f) (begin (car '(1)) 2))(f)",
-            72,
-        ),
-    ];
-    for (source, wanted) in rows {
-        let (status, _) = run_at(rt.alloc(), "1", source)?;
-        assert_eq!(rt; status, wanted);
-    }
-    Ok(())
-}
-
-// A call of a procedure of the library takes depth as any other, and the procedures take no heap: 4,096 bytes have
-// room for 256 cells beside them.
-#[test]
-fn library_procedures_take_depth_alone(rt: HostRuntime) -> Result<(), Fail> {
-    let (status, printed) = run_at(rt.alloc(), "1", b"(display 1)(newline)")?;
-    assert_eq!(rt; status, 0);
-    assert_eq!(rt; printed.as_slice(), b"1\n".as_slice());
-    let (status, printed) = run_at(rt.alloc(), "1", b"(define (f) (display 1))(f)")?;
-    assert_eq!(rt; status, 0);
-    assert_eq!(rt; printed.as_slice(), b"1".as_slice());
-    let pending = b"(define (f) (begin (display 1) 2))(f)";
-    let (status, printed) = run_at(rt.alloc(), "1", pending)?;
-    assert_eq!(rt; status, 72);
-    assert_eq!(rt; printed.as_slice(), [].as_slice());
-    let mut source = Vec::from_slice(rt.alloc(), b"(define p not)(display (p (p 1)))")?;
-    for _ in 0..256 {
-        source.extend_from_slice(b"(let ((n 0)) (set! n 1))")?;
-    }
-    let (status, printed) = run_at(rt.alloc(), "20", source.as_slice())?;
-    assert_eq!(rt; status, 0);
-    assert_eq!(rt; printed.as_slice(), b"#t".as_slice());
-    source.extend_from_slice(b"(let ((n 0)) (set! n 1))")?;
-    let (status, printed) = run_at(rt.alloc(), "20", source.as_slice())?;
-    assert_eq!(rt; status, 71);
-    assert_eq!(rt; printed.as_slice(), b"#t".as_slice());
-    Ok(())
+    let full = b"stop 71: heap limit\n";
+    let mut source = repeated(alloc, b"(define p not)(display (p (p 1)))", CELL, 256)?;
+    check(alloc, &AT_TWENTY, source.as_slice(), (0, b"#t", b""))?;
+    source.extend_from_slice(CELL)?;
+    check(alloc, &AT_TWENTY, source.as_slice(), (71, b"#t", full))
 }

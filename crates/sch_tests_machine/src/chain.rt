@@ -57,7 +57,7 @@ fn long_ones(alloc: Global, count: u8) -> Result<usize, Mem>
 /// A jump over 128 bytes makes all before it long; one over 127 leaves all of them short.
 #[test]
 fn one_long_jump_lengthens_all_before_it(rt: HostRuntime) -> Result<(), Fail> {
-    assert_eq!(rt; long_ones(rt.alloc(), 7)?, 0);
-    assert_eq!(rt; long_ones(rt.alloc(), 8)?, LINKS as usize + 1);
+    assert!(rt; long_ones(rt.alloc(), 7)? == 0);
+    assert!(rt; long_ones(rt.alloc(), 8)? == LINKS as usize + 1);
     Ok(())
 }

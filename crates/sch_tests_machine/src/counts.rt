@@ -2,7 +2,7 @@
 ghost use Rattle.std.specs.Prelude.{◌≤◌, length};
 
 use sch_asm::Mark;
-use sch_count::{Extent, count};
+use sch_count::{Extent, Row, count};
 use sch_elf::program_image;
 use sch_io::NullOutlet;
 use sch_step::{Machine, load};
@@ -24,58 +24,61 @@ fn machine(alloc: Global) -> Result<Machine, Fail> {
     Ok(load(alloc, &image)?)
 }
 
-// Body 0 saves, calls body 1, which saves and returns, and saves again. The marks are in no order of addresses.
+// Whether a row has these activations, leaves, saves and saves of leaves.
+fn has(row: &Row, wanted: [u128; 4]) -> bool {
+    let [activations, leaves, saves, leaf_saves] = wanted;
+    row.activations == activations
+        && row.leaves == leaves
+        && row.saves == saves
+        && row.leaf_saves == leaf_saves
+}
+
+// The marks are in no order of addresses.
+const MARKS: [Mark; 7] = [
+    Mark {
+        address: 0x40_0025,
+        kind: MarkKind::Save(3),
+    },
+    Mark {
+        address: 0x40_0015,
+        kind: MarkKind::Save(2),
+    },
+    Mark {
+        address: 0x40_0015,
+        kind: MarkKind::Return,
+    },
+    Mark {
+        address: 0x40_000E,
+        kind: MarkKind::Enter(1),
+    },
+    Mark {
+        address: 0x40_0007,
+        kind: MarkKind::Call(0),
+    },
+    Mark {
+        address: 0x40_0000,
+        kind: MarkKind::Enter(0),
+    },
+    Mark {
+        address: 0x40_0000,
+        kind: MarkKind::Save(1),
+    },
+];
+
+// Body 0 saves, calls body 1, which saves and returns, and saves again.
 #[test]
 fn counts(rt: HostRuntime) -> Result<(), Fail> {
-    let marks = [
-        Mark {
-            address: 0x40_0025,
-            kind: MarkKind::Save(3),
-        },
-        Mark {
-            address: 0x40_0015,
-            kind: MarkKind::Save(2),
-        },
-        Mark {
-            address: 0x40_0015,
-            kind: MarkKind::Return,
-        },
-        Mark {
-            address: 0x40_000E,
-            kind: MarkKind::Enter(1),
-        },
-        Mark {
-            address: 0x40_0007,
-            kind: MarkKind::Call(0),
-        },
-        Mark {
-            address: 0x40_0000,
-            kind: MarkKind::Enter(0),
-        },
-        Mark {
-            address: 0x40_0000,
-            kind: MarkKind::Save(1),
-        },
-    ];
     let mut m = machine(rt.alloc())?;
     let mut out = NullOutlet::new();
     let extent = Extent {
         bodies: 2,
         steps: 7,
     };
-    let counts = count(rt.alloc(), &mut m, &mut out, &marks, extent)?;
-    assert_eq!(rt; counts.status, 7);
-    let rows = counts.rows.as_slice();
-    assert_eq!(rt; rows.len(), 2);
-    let first = rows.first().ok_or("no row")?;
-    assert_eq!(rt; first.activations, 1);
-    assert_eq!(rt; first.leaves, 0);
-    assert_eq!(rt; first.saves, 2);
-    assert_eq!(rt; first.leaf_saves, 0);
-    let last = rows.last().ok_or("no row")?;
-    assert_eq!(rt; last.activations, 1);
-    assert_eq!(rt; last.leaves, 1);
-    assert_eq!(rt; last.saves, 1);
-    assert_eq!(rt; last.leaf_saves, 1);
+    let counts = count(rt.alloc(), &mut m, &mut out, &MARKS, extent)?;
+    assert!(rt; counts.status == 7);
+    match counts.rows.as_slice() {
+        [first, last] => assert!(rt; has(first, [1, 0, 2, 0]) && has(last, [1, 1, 1, 1])),
+        _ => return Err(Fail::from("other rows")),
+    }
     Ok(())
 }

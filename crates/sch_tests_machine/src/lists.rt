@@ -11,6 +11,6 @@ fn grows(rt: HostRuntime) -> Result<(), Fail> {
     let mut more = List::new(rt.alloc());
     more.push(5)?;
     list.append(more)?;
-    assert_eq!(rt; list.as_slice(), [1, 2, 3, 4, 5].as_slice());
+    assert!(rt; list.as_slice() == [1, 2, 3, 4, 5].as_slice());
     Ok(())
 }

@@ -60,7 +60,7 @@ fn machine(alloc: Global, text: &[u8]) -> Result<Machine, Fail>
 fn computes(rt: HostRuntime) -> Result<(), Fail> {
     let mut m = machine(rt.alloc(), &ARITHMETIC)?;
     let mut out = NullOutlet::new();
-    assert_eq!(rt; m.at(), 0x40_0000);
+    assert!(rt; m.at() == 0x40_0000);
     assert!(rt; matches!(run(&mut m, &mut out, 10), RunEnd::Spent));
     assert!(rt; matches!(run(&mut m, &mut out, 999), RunEnd::Exited(145)));
     assert!(rt; matches!(run(&mut m, &mut out, 0), RunEnd::Exited(145)));
@@ -73,7 +73,7 @@ fn computes_in_short_forms(rt: HostRuntime) -> Result<(), Fail> {
     let mut m = machine(rt.alloc(), &SHORT_FORMS)?;
     let mut out = NullOutlet::new();
     assert!(rt; matches!(run(&mut m, &mut out, 2), RunEnd::Spent));
-    assert_eq!(rt; m.at(), 0x40_0016);
+    assert!(rt; m.at() == 0x40_0016);
     assert!(rt; matches!(run(&mut m, &mut out, 40), RunEnd::Spent));
     assert!(rt; matches!(run(&mut m, &mut out, 1), RunEnd::Exited(232)));
     Ok(())
@@ -85,7 +85,7 @@ fn writes(rt: HostRuntime) -> Result<(), Fail> {
     let mut out = MemOutlet::new(rt.alloc(), &[], 100)?;
     assert!(rt; matches!(run(&mut m, &mut out, 7), RunEnd::Spent));
     assert!(rt; matches!(run(&mut m, &mut out, 1), RunEnd::Exited(2)));
-    assert_eq!(rt; out.taken(), b"Hi".as_slice());
+    assert!(rt; out.taken() == b"Hi".as_slice());
     Ok(())
 }
 
@@ -94,7 +94,7 @@ fn writes_less(rt: HostRuntime) -> Result<(), Fail> {
     let mut m = machine(rt.alloc(), &WRITING)?;
     let mut out = MemOutlet::new(rt.alloc(), &[Answer::Took(1)], 100)?;
     assert!(rt; matches!(run(&mut m, &mut out, 8), RunEnd::Exited(1)));
-    assert_eq!(rt; out.taken(), b"H".as_slice());
+    assert!(rt; out.taken() == b"H".as_slice());
     let mut m = machine(rt.alloc(), &WRITING)?;
     let mut out = MemOutlet::new(rt.alloc(), &[Answer::Failed], 100)?;
     assert!(rt; matches!(run(&mut m, &mut out, 8), RunEnd::Exited(251)));

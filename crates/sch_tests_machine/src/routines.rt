@@ -18,10 +18,7 @@ fn routines_are_resolved(rt: HostRuntime) -> Result<(), Fail> {
     let limits = Limits::new(4_096, 1).ok_or("no limits")?;
     let routines = routines(alloc, limits)?;
     let resolved = resolve(alloc, &program, &routines)?;
-    assert_eq!(rt; resolved.code.len(), 89);
-    assert_eq!(rt;
-        resolved.words.as_slice(),
-        [2, 1, 0, 0, 0, 0, 0, 0].as_slice()
-    );
+    assert!(rt; resolved.code.len() == 89);
+    assert!(rt; resolved.words.as_slice() == [2, 1, 0, 0, 0, 0, 0, 0].as_slice());
     Ok(())
 }

@@ -5,26 +5,12 @@ ghost use Rattle.sch_read.specs.Grammar.{atom, list, symbol};
 ghost use Rattle.sch_read.specs.Valid.{weight};
 ghost use Rattle.sch_read.specs.Views.{tree_of, data_of};
 
+use crate::texts::{program_of, repeated, wrapped};
 use sch_core::{CoreError, Kind, Library, core};
-use sch_lang::Program;
-use sch_read::{Atom, Datum, Node, read_all};
-use sch_word::{List, Mem};
+use sch_read::{Atom, Datum, Node};
+use sch_word::{Bytes, List, Mem};
 use std::alloc::Global;
 use std::test::Fail;
-
-// The longest text that is read.
-const MOST_BYTES: usize = 1_048_576;
-
-// The program of a text, or why it has none.
-fn program_of(alloc: Global, text: &[u8]) -> Result<Program, CoreError> {
-    if text.len() > MOST_BYTES {
-        return Err(CoreError::Memory);
-    }
-    match read_all(alloc, text) {
-        Ok(items) => core(alloc, &Library::empty(alloc), items.as_slice()),
-        Err(_) => Err(CoreError::Memory),
-    }
-}
 
 // How many globals and sites the program of a text has.
 #[test]
@@ -65,8 +51,8 @@ fn expands_each_form(rt: HostRuntime) -> Result<(), Fail> {
     ];
     for (text, globals, sites) in rows {
         let program = program_of(rt.alloc(), text)?;
-        assert_eq!(rt; program.globals.len(), globals);
-        assert_eq!(rt; program.sites.len(), sites);
+        assert!(rt; program.globals.len() == globals);
+        assert!(rt; program.sites.len() == sites);
     }
     Ok(())
 }
@@ -122,15 +108,9 @@ fn names_that_are_not_bound(rt: HostRuntime) -> Result<(), Fail> {
 // its second element would stand at level 2,001.
 #[test]
 fn counts_levels(rt: HostRuntime) -> Result<(), Fail> {
-    let mut text = Vec::new(rt.alloc());
-    for _ in 0..998 {
-        text.extend_from_slice(b"(let () 1 ")?;
-    }
-    text.extend_from_slice(b"(= 1 2 3 4)")?;
-    for _ in 0..998 {
-        text.push(b')')?;
-    }
-    let refused = program_of(rt.alloc(), text.as_slice());
+    let alloc = rt.alloc();
+    let text = wrapped(alloc, b"(let () 1 ", 998, b"(= 1 2 3 4)", b")")?;
+    let refused = program_of(alloc, text.as_slice());
     assert!(rt; matches!(refused, Err(CoreError::Limit(Kind::Core, 9985))));
     Ok(())
 }
@@ -138,34 +118,31 @@ fn counts_levels(rt: HostRuntime) -> Result<(), Fail> {
 // A choice of 1,997 levels is walked, and then a name that is nowhere bound.
 #[test]
 fn walks_deep_forms(rt: HostRuntime) -> Result<(), Fail> {
-    let mut text = Vec::new(rt.alloc());
-    text.extend_from_slice(b"(or")?;
-    for _ in 0..999 {
-        text.extend_from_slice(b" 1")?;
-    }
+    let alloc = rt.alloc();
+    let mut text = List::from_slice(alloc, b"(or")?;
+    text.append(repeated(alloc, b" 1", 999)?)?;
     text.extend_from_slice(b") x")?;
-    let refused = program_of(rt.alloc(), text.as_slice());
+    let refused = program_of(alloc, text.as_slice());
     assert!(rt; matches!(refused, Err(CoreError::Unbound(2003, _))));
     Ok(())
 }
 
-// A part of a form at top level with this body inside the bindings of 1,000 variables.
-fn exceeding(alloc: Global, body: &[u8]) -> Result<Vec<u8>, Fail> {
-    let mut text = Vec::new(alloc);
-    text.extend_from_slice(b"1 (begin (begin) ")?;
-    for _ in 0..5 {
-        text.extend_from_slice(b"(let (")?;
-        for k in 0..200u8 {
-            text.extend_from_slice(b"(v")?;
-            text.push(b'0' + k / 100)?;
-            text.push(b'0' + k / 10 % 10)?;
-            text.push(b'0' + k % 10)?;
-            text.extend_from_slice(b" 1)")?;
-        }
-        text.extend_from_slice(b") ")?;
+// The bindings of 200 variables, up to where their body begins.
+fn bindings(alloc: Global) -> Result<Bytes, Mem> {
+    let mut out = List::from_slice(alloc, b"(let (")?;
+    for k in 0..200u8 {
+        let (hundreds, tens, ones) = (b'0' + k / 100, b'0' + k / 10 % 10, b'0' + k % 10);
+        out.extend_from_slice(&[b'(', b'v', hundreds, tens, ones, b' ', b'1', b')'])?;
     }
-    text.extend_from_slice(body)?;
-    text.extend_from_slice(b")))))) 2")?;
+    out.extend_from_slice(b") ")?;
+    Ok(out)
+}
+
+// A part of a form at top level with this body inside the bindings of 1,000 variables.
+fn exceeding(alloc: Global, body: &[u8]) -> Result<Bytes, Mem> {
+    let mut text = List::from_slice(alloc, b"1 (begin (begin) ")?;
+    text.append(wrapped(alloc, bindings(alloc)?.as_slice(), 5, body, b")")?)?;
+    text.extend_from_slice(b") 2")?;
     Ok(text)
 }
 
@@ -220,8 +197,8 @@ fn is_walked(alloc: Global, levels: u32) -> Result<bool, Mem> {
 
 #[test]
 fn very_deep_data_are_out_of_memory(rt: HostRuntime) -> Result<(), Fail> {
-    assert_eq!(rt; is_walked(rt.alloc(), 900)?, true);
-    assert_eq!(rt; is_walked(rt.alloc(), 1_100)?, false);
-    assert_eq!(rt; is_walked(rt.alloc(), 300_000)?, false);
+    assert!(rt; is_walked(rt.alloc(), 900)?);
+    assert!(rt; !is_walked(rt.alloc(), 1_100)?);
+    assert!(rt; !is_walked(rt.alloc(), 300_000)?);
     Ok(())
 }

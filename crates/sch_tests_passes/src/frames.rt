@@ -1,55 +1,29 @@
 //! Frame bodies and frame programs.
 
-ghost use Rattle.std.specs.Prelude.{◌≡◌, IfOk};
-
-use sch_control::{Atom, Body, ControlProgram, Exp, Operand, Operation};
-use sch_frames::FrameProgram;
-use sch_registers::frame_body;
-use sch_word::{Const, List, Mem, Primitive, Statics};
-use std::alloc::Global;
+use crate::texts::control_of;
+use sch_registers::{frame_body, frame_program};
+use sch_word::List;
 use std::test::Fail;
-
-// The form `(display #\a)`.
-fn shown(alloc: Global) -> Result<Body, Mem>
-    ensures variables { IfOk result (λ b. b.variables ≡ 2) }
-{
-    let mut operands = List::new(alloc);
-    operands.push(Operand::Atom(Atom::Constant(Const::Character(97))))?;
-    let exp = Exp::End(Box::new(alloc, Exp::Do(Operation::Prim(0, Primitive::Put, operands)))?);
-    Ok(Body {
-        name: List::new(alloc),
-        entry: None,
-        variables: 2,
-        exp,
-    })
-}
 
 #[test]
 fn lays_out_a_form(rt: HostRuntime) -> Result<(), Fail> {
     let alloc = rt.alloc();
-    let b = shown(alloc)?;
-    let f = frame_body(alloc, &b, &mut List::new(alloc))?;
-    // Nothing is called and nothing saved, so that no word of a frame is used.
-    assert_eq!(rt; f.words, 0);
-    assert!(rt; !f.instructions.is_empty());
+    let q = control_of(alloc, b"(char? #\\a)")?;
+    for b in q.bodies.as_slice() {
+        let f = frame_body(alloc, b, &mut List::new(alloc))?;
+        // Nothing is called and nothing saved, so that no word of a frame is used.
+        assert!(rt; f.words == 0);
+        assert!(rt; !f.instructions.is_empty());
+    }
+    assert!(rt; q.bodies.len() == 1);
     Ok(())
 }
 
 #[test]
 fn makes_a_program(rt: HostRuntime) -> Result<(), Fail> {
     let alloc = rt.alloc();
-    let p = ControlProgram {
-        statics: Statics {
-            symbols: List::new(alloc),
-            literals: List::new(alloc),
-            globals: List::new(alloc),
-        },
-        library: List::new(alloc),
-        bodies: List::new(alloc),
-        sites: List::new(alloc),
-        bound: List::new(alloc),
-    };
-    let q = FrameProgram::new(alloc, &p, List::new(alloc))?;
-    assert!(rt; q.bodies.is_empty());
+    let q = control_of(alloc, b"")?;
+    let made = frame_program(alloc, &q)?;
+    assert!(rt; made.frames.bodies.is_empty());
     Ok(())
 }

@@ -28,3 +28,7 @@ mod saves;
 mod selection;
 #[cfg(test)]
 mod sets;
+#[cfg(test)]
+mod texts;
+#[cfg(test)]
+mod trees;

@@ -49,7 +49,7 @@ fn a_swap(rt: HostRuntime) -> Result<(), Mem> {
     let moves = shuffle(rt.alloc(), &args, &[RBX, R8], &[RAX, RCX])?;
     let all = seen_list(rt.alloc(), &moves)?;
     assert!(rt; all.as_slice() == [(8, 0, 0, true), (3, 8, 1, false), (0, 3, 0, false)].as_slice());
-    assert_eq!(rt; moves.cycles.len(), 1);
+    assert!(rt; moves.cycles.len() == 1);
     Ok(())
 }
 

@@ -1,71 +1,8 @@
 //! The parts of a call: each is bound whole before the next, the operands from left to right and the operator last.
 
-ghost use Rattle.std.specs.Prelude.{◌≡◌, [], ◌∷◌, false, pos, IfOk};
-ghost use Rattle.sch_word.specs.declared.constant.Const.TheVariants.{Fixnum};
-ghost use Rattle.sch_lang.specs.Tree as tree;
-ghost use Rattle.sch_lang.specs.View.{expression, expressions_of};
-
-use crate::closures::{lambda, normalized_form, one, set_local};
+use crate::texts::control_of;
 use sch_control::{Atom, Exp as Control, Operand, Operation};
-use sch_lang::Exp;
-use sch_word::{Const, Fix, List, Mem, Primitive};
-use std::alloc::Global;
 use std::test::Fail;
-
-// A list of two expressions.
-fn two(alloc: Global, a: Exp, b: Exp) -> Result<List<Exp>, Mem>
-    ensures { IfOk result (λ es. expressions_of es ≡ tree.expressions (expression a ∷ expression b ∷ [])) }
-{
-    let mut all = List::new(alloc);
-    all.push(a)?;
-    all.push(b)?;
-    Ok(all)
-}
-
-// A list of three expressions.
-fn three(alloc: Global, a: Exp, b: Exp, c: Exp) -> Result<List<Exp>, Mem>
-    ensures { IfOk result (λ es. expressions_of es ≡ tree.expressions (expression a ∷ expression b ∷ expression c ∷ [])) }
-{
-    let mut all = List::new(alloc);
-    all.push(a)?;
-    all.push(b)?;
-    all.push(c)?;
-    Ok(all)
-}
-
-fn number(n: u8) -> Result<Exp, Mem>
-    ensures { IfOk result (λ e. expression e ≡ tree.constant (Fixnum (pos n))) }
-{
-    match Fix::new(n as i128) {
-        Some(n) => Ok(Exp::Constant(Const::Fixnum(n))),
-        None => Err(Mem),
-    }
-}
-
-fn over_one(alloc: Global, site: u32, which: Primitive, a: Exp) -> Result<Exp, Mem>
-    ensures { IfOk result (λ e. expression e ≡ tree.operation site which (tree.expressions (expression a ∷ []))) }
-{
-    Ok(Exp::Prim(site, which, one(alloc, a)?))
-}
-
-fn over_two(alloc: Global, site: u32, which: Primitive, a: Exp, b: Exp) -> Result<Exp, Mem>
-    ensures { IfOk result (λ e. expression e ≡ tree.operation site which (tree.expressions (expression a ∷ expression b ∷ []))) }
-{
-    Ok(Exp::Prim(site, which, two(alloc, a, b)?))
-}
-
-fn in_turn(alloc: Global, a: Exp, b: Exp, c: Exp) -> Result<Exp, Mem>
-    ensures { IfOk result (λ e. expression e ≡ tree.sequence (tree.expressions (expression a ∷ expression b ∷ expression c ∷ []))) }
-{
-    Ok(Exp::Seq(three(alloc, a, b, c)?))
-}
-
-fn call(alloc: Global, site: u32, operator: Exp, a: Exp, b: Exp) -> Result<Exp, Mem>
-    ensures { IfOk result (λ e. expression e ≡ tree.call site (expression operator) (tree.expressions (expression a ∷ expression b ∷ []))) }
-{
-    let operands = two(alloc, a, b)?;
-    Ok(Exp::Call(site, Box::new(alloc, operator)?, operands))
-}
 
 // Whether an expression is the primitive at a site.
 fn is_at(e: &Control<()>, site: u32) -> bool {
@@ -163,19 +100,12 @@ fn are_operands(operands: &[Operand<u32>]) -> bool {
     }
 }
 
-// (lambda (f) (lambda (x p) (f (+ x (car p)) (begin (set! x 20) (set-car! p 5) 0)))), where x has a cell: variable 4
+// x has a cell: variable 4.
 #[test]
 fn binds_each_operand_whole(rt: HostRuntime) -> Result<(), Fail> {
-    let alloc = rt.alloc();
-    let car = over_one(alloc, 2, Primitive::Car, Exp::Local(0))?;
-    let sum = over_two(alloc, 1, Primitive::Add, Exp::Local(1), car)?;
-    let set = set_local(alloc, 1, number(20)?)?;
-    let set_car = over_two(alloc, 3, Primitive::SetCar, Exp::Local(0), number(5)?)?;
-    let second = in_turn(alloc, set, set_car, number(0)?)?;
-    let body = call(alloc, 0, Exp::Local(2), sum, second)?;
-    let inner = lambda(alloc, 2, false, body)?;
-    let form = lambda(alloc, 1, false, inner)?;
-    let q = normalized_form(alloc, form, &[3, 2, 1, 2])?;
+    let text =
+        b"(lambda (f) (lambda (x p) (f (+ x (car p)) (begin (set! x 20) (set-car! p 5) 0))))";
+    let q = control_of(rt.alloc(), text)?;
     let bound = match q.bodies.as_slice() {
         [_, _, procedure] => binds_after_cell(&procedure.exp),
         _ => false,

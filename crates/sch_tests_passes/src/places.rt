@@ -1,51 +1,87 @@
 //! Where the variables of a body live.
 
-ghost use Rattle.std.specs.Prelude.{◌≤◌, IfOk};
-ghost use Rattle.sch_control.specs.flow.RestoredView.{restored};
-ghost use Rattle.sch_paths.specs.EachSoonRestored.{EachSoonRestored};
-
-use sch_control::{Atom, Exp, Operand, Operation, RestoredBody};
+use crate::trees::{live_by_four, live_by_one, live_by_sixteen, write_number};
+use sch_control::{LiveBody, PlacedBody};
+use sch_core::CoreError;
 use sch_regs::assign_places;
-use sch_word::{List, Mem, Place};
+use sch_restores::place_restores;
+use sch_saves::place_saves;
+use sch_word::{Bytes, List, Mem, Place};
 use std::alloc::Global;
 use std::test::Fail;
 
-// The form `(let ((x unset)) x)`, in which x is variable 2.
-fn bound<const N: usize>(alloc: Global) -> Result<RestoredBody<N>, Mem>
-    requires few { 1 ≤ N }
-    requires many { N ≤ 16 }
-    ensures { IfOk result (λ b. EachSoonRestored (restored b.exp)) }
-{
-    let value = Box::new(alloc, Exp::Do(Operation::UnsetCell))?;
-    let read = Operation::Operand(Operand::Atom(Atom::Variable(2)));
-    let body = Box::new(alloc, Exp::End(Box::new(alloc, Exp::Do(read))?))?;
-    Ok(RestoredBody {
-        name: List::new(alloc),
-        entry: None,
-        variables: 3,
-        exp: Exp::Bind(2, value, body),
-    })
+fn placed<const N: usize>(alloc: Global, b: &LiveBody<N>) -> Result<PlacedBody<N>, Mem> {
+    let saved = place_saves(alloc, b)?;
+    let restored = place_restores(alloc, &saved)?;
+    assign_places(alloc, &restored)
 }
 
-// The register of a variable of the form.
-fn register_of<const N: usize>(alloc: Global, x: usize) -> Result<Option<u8>, Mem>
-    requires few { 1 ≤ N }
-    requires many { N ≤ 16 }
-{
-    let body = bound::<N>(alloc)?;
-    let placed = assign_places(alloc, &body)?;
-    match placed.places.get(x) {
-        Some(Place::Reg(r)) => Ok(Some(*r)),
-        _ => Ok(None),
+// The places in the order of the variables' numbers: a register by its number, a slot by its number behind an `s`.
+fn places_of(alloc: Global, places: &[Place]) -> Result<Bytes, Mem> {
+    let mut out = List::new(alloc);
+    for place in places {
+        match place {
+            Place::Reg(r) => write_number(*r as u32, &mut out)?,
+            Place::Slot(j) => {
+                out.extend_from_slice(b" s")?;
+                write_number(*j, &mut out)?;
+            }
+        }
     }
+    Ok(out)
 }
 
+fn has_places(alloc: Global, found: &[Place], places: &[u8]) -> Result<bool, Mem> {
+    let out = places_of(alloc, found)?;
+    Ok(out.as_slice() == places)
+}
+
+// Whether these are the places of a text's last body, with sets of one word.
+fn by_one(alloc: Global, text: &[u8], places: &[u8]) -> Result<bool, CoreError> {
+    let b = live_by_one(alloc, text)?;
+    let placed = placed(alloc, &b)?;
+    Ok(has_places(alloc, placed.places.as_slice(), places)?)
+}
+
+// The same with sets of four words.
+fn by_four(alloc: Global, text: &[u8], places: &[u8]) -> Result<bool, CoreError> {
+    let b = live_by_four(alloc, text)?;
+    let placed = placed(alloc, &b)?;
+    Ok(has_places(alloc, placed.places.as_slice(), places)?)
+}
+
+// The same with sets of sixteen words.
+fn by_sixteen(alloc: Global, text: &[u8], places: &[u8]) -> Result<bool, CoreError> {
+    let b = live_by_sixteen(alloc, text)?;
+    let placed = placed(alloc, &b)?;
+    Ok(has_places(alloc, placed.places.as_slice(), places)?)
+}
+
+// The return address stays in R15, the closure in R14 and the formals in RBX, R8, R9, R10, RSI and RDI, as they arrive. Another
+// variable has the first of these six that holds nothing that is live behind it, and else a slot; so has a global that is called.
 #[test]
-fn places_of_a_form(rt: HostRuntime) -> Result<(), Fail> {
+fn places_of_variables(rt: HostRuntime) -> Result<(), Fail> {
+    let rows: [(&[u8], &[u8]); 5] = [
+        (
+            b"(define (h z) z)(define (g x y) (if (and x (h y)) y (not (h x))))",
+            b" 15 14 3 8 9 8",
+        ),
+        (b"(define (g x y) y)", b" 15 14 3 8"),
+        (
+            b"(define (g a b c d e f) (let ((x 1)) (g a b c d e x)))",
+            b" 15 14 3 8 9 10 6 7 7 s 0",
+        ),
+        (
+            b"(define (g a b c d e f) (let ((x 1)) (g f a b c d e x)))",
+            b" 15 14 3 8 9 10 6 7 s 0 s 1",
+        ),
+        (b"(let ((x 1)) x)", b" 15 14 3"),
+    ];
     let alloc = rt.alloc();
-    assert_eq!(rt; register_of::<1>(alloc, 2)?, Some(3));
-    assert_eq!(rt; register_of::<4>(alloc, 2)?, Some(3));
-    assert_eq!(rt; register_of::<16>(alloc, 0)?, Some(15));
-    assert_eq!(rt; register_of::<16>(alloc, 3)?, None);
+    for (text, places) in rows {
+        assert!(rt; by_one(alloc, text, places)?);
+        assert!(rt; by_four(alloc, text, places)?);
+        assert!(rt; by_sixteen(alloc, text, places)?);
+    }
     Ok(())
 }

@@ -1,5 +1,6 @@
 //! Texts that are read, and data that are printed and let go of.
 
+use crate::texts::wrapped;
 use sch_print::print;
 use sch_read::{Atom, Datum, Node, ReadError, read_all};
 use sch_word::{List, Mem};
@@ -15,22 +16,6 @@ fn rewritten(alloc: Global, text: &[u8]) -> Result<List<u8>, ReadError> {
             out.push(b'\n')?;
         }
     }
-    Ok(out)
-}
-
-// A text many times over.
-fn repeated(alloc: Global, text: &[u8], times: u32) -> Result<List<u8>, Mem> {
-    let mut out = List::new(alloc);
-    for _ in 0..times {
-        out.extend_from_slice(text)?;
-    }
-    Ok(out)
-}
-
-// A list in lists, as many levels as that.
-fn nested(alloc: Global, levels: u32) -> Result<List<u8>, Mem> {
-    let mut out = repeated(alloc, b"(", levels)?;
-    out.append(repeated(alloc, b")", levels)?)?;
     Ok(out)
 }
 
@@ -76,7 +61,7 @@ fn reads_what_it_prints(rt: HostRuntime) -> Result<(), Fail> {
     ];
     for (text, printed) in rows {
         let out = rewritten(rt.alloc(), text)?;
-        assert_eq!(rt; out.as_slice(), printed);
+        assert!(rt; out.as_slice() == printed);
     }
     Ok(())
 }
@@ -84,9 +69,9 @@ fn reads_what_it_prints(rt: HostRuntime) -> Result<(), Fail> {
 #[test]
 fn reads_a_thousand_levels(rt: HostRuntime) -> Result<(), Fail> {
     let alloc = rt.alloc();
-    let deep = nested(alloc, 1000)?;
+    let deep = wrapped(alloc, b"(", 1000, b"", b")")?;
     let out = rewritten(alloc, deep.as_slice())?;
-    assert_eq!(rt; out.len(), 2001);
+    assert!(rt; out.len() == 2001);
     Ok(())
 }
 
@@ -97,6 +82,6 @@ fn prints_and_lets_go_of_very_deep_data(rt: HostRuntime) -> Result<(), Fail> {
     for level in 0..300_000u32 {
         d = deeper(alloc, d, level % 3)?;
     }
-    assert_eq!(rt; print(alloc, &d)?.len(), 100_000 * 18 + 2);
+    assert!(rt; print(alloc, &d)?.len() == 100_000 * 18 + 2);
     Ok(())
 }

@@ -26,12 +26,12 @@ fn holds_numbers<const N: usize>(number: u32) -> bool
 #[test]
 fn sets_hold_numbers_in_each_word(rt: HostRuntime) {
     for number in [1, 31, 32, 63] {
-        assert!(rt; holds_numbers::<1>(number), "a word, {number}");
+        assert!(rt; holds_numbers::<1>(number));
     }
     for number in [63, 64, 191, 255] {
-        assert!(rt; holds_numbers::<4>(number), "four words, {number}");
+        assert!(rt; holds_numbers::<4>(number));
     }
     for number in [64, 512, 959, 1023] {
-        assert!(rt; holds_numbers::<16>(number), "sixteen words, {number}");
+        assert!(rt; holds_numbers::<16>(number));
     }
 }

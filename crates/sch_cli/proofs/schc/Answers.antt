@@ -1,10 +1,11 @@
 use Rattle.std.proofs.Common.{◌≡◌, ◌≢◌, Some, map, refl, subst, sym, arith}
 use Rattle.std.specs.Option.{option_map}
 use Rattle.std.specs.Prelude.{string_bytes}
-use Rattle.sch_commands.specs.Command.{IfCompile, IfCount, IfGen, IfList, IfRun, command}
+use Rattle.sch_commands.specs.Command.{IfCompile, IfCount, IfGen, IfList, IfRun, IfStep, command}
 use Rattle.sch_commands.specs.CommandView.{command_of}
+use Rattle.sch_cli.specs.Images.{IsStep}
 use Rattle.sch_cli.specs.Seen.{disk_change, stream_change}
-use Rattle.sch_cli.proofs.CommandCases.{CompileEnds, CountEnds, GenEnds, ListEnds, RunEnds, compile_complete, compile_verdict, count_verdict, figures_verdict, list_verdict, run_complete, run_verdict}
+use Rattle.sch_cli.proofs.CommandCases.{CompileEnds, CountEnds, GenEnds, ListEnds, RunEnds, StepEnds, compile_complete, compile_verdict, count_verdict, figures_verdict, list_verdict, run_complete, run_verdict, step_alone, step_verdict}
 use Rattle.sch_cli.proofs.DiskSteps.{took_nothing}
 use Rattle.sch_commands.proofs.AnyCommand.{any_compile, any_count, any_gen, any_run}
 use Rattle.sch_cli.proofs.UnreadWords.{unread_compile, unread_count, unread_gen, unread_list, unread_run, unread_step}
@@ -139,6 +140,37 @@ returns-in-Ok-Some-clause-count_verdict g c =
     let words = command (map string_bytes c.args.words.now) in
     let is : words ≡ Some (command_of c.in-Ok-Some.command) = subst (λ read. words ≡ option_map command_of read) c.in-Ok-Some.field-0-is c.in-Ok-Some.ensures in
     count_verdict words c.perform.result disk err out (subst (λ read. IfCount read (CountEnds words c.perform.result disk err out)) (sym is) c.perform.ensures.count)
+
+pub returns-in-Err-clause-step_verdict : goal.returns-in-Err-clause-step_verdict
+returns-in-Err-clause-step_verdict g c =
+    let disk = disk_change g.D.Disk.files g.D.Disk.faults g.D.Disk.calls c.args.disk.now c.args.disk.now in
+    let err = stream_change g.E.Outlet.bytes g.E.Outlet.left g.E.Outlet.faults c.args.err.now c.report_no_memory.new.err in
+    let out = stream_change g.O.Outlet.bytes g.O.Outlet.left g.O.Outlet.faults c.args.out.now c.args.out.now in
+    step_verdict (command (map string_bytes c.args.words.now)) c.report_no_memory.result disk err out (returns-in-Err-clause-step g c)
+
+pub returns-in-Ok-Some-clause-step_verdict : goal.returns-in-Ok-Some-clause-step_verdict
+returns-in-Ok-Some-clause-step_verdict g c =
+    let disk = disk_change g.D.Disk.files g.D.Disk.faults g.D.Disk.calls c.args.disk.now c.perform.new.disk in
+    let err = stream_change g.E.Outlet.bytes g.E.Outlet.left g.E.Outlet.faults c.args.err.now c.perform.new.err in
+    let out = stream_change g.O.Outlet.bytes g.O.Outlet.left g.O.Outlet.faults c.args.out.now c.perform.new.out in
+    let words = command (map string_bytes c.args.words.now) in
+    let is : words ≡ Some (command_of c.in-Ok-Some.command) = subst (λ read. words ≡ option_map command_of read) c.in-Ok-Some.field-0-is c.in-Ok-Some.ensures in
+    step_verdict words c.perform.result disk err out (subst (λ read. IfStep read (StepEnds words c.perform.result disk err out)) (sym is) c.perform.ensures.step)
+
+pub returns-in-Err-clause-step_alone : goal.returns-in-Err-clause-step_alone
+returns-in-Err-clause-step_alone g c is = absurd (omega (arith, is, c.report_no_memory.ensures.status))
+
+pub returns-in-Ok-Some-clause-step_alone : goal.returns-in-Ok-Some-clause-step_alone
+returns-in-Ok-Some-clause-step_alone g c =
+    let disk = disk_change g.D.Disk.files g.D.Disk.faults g.D.Disk.calls c.args.disk.now c.perform.new.disk in
+    let err = stream_change g.E.Outlet.bytes g.E.Outlet.left g.E.Outlet.faults c.args.err.now c.perform.new.err in
+    let out = stream_change g.O.Outlet.bytes g.O.Outlet.left g.O.Outlet.faults c.args.out.now c.perform.new.out in
+    let words = command (map string_bytes c.args.words.now) in
+    let status = c.perform.result in
+    let ends = c.perform.ensures in
+    let is : words ≡ Some (command_of c.in-Ok-Some.command) = subst (λ read. words ≡ option_map command_of read) c.in-Ok-Some.field-0-is c.in-Ok-Some.ensures in
+    subst (λ read. status ≡ 8 → IsStep read) (sym is)
+    (step_alone (Some (command_of c.in-Ok-Some.command)) status disk err out (λ none. absurd cc) ends.compile ends.run_no_image ends.list ends.count_no_image ends.figures_no_image)
 
 pub returns-in-Err-clause-compile_complete : goal.returns-in-Err-clause-compile_complete
 returns-in-Err-clause-compile_complete g c =

@@ -1,7 +1,9 @@
 -- The steps of the loops over the definitions of a library, over plain values.
-use Rattle.std.proofs.Common.{◌≡◌, ◌≤◌, ◌⊎◌, inl, inr, ℕ, zero, suc, ◌+◌, ◌<◌, min, List, [], ◌∷◌, ◌++◌, length, drop, get_or, map, reverse, Option, Some, None, refl, sym, ap, ◌∙◌, add-one, arith, append_assoc, drop-cons}
+use Rattle.std.proofs.Common.{◌≡◌, ◌≤◌, ◌⊎◌, inl, inr, true, ℕ, zero, suc, ◌+◌, ◌<◌, min, List, [], ◌∷◌, ◌++◌, length, drop, get_or, map, reverse, Option, Some, None, refl, sym, ap, subst, ◌∙◌, add-one, arith, append_assoc, append-nil, drop-cons}
 use Rattle.std.proofs.lemmas.List.{drop_all, reverse-append, reverse-reverse}
+use Rattle.std.proofs.lemmas.Bool.{leb-true, and_parts}
 use Rattle.std.specs.Borrow.{Bor}
+use Rattle.sch_word.specs.trees.Shape.{max_operands}
 use Rattle.sch_read.specs.declared.datum.Datum as text
 use Rattle.sch_read.specs.Parts.{offset}
 use Rattle.sch_read.specs.Views.{tree_of, data_of}
@@ -12,7 +14,9 @@ use Rattle.sch_sketch.specs.DraftView.{draft_of}
 use Rattle.sch_link_tables.specs.Programs.{names_of_each}
 use Rattle.sch_link_program.specs.declared.definition.Definition as code
 use Rattle.sch_link_program.specs.Definitions.{definition_of, definitions_of}
-use Rattle.sch_core.specs.LibraryDefinitions.{procedure_of}
+use Rattle.sch_link_program.specs.Size.{have_few_formals}
+use Rattle.sch_core.specs.LibraryDefinitions.{procedure_of, AreNamedProcedures}
+use Rattle.sch_core.specs.SoundDrafts.{IsProcedure}
 use Rattle.sch_toplevel.specs.Items.{item_places}
 use Rattle.sch_word.proofs.facts.Lists.{next_left}
 use Rattle.sch_core.specs.declared.error.Kind.{Kind}
@@ -55,7 +59,65 @@ next_made left others e all all' d r is h n k =
     let k' = rw (is, reverse-append others (e ∷ []), n) at k in
     rw (h, procedures_more all d) (append_assoc (procedures all) (procedure_of (definition_of d) ∷ []) (map draft_of (reverse others)) ∙ k')
 
+-- ## Names and drafts that are left
+
+pub begin_whole : (vs : List (Option (Bor (List ℕ)))) (es left : List drafts.Draft) → left ≡ reverse es →
+    AreNamedProcedures (given_names vs) (map draft_of es) → AreNamedProcedures (given_names vs) (map draft_of (reverse left))
+begin_whole vs es left e h = subst (λ l. AreNamedProcedures (given_names vs) (map draft_of l)) (sym (ap reverse e ∙ reverse-reverse es)) h
+
+none_named : (vs : List (Option (List ℕ))) (es : List Draft) → AreNamedProcedures (None ∷ vs) es → ⊥
+none_named vs [] h = h
+none_named vs (e ∷ es) h = h
+
+none_drawn : (o : Option (List ℕ)) (vs : List (Option (List ℕ))) → AreNamedProcedures (o ∷ vs) [] → ⊥
+none_drawn None vs h = h
+none_drawn (Some v) vs h = h
+
+first_drawn : (o : Option (List ℕ)) (vs : List (Option (List ℕ))) (e : Draft) (es : List Draft) → AreNamedProcedures (o ∷ vs) (e ∷ es) → IsProcedure e × AreNamedProcedures vs es
+first_drawn None vs e es h = absurd h
+first_drawn (Some v) vs e es h = h
+
+all_drawn : (es : List Draft) → AreNamedProcedures [] es → es ≡ []
+all_drawn [] h = refl
+all_drawn (e ∷ es) h = absurd h
+
+module _ (vs : List (Option (Bor (List ℕ)))) (i : ℕ) (left : List drafts.Draft) (h : AreNamedProcedures (given_names (drop i vs)) (map draft_of (reverse left))) where
+  module _ (o : Option (Bor (List ℕ))) (l : i < length vs) where
+    here : AreNamedProcedures (one_name (get_or vs i o) ∷ given_names (drop (suc i) vs)) (map draft_of (reverse left))
+    here = subst (λ z. AreNamedProcedures (given_names z) (map draft_of (reverse left))) (drop-cons vs i o l) h
+
+    pub name_there : get_or vs i o ≡ None → ⊥
+    name_there e = none_named (given_names (drop (suc i) vs)) (map draft_of (reverse left)) (subst (λ v. AreNamedProcedures (one_name v ∷ given_names (drop (suc i) vs)) (map draft_of (reverse left))) e here)
+
+    pub draft_there : left ≡ [] → ⊥
+    draft_there e = none_drawn (one_name (get_or vs i o)) (given_names (drop (suc i) vs)) (subst (λ z. AreNamedProcedures (one_name (get_or vs i o) ∷ given_names (drop (suc i) vs)) (map draft_of (reverse z))) e here)
+
+    module _ (others : List drafts.Draft) (e : drafts.Draft) (is : left ≡ others ++ e ∷ []) where
+      first_is : map draft_of (reverse left) ≡ draft_of e ∷ map draft_of (reverse others)
+      first_is = ap (λ z. map draft_of z) (ap reverse is ∙ reverse-append others (e ∷ []))
+
+      both : IsProcedure (draft_of e) × AreNamedProcedures (given_names (drop (suc i) vs)) (map draft_of (reverse others))
+      both = first_drawn (one_name (get_or vs i o)) (given_names (drop (suc i) vs)) (draft_of e) (map draft_of (reverse others)) (subst (AreNamedProcedures (one_name (get_or vs i o) ∷ given_names (drop (suc i) vs))) first_is here)
+
+      pub is_procedure : IsProcedure (draft_of e)
+      is_procedure = both.0
+
+      pub next_whole : AreNamedProcedures (given_names (drop (i + 1) vs)) (map draft_of (reverse others))
+      next_whole = subst (λ k. AreNamedProcedures (given_names (drop k vs)) (map draft_of (reverse others))) (sym (add-one i)) both.1
+
+  pub end_made : (all : List code.Definition) (r : List Draft) → length vs ≤ i → procedures all ++ map draft_of (reverse left) ≡ r → procedures all ≡ r
+  end_made all r l k =
+      let none : map draft_of (reverse left) ≡ [] =
+      all_drawn (map draft_of (reverse left)) (subst (λ z. AreNamedProcedures (given_names z) (map draft_of (reverse left))) (drop_all i vs l) h) in
+      sym (append-nil (procedures all)) ∙ (ap (λ z. procedures all ++ z) (sym none) ∙ k)
+
 -- ## The first definition that has too much
+
+-- each of some definitions has few enough formals
+pub formals_at : (ds : List code.Definition) (i : ℕ) (d : code.Definition) → i < length ds → d ≡ get_or ds i d → have_few_formals (definitions_of ds) ≡ true → d.formals ≤ max_operands
+formals_at [] i d l e h = absurd (omega (arith, l))
+formals_at (x ∷ ds) zero d l e h = subst (λ y. y.formals ≤ max_operands) (sym e) (leb-true x.formals max_operands (and_parts _ _ h).0)
+formals_at (x ∷ ds) (suc i) d l e h = formals_at ds i d (omega (arith, l)) e (and_parts _ _ h).1
 
 no_item : (places : List ℕ) → first_definition_excess places [] ≡ None
 no_item [] = refl

@@ -10,9 +10,9 @@ use Rattle.sch_expansion.specs.Reads.{Reads}
 use Rattle.sch_expansion.proofs.Best.{Best, none_new, and_then, none_before}
 use Rattle.sch_expansion.proofs.Readings.{unique, clean, one_fault, read_best, read_made, is_read}
 use Rattle.sch_link_tables.specs.Programs.{Definition, names_of_each}
-use Rattle.sch_core.specs.LibraryDefinitions.{procedure_of}
+use Rattle.sch_core.specs.LibraryDefinitions.{procedure_of, AreNamedProcedures}
 use Rattle.sch_toplevel.specs.Forms.{form_sketch}
-use Rattle.sch_toplevel.specs.Items.{behind, names_by, item_globals, procedure_in, item_names, ItemsExpand, ItemHasFault, ItemsRead}
+use Rattle.sch_toplevel.specs.Items.{behind, name_in, names_by, item_globals, procedure_in, item_names, ItemsExpand, ItemHasFault, ItemsRead}
 use Rattle.sch_core.proofs.DataLaws.{some_some}
 use Rattle.sch_core.proofs.items.ItemShapes.{defines, shaped}
 use Rattle.sch_core.proofs.drafts.Soundness.{procedure}
@@ -62,6 +62,16 @@ items_made before (cons d items) a es (m, e, more, w, q, y) =
     let x = defines s.name e (procedure g s.expands refl) in
     let others = items_made (names_by before d) items m more y in
     (x.definition ∷ others.0, (s.named ∙ ap Some (sym x.named), subst (λ z. Expands g 1 [] Value (procedure_in before d) z) x.made here, others.1))
+
+-- items that are read without a fault have names, and their drafts are those of procedures
+pub items_named : (before : List (List ℕ)) (items : Data) (a : Option Fault) (es : List Draft) → ItemsRead before items a None es → AreNamedProcedures (item_names items) es
+items_named before none a es r = subst (AreNamedProcedures []) (sym r.1) tt
+items_named before (cons d items) a es (m, e, more, w, q, y) =
+    let g = item_globals before d in
+    let s = shaped g before (offset d) (behind d) e (form_sketch d) (here_made before d items a m e more q y) in
+    let others = items_named (names_by before d) items m more y in
+    subst (AreNamedProcedures (name_in d ∷ item_names items)) (sym w)
+    (subst (λ v. AreNamedProcedures (v ∷ item_names items) (e ∷ more)) (sym s.named) (procedure g s.expands refl, others))
 
 formals_are : {n n' : ℕ} {r r' : Bool} {e e' : Draft} → lambda n r e ≡ lambda n' r' e' → n ≡ n'
 formals_are p = cc

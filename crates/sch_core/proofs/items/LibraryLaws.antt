@@ -6,7 +6,7 @@ use Rattle.sch_sketch.specs.declared.fault.Fault.TheVariants as fault
 use Rattle.sch_sketch.specs.Draft.{Draft}
 use Rattle.sch_expansion.specs.FaultOrder.{rank}
 use Rattle.sch_link_tables.specs.Programs.{Definition, names_of_each}
-use Rattle.sch_core.specs.LibraryDefinitions.{procedure_of}
+use Rattle.sch_core.specs.LibraryDefinitions.{procedure_of, AreNamedProcedures}
 use Rattle.sch_toplevel.specs.Items.{item_places, item_names, ItemsExpand, ItemsRead}
 use Rattle.sch_core.specs.Answer.{IsErrorFor}
 use Rattle.sch_core.specs.Excess.{definition_excess, first_definition_excess}
@@ -16,7 +16,7 @@ use Rattle.sch_core.specs.declared.error.CoreError.TheVariants as errors
 use Rattle.sch_core.specs.declared.error.Kind.{Kind}
 use Rattle.sch_core.specs.declared.error.Kind.TheVariants as kinds
 use Rattle.sch_core.proofs.DataLaws.{none_some, some_some, left_is, right_is, excess_counted, place_counted, IsCounted, error_for, named_by}
-use Rattle.sch_core.proofs.items.ItemLaws.{items_best, items_expand, items_made, items_one, items_clean, reading_one, items_read}
+use Rattle.sch_core.proofs.items.ItemLaws.{items_best, items_expand, items_named, items_made, items_one, items_clean, reading_one, items_read}
 
 pub definitions_counted : (places : List ℕ) (ds : List Definition) (k : Kind) (at : ℕ) → first_definition_excess places ds ≡ Some (k, at) → IsCounted k
 definitions_counted [] ds k at e = absurd (none_some e)
@@ -148,6 +148,9 @@ module _ (items : Data) where
 module _ (items : Data) (names : List (Option (List ℕ))) (o : Option Fault) (es : List Draft) (n : names ≡ item_names items) (r : ItemsRead [] items None o es) where
   pub fault_found : (f : Fault) → o ≡ Some f → IsLibraryFault items f
   fault_found f e = library_fault items f es (subst (λ q. ItemsRead [] items None q es) e r)
+
+  pub named_procedures : o ≡ None → AreNamedProcedures names es
+  named_procedures e = subst (λ vs. AreNamedProcedures vs es) (sym n) (items_named [] items None es (subst (λ q. ItemsRead [] items None q es) e r))
 
   module _ (e : o ≡ None) (ds : List Definition) (i : names ≡ map Some (names_of_each ds)) (j : es ≡ map procedure_of ds) where
     pub expands : ItemsExpand [] items ds

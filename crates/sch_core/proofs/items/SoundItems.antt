@@ -1,6 +1,8 @@
 -- The definitions that items stand for are those of valid programs: sound, in order, and small.
-use Rattle.std.proofs.Common.{◌≡◌, inl, inr, ◌≤◌, ℕ, ◌+◌, ◌*◌, Bool, true, false, cond, List, [], ◌∷◌, ◌++◌, Some, None, sym, ◌∙◌, subst, arith}
+use Rattle.std.proofs.Common.{◌≡◌, inl, inr, ◌≤◌, ℕ, ◌+◌, ◌*◌, Bool, true, false, cond, List, [], ◌∷◌, ◌++◌, length, Some, None, refl, sym, ◌∙◌, subst, arith}
 use Rattle.std.specs.Str.{bytes_eq}
+use Rattle.std.proofs.lemmas.Bool.{le-leb, and_from}
+use Rattle.sch_word.specs.trees.Shape.{max_operands}
 use Rattle.sch_read.specs.Grammar.{Datum, Data, atom, list, dotted, vector, none, cons}
 use Rattle.sch_read.specs.Parts.{offset}
 use Rattle.sch_read.specs.Valid.{max_weight, weight, weights}
@@ -11,7 +13,7 @@ use Rattle.sch_sketch.proofs.SmallMeasures.{data_weigh}
 use Rattle.sch_expansion.specs.Expands.{Expands}
 use Rattle.sch_link_tables.specs.Programs.{Definition}
 use Rattle.sch_sketch.specs.DraftMeasures.{size}
-use Rattle.sch_link_program.specs.Size.{size_of_definitions}
+use Rattle.sch_link_program.specs.Size.{size_of_definitions, have_few_formals}
 use Rattle.sch_core.specs.TextForms.{ItemExpands}
 use Rattle.sch_core.specs.LibraryDefinitions.{procedure_of, procedures_of_each, IsDefinition, AreDefinitions, AreOrdered}
 use Rattle.sch_core.specs.Quotable.{AllQuotable, IsQuotable}
@@ -109,6 +111,23 @@ items_size before none (x ∷ xs) h = absurd h
 items_size before (cons d items) [] h = absurd h
 items_size before (cons d items) (x ∷ xs) h = omega (arith, item_size before d x h.1, items_size (names_by before d) items xs h.2)
 
+weighs : (d : Datum) → 1 ≤ weight d
+weighs (atom at a) = omega arith
+weighs (list at xs) = omega arith
+weighs (dotted at xs x) = omega arith
+weighs (vector at xs) = omega arith
+
+items_count : (before : List (List ℕ)) (items : Data) (ds : List Definition) → ItemsExpand before items ds → length ds ≤ weights items
+items_count before none [] h = omega arith
+items_count before none (x ∷ xs) h = absurd h
+items_count before (cons d items) [] h = absurd h
+items_count before (cons d items) (x ∷ xs) h = omega (arith, weighs d, items_count (names_by before d) items xs h.2)
+
+-- a procedure has few enough formals
+pub few_formals : (ds : List Definition) → AreDefinitions ds → have_few_formals ds ≡ true
+few_formals [] h = refl
+few_formals (d ∷ ds) h = and_from _ _ (le-leb d.formals max_operands h.0.0.1) (few_formals ds h.1)
+
 pub items_few : (before : List (List ℕ)) (items : Data) (ds : List Definition) → ItemsExpand before items ds → first_definition_excess (item_places items) ds ≡ None → AreFew ds
 items_few before none [] h e = tt
 items_few before none (x ∷ xs) h e = absurd h
@@ -124,4 +143,5 @@ sound_library items ds h q l e = record {
   ordered = items_ordered [] [] items ds (λ x i. i) h;
   few = items_few [] items ds h e;
   small = omega (arith, items_small [] items ds h, l);
+  few_definitions = omega (arith, items_count [] items ds h, l);
 }

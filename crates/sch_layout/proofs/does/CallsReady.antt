@@ -10,6 +10,7 @@ use Rattle.sch_word.specs.values.Values.{Value}
 use Rattle.sch_word.specs.runs.Computation.{State}
 use Rattle.sch_word.specs.runs.Store.{Store}
 use Rattle.sch_word.specs.declared.mark.MarkKind.{MarkKind}
+use Rattle.sch_word.specs.values.Registers.{argument_registers}
 use Rattle.sch_control.specs.declared.operation.Atom.{Atom}
 use Rattle.sch_control.specs.declared.operation.Atom.TheVariants.{Constant, Literal, Variable}
 use Rattle.sch_control.specs.declared.operation.Operand.{Operand}
@@ -95,7 +96,7 @@ module _ (words : ℕ) where
         ∙ sym (ap (λ t. value_in (cond t (g.places (Slot (words + j))) (g.outgoing ((words + j) - words)))) (le-ltb (words + j) words (omega arith)))
 
   -- and so does a tail call, whose operands fit into the frame
-  pub tail_parts : (vs : List Value) (count : ℕ) (g : Frame) → length vs ≡ suc count → count ≤ 6 + words
+  pub tail_parts : (vs : List Value) (count : ℕ) (g : Frame) → length vs ≡ suc count → count ≤ length argument_registers + words
       → ((k : ℕ) (v : Value) → slice_get vs k ≡ Some v → value_in (seen words g (target true words k)) ≡ Some v) → parts g.places (λ j. g.places (Slot j)) count ≡ Some vs
   tail_parts vs count g l few h =
       parts_are vs count g.places (λ j. g.places (Slot j)) l (λ v e. h 0 v e)

@@ -15,6 +15,7 @@ use Rattle.sch_word.specs.trees.NumberSets.{has, unless}
 use Rattle.sch_word.proofs.facts.Booleans.{false_true, neither, not_left, not_right, or_left, or_right}
 use Rattle.sch_word.specs.declared.mark.MarkKind.{MarkKind}
 use Rattle.sch_word.specs.declared.mark.MarkKind.TheVariants as mark
+use Rattle.sch_word.specs.values.Registers.{argument_registers}
 use Rattle.sch_control.specs.flow.Apart.{Around, EachHas}
 use Rattle.sch_control.specs.declared.operation.Application.{Application}
 use Rattle.sch_control.specs.declared.operation.Atom.TheVariants.{Constant, Literal, Variable}
@@ -436,7 +437,7 @@ module _ (plan : Plan) (homes : Homes plan) (callee callee' : Callee) (follow : 
         (λ x l t. kept (plan.place x) (call_leaves plan (λ x. Perhaps (L x)) a p.0 (plan.place x) t (p.1.0 x l) (λ q free. free.0 x l t)))
         (λ x t. kept (plan.home x) (call_leaves plan (λ x. Perhaps (L x)) a p.0 (plan.home x) (homes.home x t).in_slot (homes.home x t).own (λ q free. free.1 x t))) v s marks marks'))) marks'
 
-  same_tail : {kept : ℕ → Type 0} (a : Application ℕ) (inside : ℕ → Bool) → AtomsHave Behind (application_atoms a) → Brings plan true (FreeInTail plan) a → length a.operands ≤ 6 + plan.limit → (n : ℕ) (test : Option ℕ) (rest : List Instruction)
+  same_tail : {kept : ℕ → Type 0} (a : Application ℕ) (inside : ℕ → Bool) → AtomsHave Behind (application_atoms a) → Brings plan true (FreeInTail plan) a → length a.operands ≤ length argument_registers + plan.limit → (n : ℕ) (test : Option ℕ) (rest : List Instruction)
       → (environment saved : Environment) (f : Frame) (s : State Procedure) (marks marks' : List MarkKind) (next : Then)
       → Agrees plan (λ x. (x ≡ 0) ⊎ Mentions x (application_atoms a)) kept environment saved f.places
       → EndsAs (does (tail_call a) inside environment saved (world s marks) next) (run (lay plan (tail_call a) inside n test rest) None f (world s marks'))

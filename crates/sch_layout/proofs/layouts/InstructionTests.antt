@@ -9,6 +9,7 @@ use Rattle.sch_word.specs.declared.place.Place.TheVariants.{Reg, Slot}
 use Rattle.sch_word.specs.declared.mark.MarkKind.{MarkKind}
 use Rattle.sch_word.specs.declared.mark.MarkKind.TheVariants as mark
 use Rattle.sch_word.specs.runs.Activations.{is_enter}
+use Rattle.sch_word.specs.values.Registers.{argument_registers}
 use Rattle.sch_control.specs.declared.body.Entry.{Entry}
 use Rattle.sch_control.specs.declared.operation.Atom.{Atom}
 use Rattle.sch_control.specs.declared.operation.Atom.TheVariants.{Constant, Literal, Variable}
@@ -246,7 +247,7 @@ not_both false b e = refl
 -- the moves of a call fit into a frame, and its operands
 pub record CallFits (plan : Plan) (words : ℕ) (tail : Bool) (a : Application ℕ) : Type 0 where
   pub moves : EachMove (λ m. Fits plan.limit words m.from m.to) (plan.moves tail a)
-  pub handed : length a.operands ≤ 6 + words
+  pub handed : length a.operands ≤ length argument_registers + words
 
 module _ (plan : Plan) (words : ℕ) (P : ℕ → Type 0) (there : (x : ℕ) → P x → is_place words (plan.place x) ≡ true) where
   -- what an expression uses is placed, where its calls fit
@@ -257,8 +258,8 @@ module _ (plan : Plan) (words : ℕ) (P : ℕ → Type 0) (there : (x : ℕ) →
   calls_placed (branch a b c) f h = (calls_placed a f.0 h.0, (calls_placed b f.1.0 h.1.0, calls_placed c f.1.1 h.1.1))
   calls_placed (fix members e) f h =
       (and_from _ _ (eq-eqb _ _ (as_many plan members)) (and_from _ _ (members_placed plan.place words P there members h.0) (member_atoms_placed plan.place words P there members h.1.0)), calls_placed e f h.1.1)
-  calls_placed (call a restores) f h = (moves_valid plan.limit words (plan.moves false a) f.moves, le-leb (length a.operands) (6 + words) f.handed)
-  calls_placed (tail_call a) f h = (moves_valid plan.limit words (plan.moves true a) f.moves, le-leb (length a.operands) (6 + words) f.handed)
+  calls_placed (call a restores) f h = (moves_valid plan.limit words (plan.moves false a) f.moves, le-leb (length a.operands) (length argument_registers + words) f.handed)
+  calls_placed (tail_call a) f h = (moves_valid plan.limit words (plan.moves true a) f.moves, le-leb (length a.operands) (length argument_registers + words) f.handed)
   calls_placed (return e) f h = calls_placed e f h
   calls_placed (end e) f h = (refl, calls_placed e f h)
   calls_placed (save saves e) f h = calls_placed e f h
@@ -282,14 +283,14 @@ target_fits limit words le true (suc (suc (suc zero))) lt = refl
 target_fits limit words le true (suc (suc (suc (suc zero)))) lt = refl
 target_fits limit words le true (suc (suc (suc (suc (suc zero))))) lt = refl
 target_fits limit words le true (suc (suc (suc (suc (suc (suc zero)))))) lt = refl
-target_fits limit words le true (suc (suc (suc (suc (suc (suc (suc j))))))) lt = slot_target limit words j le (omega (arith, lt))
+target_fits limit words le true (suc (suc (suc (suc (suc (suc (suc j))))))) lt = slot_target limit words (suc (suc (suc (suc (suc (suc j))))) - 6) le (omega (arith, lt))
 target_fits limit words le false (suc zero) lt = refl
 target_fits limit words le false (suc (suc zero)) lt = refl
 target_fits limit words le false (suc (suc (suc zero))) lt = refl
 target_fits limit words le false (suc (suc (suc (suc zero)))) lt = refl
 target_fits limit words le false (suc (suc (suc (suc (suc zero))))) lt = refl
 target_fits limit words le false (suc (suc (suc (suc (suc (suc zero)))))) lt = refl
-target_fits limit words le false (suc (suc (suc (suc (suc (suc (suc j))))))) lt = next_target limit words j (omega (arith, lt))
+target_fits limit words le false (suc (suc (suc (suc (suc (suc (suc j))))))) lt = next_target limit words (suc (suc (suc (suc (suc (suc j))))) - 6) (omega (arith, lt))
 
 -- ## Shape and names
 

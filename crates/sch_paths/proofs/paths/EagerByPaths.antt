@@ -1,14 +1,14 @@
 -- What is restored by the cases of an expression is what is restored by the paths.
-use Rattle.std.proofs.Common.{◌≡◌, ℕ, Bool, true, false, List, [], ◌∷◌, ◌++◌, refl, subst, inl, inr, ◌⊎◌}
+use Rattle.std.proofs.Common.{◌≡◌, ℕ, Bool, true, false, List, [], ◌∷◌, ◌++◌, refl, subst, inl, inr}
 use Rattle.std.specs.Prelude.{◌↔◌}
 use Rattle.std.specs.Bool.{MatchBool}
 use Rattle.sch_control.specs.Meaning.{no_region, with_region}
 use Rattle.sch_control.specs.Tree.{Expression, perform, bind, sequence, branch, fix, call, tail_call, return, end, save}
-use Rattle.sch_control.specs.flow.Live.{Across, Later, Live, MayGive, Soon, nothing_later}
-use Rattle.sch_control.specs.flow.Paths.{Act, Event, Ends, IsPath, MayMeet, Meets, References, Returns, binding, live, soon}
+use Rattle.sch_control.specs.flow.Live.{Later, Live, MayGive, Soon, nothing_later}
+use Rattle.sch_control.specs.flow.Paths.{Act, Event, Ends, MayMeet, Meets, References, Returns, binding, live, soon}
 use Rattle.sch_paths.specs.Exact.{EagerRestores, EagerSets}
 use Rattle.sch_paths.specs.RestoredByPaths.{Onward, RestoredByPaths, RestoredOn, SomeSays, Through}
-use Rattle.sch_paths.proofs.paths.LiveByPaths.{binding_live, binding_soon, both_same, either_same, flip, itself, live_is, match_same, return_live, return_soon, soon_is, then_is}
+use Rattle.sch_paths.proofs.paths.LiveByPaths.{binding_live, binding_soon, both_same, either_same, flip, itself, live_is, return_live, return_soon, soon_is, then_is}
 use Rattle.sch_paths.proofs.paths.MeetsByCases.{has_path, meets-append, meets-decide, meets-map}
 
 -- some path goes on, whatever the result

@@ -1,6 +1,6 @@
 -- What is saved at the head of a region is live there.
-use Rattle.std.proofs.Common.{◌≡◌, ℕ, Bool, true, false, List, [], ◌∷◌, ◌++◌, Option, Some, None, refl, ap, sym, ◌∙◌, inl, inr, ◌⊎◌, map}
-use Rattle.std.specs.Prelude.{◌↔◌, nat_eq, ◌||◌}
+use Rattle.std.proofs.Common.{◌≡◌, ℕ, Bool, true, false, List, [], ◌∷◌, ◌++◌, refl, ap, sym, ◌∙◌, inl, inr, ◌⊎◌, map}
+use Rattle.std.specs.Prelude.{nat_eq, ◌||◌}
 use Rattle.std.specs.Bool.{MatchBool}
 use Rattle.std.proofs.lemmas.Bool.{eqb-true, eqb-false}
 use Rattle.sch_word.specs.trees.NumberSets.{has, unless}
@@ -9,13 +9,12 @@ use Rattle.sch_control.specs.AtomsAndSites.{operation_atoms, application_atoms}
 use Rattle.sch_control.specs.Meaning.{binds, heads, with_region, no_region}
 use Rattle.sch_control.specs.Tree.{Expression, perform, bind, sequence, branch, fix, call, tail_call, return, end, save}
 use Rattle.sch_control.specs.Valid.{Position, value, no_call, procedure_end, form_end, is_value, ends_procedure, ends_form, positioned}
-use Rattle.sch_control.specs.flow.Live.{named, known, ByResult, Across, Live, Later}
+use Rattle.sch_control.specs.flow.Live.{named, known, Across, Live, Later}
 use Rattle.sch_control.specs.flow.Paths.{Event, References, Saves, Calls, Tails, binding, grouping, IsPath, calls}
 use Rattle.sch_control.specs.flow.LiveSets.{LiveSets}
 use Rattle.sch_paths.specs.Exact.{saved_round, ArmsSave}
 use Rattle.sch_paths.specs.Regions.{HeadsLive, regions_stand}
 use Rattle.sch_paths.proofs.runs.SameOperands.{perhaps}
-use Rattle.sch_paths.proofs.paths.LiveByPaths.{itself, then_is, either_same, both_same, match_same}
 use Rattle.sch_paths.proofs.saves.SavedAndRestored.{calls_append}
 use Rattle.sch_paths.proofs.paths.MeetsByCases.{has_path, of_result}
 use Rattle.sch_paths.proofs.saves.TwoSets.{either, EveryPathCalls, references_call, binding_calls, grouping_calls, saves_call}

@@ -52,7 +52,8 @@ use Rattle.sch_select_operations.specs.ClosureCode.{fields_code, closure_bytes, 
 use Rattle.sch_select_operations.specs.ClosureCode.{group_code, spills_behind}
 use Rattle.sch_select.specs.Program.{passed_code, entry_code, forms_code, labels_end, own_label, selected_code}
 use Rattle.sch_select_data.specs.Data.{heap_of}
-use Rattle.sch_select.specs.Sizes.{instructions_in, steps_size}
+use Rattle.sch_asm.specs.Codes.{instructions_in}
+use Rattle.sch_select.specs.Sizes.{steps_size}
 use Rattle.sch_select.proofs.items.ProgramLabels.{last_code}
 use Rattle.sch_select.proofs.items.TextSize.{sources_counts}
 use Rattle.sch_select.proofs.items.Sound.{impossible}

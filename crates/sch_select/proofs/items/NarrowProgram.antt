@@ -16,7 +16,8 @@ use Rattle.sch_asm.proofs.Shortest.{narrow_same}
 use Rattle.sch_select_memory.specs.Addresses.{first_label}
 use Rattle.sch_select.specs.Jumps.{goes_ahead, jumps_ahead}
 use Rattle.sch_select.specs.MarkedStores.{checks_operator, loads_frame, moves_word, returns, stands_before, stores_marked, waiting_mark, writes_frame}
-use Rattle.sch_select.specs.Sizes.{instructions_in, kinds_in}
+use Rattle.sch_asm.specs.Codes.{instructions_in}
+use Rattle.sch_select.specs.Sizes.{kinds_in}
 
 -- ---- labels
 
@@ -59,7 +60,7 @@ narrowed_kinds (_ ∷ is) = narrowed_kinds is
 
 -- ---- stores
 
-item_same : (f : Item → Bool) → ((i : Insn) → f (item.Plain (short_number i)) ≡ f (item.Plain i))
+pub item_same : {A : Type 0} (f : Item → A) → ((i : Insn) → f (item.Plain (short_number i)) ≡ f (item.Plain i))
     → ((i : Insn) (b : ℕ) (d : ℤ) → f (item.Plain (with_operand (Base8 b d) i)) ≡ f (item.Plain (with_operand (Base32 b d) i))) → (i : Item) → f (narrow_item i) ≡ f i
 item_same f numbers operands (item.Plain i) = narrow_same (λ j. f (item.Plain j)) numbers operands i
 item_same f numbers operands _ = refl

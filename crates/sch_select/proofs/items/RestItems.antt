@@ -11,13 +11,12 @@ use Rattle.sch_insn.specs.declared.insn.Arg.TheVariants.{Reg}
 use Rattle.sch_insn.specs.declared.insn.Insn.TheVariants.{MovTo, AddNumber, SubNumber, CmpNumber}
 use Rattle.sch_asm.specs.declared.item.Item.{Item}
 use Rattle.sch_asm.specs.declared.item.Item.TheVariants as item
-use Rattle.sch_asm.specs.Codes.{text_size}
+use Rattle.sch_asm.specs.Codes.{instructions_in, text_size}
 use Rattle.sch_asm.specs.Items.{is_among, labels_in, marks_arrive}
 use Rattle.sch_select.specs.Jumps.{jumps_ahead, goes_ahead}
 use Rattle.sch_select.specs.Program.{count_code, entry_code, passed_code}
 use Rattle.sch_select_memory.specs.RestCode.{list_code, list_label, check_enough}
 use Rattle.sch_select_memory.specs.Addresses.{first_label}
-use Rattle.sch_select.specs.Sizes.{instructions_in}
 use Rattle.sch_select.proofs.items.Sound.{items_valid, fits_32, in_front, fits_short}
 
 -- ---- marks: there are none

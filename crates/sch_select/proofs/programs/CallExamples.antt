@@ -28,7 +28,7 @@ use Rattle.sch_insn.specs.declared.condition.TheConstants.{NE}
 use Rattle.sch_insn.specs.declared.insn.Arg.TheVariants as register
 use Rattle.sch_insn.specs.declared.insn.Insn.TheVariants.{CmpNumber, JumpTo}
 use Rattle.sch_asm.specs.declared.item.Item.TheVariants as item
-use Rattle.sch_asm.specs.Codes.{bytes_of}
+use Rattle.sch_asm.specs.Codes.{bytes_of, instructions_in}
 use Rattle.sch_asm.specs.Data.{data_at}
 use Rattle.sch_asm.specs.Views.{text_at}
 use Rattle.sch_runtime.specs.Code.{routine_items}
@@ -38,7 +38,7 @@ use Rattle.sch_select_data.specs.Data.{program_words}
 use Rattle.sch_select.specs.Program.{form_code, frames_bytes, program_code, program_zeros, stack_bytes}
 use Rattle.sch_select_memory.specs.Addresses.{body_label, stop_label}
 use Rattle.sch_frames.specs.Sizes.{closures_in, instructions_size}
-use Rattle.sch_select.specs.Sizes.{instructions_in, kinds_in, kinds_of, steps_bound}
+use Rattle.sch_select.specs.Sizes.{kinds_in, kinds_of, steps_bound}
 use Rattle.sch_select.proofs.programs.Examples.{text_of, number}
 
 -- how a program ends within 600 steps, with 16 bytes of heap and this depth

@@ -1,5 +1,5 @@
 -- A program joined with its routines and resolved follows its runs.
-use Rattle.std.proofs.Common.{◌≡◌, ℕ, suc, ◌+◌, ◌-◌, ◌*◌, ◌^◌, ◌<◌, ◌≤◌, List, [], ◌∷◌, ◌++◌, length, replicate}
+use Rattle.std.proofs.Common.{◌≡◌, ℕ, ◌+◌, ◌-◌, ◌*◌, ◌^◌, ◌<◌, ◌≤◌, List, [], ◌∷◌, ◌++◌, length, replicate}
 use Rattle.std.proofs.Common.{true, false, refl, sym, ap, ◌∙◌, subst, arith}
 use Rattle.std.specs.Prelude.{IsTrue}
 use Rattle.std.specs.List.{list_all, flat_map}
@@ -15,7 +15,6 @@ use Rattle.sch_asm.specs.declared.assembly.Word.{Word}
 use Rattle.sch_asm.specs.declared.item.Item.{Item}
 use Rattle.sch_asm.specs.declared.item.Item.TheVariants as item
 use Rattle.sch_asm.specs.declared.item.Mark as mark
-use Rattle.sch_word.specs.declared.mark.MarkKind.TheVariants.{Enter}
 use Rattle.sch_asm.specs.Codes.{AreResolved, bytes_of}
 use Rattle.sch_asm.specs.Data.{data_at}
 use Rattle.sch_asm.specs.Effects.{AreEffective}
@@ -25,14 +24,12 @@ use Rattle.sch_asm.specs.Views.{text_at}
 use Rattle.sch_asm.proofs.Joined.{joined}
 use Rattle.sch_asm.proofs.NarrowItems.{stands_wide}
 use Rattle.sch_asm.proofs.Standing.{setting_of, stands_front}
-use Rattle.sch_select.proofs.items.RestItems.{entry_appends, passed_appends}
 use Rattle.sch_select_memory.specs.RestCode.{rest_routine}
-use Rattle.sch_select_memory.specs.Addresses.{put_label, vector_label, string_label, body_label}
-use Rattle.sch_select.specs.Select.{body_code}
+use Rattle.sch_select_memory.specs.Addresses.{put_label, vector_label, string_label}
 use Rattle.sch_select_data.specs.NameWords.{symbol_words, symbols_count}
 use Rattle.sch_select_data.specs.Data.{program_words, names_of, closures_of, heap_of, max_heap_address}
 use Rattle.sch_select_memory.specs.StaticBytes.{static_bytes}
-use Rattle.sch_select.specs.Program.{own_label, passed_code, entry_code, forms_code, form_code, labels_end}
+use Rattle.sch_select.specs.Program.{own_label, forms_code}
 use Rattle.sch_select.specs.Program.{program_code, program_zeros, max_stack, selected_code, stack_bytes}
 use Rattle.sch_select_memory.specs.OwnCode.{own_code}
 use Rattle.sch_select_memory.specs.PutCode.{put_value_code}
@@ -47,7 +44,8 @@ use Rattle.sch_select.specs.Sizes.{steps_bound}
 use Rattle.sch_select.specs.Marks.{PassesMarks, marks_passed}
 use Rattle.sch_select.specs.Follows.{AreRuns, EndsFrames, EntersFrames, FollowsFrames, PassesFrames}
 use Rattle.sch_select_memory.proofs.Places.{Plan, Room}
-use Rattle.sch_select.proofs.items.AppendedItems.{Appends, then_appends, body_appends, behind}
+use Rattle.sch_select.proofs.items.AppendedItems.{behind}
+use Rattle.sch_select.proofs.items.AppendedForms.{forms_appends}
 use Rattle.sch_select_memory.proofs.simulation.Outcomes.{Laid}
 use Rattle.sch_select.proofs.programs.Procedures.{bodies_cost}
 use Rattle.sch_select.proofs.items.ProgramLabels.{last_code}
@@ -80,32 +78,13 @@ abbrev making_code : (heap_end : ℕ) → List Item
 making_code heap_end = item.Label vector_label ∷ making_tail heap_end
 
 module _ (words heap_end literals : ℕ) where
-  form_appends : (label n : ℕ) (c : Code) → Appends (form_code words heap_end literals label n c)
-  form_appends label n c rest =
-      then_appends (passed_code c.entry (n + c.labels)) (λ rest. item.Label (body_label label) ∷ entry_code c.entry (n + c.labels + 1)
-      (item.Mark (Enter label) ∷ body_code n (n + c.labels) words heap_end literals (n + c.labels + 2) c.instructions
-      (item.Label (n + c.labels) ∷ rest))) (passed_appends c.entry (n + c.labels))
-      (λ rest. ap (λ l. item.Label (body_label label) ∷ l)
-      (then_appends (entry_code c.entry (n + c.labels + 1)) (λ rest. item.Mark (Enter label) ∷ body_code n (n + c.labels) words
-      heap_end literals (n + c.labels + 2) c.instructions (item.Label (n + c.labels) ∷ rest)) (entry_appends c.entry (n + c.labels + 1))
-      (λ rest. ap (λ l. item.Mark (Enter label) ∷ l) (then_appends
-      (body_code n (n + c.labels) words heap_end literals (n + c.labels + 2) c.instructions)
-      (λ rest. item.Label (n + c.labels) ∷ rest) (body_appends n (n + c.labels) words heap_end literals
-      (n + c.labels + 2) c.instructions) (λ rest. refl) rest)) rest)) rest
-
-  forms_appends : (label n : ℕ) (cs : List Code) → Appends (forms_code words heap_end literals label n cs)
-  forms_appends label n [] rest = refl
-  forms_appends label n (c ∷ cs) rest = then_appends (form_code words heap_end literals label n c)
-      (forms_code words heap_end literals (suc label) (labels_end n c) cs) (form_appends label n c)
-      (forms_appends (suc label) (labels_end n c) cs) rest
-
   -- the program's own routine stands where its label does
   put_there : (setting : Setting) (label n : ℕ) (cs : List Code) (a : ℕ)
       → Stands setting [] a (forms_code words heap_end literals label n cs (last_code heap_end))
       → Stands setting [] (setting.place_of put_label) put_value_code
   put_there setting label n cs a h =
       let b = behind setting (forms_code words heap_end literals label n cs []) (last_code heap_end) [] a
-      (subst (Stands setting [] a) (forms_appends label n cs (last_code heap_end)) h) in
+      (subst (Stands setting [] a) (forms_appends words heap_end literals label n cs (last_code heap_end)) h) in
       subst (λ a. Stands setting [] a put_value_code) (sym b.stands.4.1)
       (stands_front setting put_value_code (making_code heap_end) [] _ b.stands.4.2)
 
@@ -115,7 +94,7 @@ module _ (words heap_end literals : ℕ) where
       → Stands setting [] (setting.place_of vector_label) (making_tail heap_end)
   making_there setting label n cs a h =
       let b = behind setting (forms_code words heap_end literals label n cs []) (last_code heap_end) [] a
-      (subst (Stands setting [] a) (forms_appends label n cs (last_code heap_end)) h) in
+      (subst (Stands setting [] a) (forms_appends words heap_end literals label n cs (last_code heap_end)) h) in
       let m = behind setting put_value_code (making_code heap_end) [] _ b.stands.4.2 in
       subst (λ a. Stands setting [] a (making_tail heap_end)) (sym m.stands.1) m.stands.2
 

@@ -1,7 +1,8 @@
 -- Where the arguments are, after the operands that are left over have become a list.
 use Rattle.std.proofs.Common.{◌≡◌, ℕ, zero, suc, ◌+◌, ◌*◌, ◌<◌, ◌≤◌, List, [], ◌∷◌, ◌++◌, length, take, drop}
 use Rattle.std.proofs.Common.{false, cond, Option, Some, None, refl, sym, ap, ◌∙◌, subst, arith, ◌⊎◌, inl, inr, ⊎_elim, ◌==◌}
-use Rattle.std.specs.Prelude.{slice_get}
+use Rattle.std.specs.Prelude.{◌-◌, slice_get}
+use Rattle.sch_asm.specs.Data.{word_in}
 use Rattle.std.proofs.lemmas.Bool.{ne_eqb, cases_lt}
 use Rattle.sch_word.specs.declared.place.Place.TheVariants.{Reg, Slot}
 use Rattle.sch_word.specs.values.Values.{Value}
@@ -132,6 +133,17 @@ module _ (plan : Plan) (act : Activation plan) (parts parts' : Parts) (words_sta
       (sym (at_end vs list m enough)) (subst (IsWord parts' list) (sym l.value) named)))
       (cases_lt m k)) (cases_lt k m)
 
+  -- an operand in a slot
+  slot_holds : (k j : ℕ) → argument_place k ≡ Slot j → 6 + j ≡ k
+      → Holds act.back parts (cell_of (slice_get vs (6 + j))) (word_in x.bytes (act.frame + 8 * j))
+      → Holds act.back parts' (cell_of (slice_get arguments (6 + j))) (word_in l.bytes (act.frame + 8 * j))
+  slot_holds k j p e h =
+      let held = subst (λ q. Holds act.back parts (cell_of (slice_get vs k)) (word_of plan act parts q x.registers x.bytes)) (sym p)
+      (subst (λ i. Holds act.back parts (cell_of (slice_get vs i)) (word_in x.bytes (act.frame + 8 * j))) e h) in
+      subst (λ i. Holds act.back parts' (cell_of (slice_get arguments i)) (word_in l.bytes (act.frame + 8 * j))) (sym e)
+      (subst (λ q. Holds act.back parts' (cell_of (slice_get arguments k)) (word_of plan act parts q l.registers l.bytes)) p
+      (argument_holds k held))
+
   -- the places of the body that begins
   pub places_listed : (charged : ℕ) → a ≡ heap + charged
       → PlacesAt plan act parts charged (entry_places self vs) (λ k. Junk) x.registers x.bytes
@@ -151,6 +163,8 @@ module _ (plan : Plan) (act : Activation plan) (parts parts' : Parts) (words_sta
             (argument_holds 2 (f.register 9 refl)) (argument_holds 3 (f.register 10 refl))
             (subst (IsWord parts' self) (sym self_kept) (words_stay self _ (f.register 14 refl)))
             (link_kept ∙ f.register 15 refl);
-        slot = λ j lt. argument_holds (suc (suc (suc (suc (suc (suc j)))))) (f.slot j lt);
+        slot = λ j lt.
+            let place : suc (suc (suc (suc (suc (suc j))))) - 6 ≡ j = omega arith in
+            slot_holds (suc (suc (suc (suc (suc (suc j)))))) j (ap Slot place) (omega arith) (f.slot j lt);
         next = λ j lt. tt;
       }

@@ -265,8 +265,7 @@ module _ (plan : Plan) (act : Activation plan) (parts : Parts) where
 
     held_slot : (j : ℕ) → j < plan.words
         → Holds act.back parts (cell_of (slice_get vs (6 + j))) (word_in bytes (act.frame + 8 * j))
-    held_slot j lt = let e : suc (suc (suc (suc (suc (suc j))))) ≡ 6 + j = omega arith in
-        subst (λ k. Holds act.back parts (cell_of (slice_get vs k)) (word_in bytes (act.frame + 8 * j))) e (f.slot j lt)
+    held_slot j lt = f.slot j lt
 
     length_drop : {A : Type 0} (xs : List A) (m : ℕ) → length (drop m xs) ≤ length xs - m
     length_drop xs zero = omega arith

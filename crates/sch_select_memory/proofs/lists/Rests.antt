@@ -50,8 +50,7 @@ slot_place (suc (suc zero)) le = absurd (omega (arith, le))
 slot_place (suc (suc (suc zero))) le = absurd (omega (arith, le))
 slot_place (suc (suc (suc (suc zero)))) le = absurd (omega (arith, le))
 slot_place (suc (suc (suc (suc (suc zero))))) le = absurd (omega (arith, le))
-slot_place (suc (suc (suc (suc (suc (suc k)))))) le =
-    let e : suc (suc (suc (suc (suc (suc k))))) - 6 ≡ k = omega arith in ap Slot e
+slot_place (suc (suc (suc (suc (suc (suc k)))))) le = refl
 
 less_than : (a b : ℕ) (t : Bool) → nat_le b a ≡ t → nat_lt a b ≡ not t
 less_than a b t e = go a b ∙ ap not e

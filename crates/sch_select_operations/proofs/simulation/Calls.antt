@@ -2,7 +2,7 @@
 use Rattle.std.proofs.Common.{◌≡◌, ℕ, zero, suc, ◌+◌, ◌*◌, ◌^◌, ◌<◌, ◌≤◌, List, [], ◌∷◌, ◌++◌, length, Bool}
 use Rattle.std.proofs.Common.{true, false, Option, Some, None, refl, sym, ap, ◌∙◌, subst, arith, append-nil}
 use Rattle.std.proofs.Common.{append_assoc, eq-eqb, ◌==◌}
-use Rattle.std.specs.Prelude.{pos, negsuc, not, slice_get}
+use Rattle.std.specs.Prelude.{◌-◌, pos, negsuc, not, slice_get}
 use Rattle.std.proofs.lemmas.Bool.{ne_eqb}
 use Rattle.std.proofs.Math.Nat.{mul-suc}
 use Rattle.sch_word.specs.declared.place.Place.TheVariants.{Slot}
@@ -362,12 +362,15 @@ module _ (plan : Plan) (body_steps : ℕ) (laid : Laid plan body_steps) (act : A
                   (subst (IsWord parts (procedure i)) (sym (j.kept 14 refl ∙ kept14)) hv) (j.kept 15 refl)
                   (j.kept 3 refl ∙ s.kept 3 refl) (j.kept 6 refl ∙ s.kept 6 refl) (j.kept 7 refl ∙ s.kept 7 refl)
                   (j.kept 8 refl ∙ s.kept 8 refl) (j.kept 9 refl ∙ s.kept 9 refl) (j.kept 10 refl ∙ s.kept 10 refl);
-              slot = λ l lt. passed (setting.place_of n) parts vs (suc (suc (suc (suc (suc (suc l)))))) _ (λ v o.
+              slot = λ l lt. passed (setting.place_of n) parts vs (6 + l) _ (λ v o.
                   let same : act.frame + 8 * (words + l) ≡ act.frame + 8 * words + 8 * l = omega arith in
+                  let handed : suc (suc (suc (suc (suc (suc l))))) ≡ 6 + l = omega arith in
+                  let behind : l ≡ suc (suc (suc (suc (suc (suc l))))) - 6 = omega arith in
                   subst (λ a. IsWord parts v (word_in x.bytes a)) same
                   (held_value act.back parts (f.outgoing l) (word_in x.bytes (act.frame + 8 * (words + l))) v
-                  (p.next l lt) (argument_at f.places f.outgoing count (suc (suc (suc (suc (suc (suc l)))))) vs v
-                  values o)));
+                  (p.next l lt) (ap (λ j. value_in (f.outgoing j)) behind
+                  ∙ argument_at f.places f.outgoing count (suc (suc (suc (suc (suc (suc l)))))) vs v values
+                  (ap (slice_get vs) handed ∙ o))));
               next = λ l lt. tt;
             } in
             let number = arguments_count f.places f.outgoing 0 count vs values in
@@ -495,9 +498,13 @@ module _ (plan : Plan) (body_steps : ℕ) (laid : Laid plan body_steps) (act : A
                   (j.kept 15 refl ∙ s.kept 15 refl ∙ link)
                   (j.kept 3 refl ∙ s.kept 3 refl) (j.kept 6 refl ∙ s.kept 6 refl) (j.kept 7 refl ∙ s.kept 7 refl)
                   (j.kept 8 refl ∙ s.kept 8 refl) (j.kept 9 refl ∙ s.kept 9 refl) (j.kept 10 refl ∙ s.kept 10 refl);
-              slot = λ l lt. passed act.back parts vs (suc (suc (suc (suc (suc (suc l)))))) _ (λ v o.
+              slot = λ l lt. passed act.back parts vs (6 + l) _ (λ v o.
+                  let handed : suc (suc (suc (suc (suc (suc l))))) ≡ 6 + l = omega arith in
+                  let behind : l ≡ suc (suc (suc (suc (suc (suc l))))) - 6 = omega arith in
                   held_value act.back parts (f.places (Slot l)) (word_in x.bytes (act.frame + 8 * l)) v (p.slot l lt)
-                  (argument_at f.places own_slots count (suc (suc (suc (suc (suc (suc l)))))) vs v values o));
+                  (ap (λ j. value_in (f.places (Slot j))) behind
+                  ∙ argument_at f.places own_slots count (suc (suc (suc (suc (suc (suc l)))))) vs v values
+                  (ap (slice_get vs) handed ∙ o)));
               next = λ l lt. tt;
             } in
             let number = arguments_count f.places own_slots 0 count vs values in

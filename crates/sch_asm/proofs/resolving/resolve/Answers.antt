@@ -21,6 +21,7 @@ use Rattle.sch_asm.proofs.Skeleton.{sound_pieces}
 use Rattle.sch_asm.proofs.Tables.{Below, below_anywhere, sound_append, use_back, use_front}
 use Rattle.sch_asm.proofs.Emitted.{codes, emitted_append, emitted_size, emitted_valid, end_items, few_jumps, jumps_items, marked_append, own_items, reach_back, reach_front, reach_items, size_append}
 use Rattle.sch_asm.proofs.FormsOf.{forms_said, said, said_of}
+use Rattle.sch_asm.proofs.AsMany.{as_many}
 use Rattle.sch_asm.proofs.resolving.resolve.Goals as goal
 use Rattle.sch_asm.proofs.Words.{data_length}
 
@@ -188,4 +189,4 @@ returns c =
     } in
     let r = resolved (xs ++ ys) c.args.a.now.words c.emit-2.new.code c.emit-2.new.marks c.in_ok-words.words c.in_ok-layout.layout.places.items longs w in
     let e = r.size in
-    record { stands = r.stands; valid = r.valid; shortest = r.shortest; exact = r.exact; words = ap length w.words_are ∙ data_length place c.args.a.now.words; zeros = refl; size = r.size; fits = omega (arith, e, w.fits); too_large = tt }
+    record { stands = r.stands; valid = r.valid; shortest = r.shortest; exact = r.exact; as_many = as_many r.stands.place_of 0x400000 (xs ++ ys) c.emit-2.new.code c.emit-2.new.marks r.stands.codes; words = ap length w.words_are ∙ data_length place c.args.a.now.words; zeros = refl; size = r.size; fits = omega (arith, e, w.fits); too_large = tt }

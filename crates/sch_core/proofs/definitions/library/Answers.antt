@@ -1,12 +1,28 @@
-use Rattle.std.proofs.Common.{[], ap, sym, ◌∙◌, rules}
+use Rattle.std.proofs.Common.{◌≡◌, [], true, ap, sym, subst, ◌∙◌, rules}
 use Rattle.sch_read.specs.Views.{data_of}
 use Rattle.sch_names.specs.ScopeView.{given_names}
 use Rattle.sch_link_program.specs.Definitions.{definitions_of}
+use Rattle.sch_link_program.specs.Size.{have_few_formals}
 use Rattle.sch_toplevel.specs.Items.{item_places}
 use Rattle.sch_core.specs.Excess.{first_definition_excess}
-use Rattle.sch_core.proofs.items.LibraryLaws.{faulty_error, excessive_error, definitions_counted, never_both, one_library, fault_found, expands, excess_found, library_found}
-use Rattle.sch_core.proofs.items.SoundItems.{items_size, sound_library}
+use Rattle.sch_core.proofs.items.LibraryLaws.{faulty_error, excessive_error, definitions_counted, never_both, one_library, fault_found, named_procedures, expands, excess_found, library_found}
+use Rattle.sch_core.proofs.items.SoundItems.{items_size, items_sound, few_formals, sound_library}
 use Rattle.sch_core.proofs.definitions.library.Goals as goal
+
+pub definitions-requires : goal.definitions-requires
+definitions-requires c =
+    let items = data_of c.args.items.now in
+    let read = c.in_ok-names.ensures in
+    record { whole = named_procedures items _ _ _ (ap given_names c.as_slice.ensures ∙ read.names) read.reads c.in_default.is }
+
+pub first_definition_excess-requires : goal.first_definition_excess-requires
+first_definition_excess-requires c =
+    let items = data_of c.args.items.now in
+    let read = c.in_ok-names.ensures in
+    let ds = definitions_of c.in_ok-definitions.definitions in
+    let i = sym (ap given_names c.as_slice.ensures) ∙ c.in_ok-definitions.ensures.named in
+    let sound = items_sound [] items ds (expands items _ _ _ read.names read.reads c.in_default.is ds i c.in_ok-definitions.ensures.made) (c.are_quotable.ensures (search rules)) in
+    record { formals = subst (λ l. have_few_formals (definitions_of l) ≡ true) (sym c.as_slice-2.ensures) (few_formals ds sound) }
 
 pub returns-in-Some-clause-fault : goal.returns-in-Some-clause-fault
 returns-in-Some-clause-fault c =

@@ -1,6 +1,9 @@
-use Rattle.std.proofs.Common.{◌≡◌, Some, None, true, ap, sym, ◌∙◌, arith, rules}
+use Rattle.std.proofs.Common.{◌≡◌, ◌≤◌, Some, None, true, length, ap, sym, subst, ◌∙◌, arith, rules}
 use Rattle.std.proofs.Math.Logic.{∥∥₁_elim}
 use Rattle.std.proofs.Props.{props}
+use Rattle.std.proofs.lemmas.List.{length-map}
+use Rattle.sch_read.specs.Valid.{max_weight}
+use Rattle.sch_core.proofs.items.SoundItems.{few_formals}
 use Rattle.sch_lang.specs.ProgramView.{source}
 use Rattle.sch_lang.specs.Valid.{is_valid}
 use Rattle.sch_lang.specs.View.{expressions_of}
@@ -8,7 +11,8 @@ use Rattle.sch_read.specs.Views.{data_of}
 use Rattle.sch_names.specs.NamesView.{names_of}
 use Rattle.sch_sketch.specs.DraftView.{drafts_of}
 use Rattle.sch_link_tables.specs.Programs.{seen, program_of}
-use Rattle.sch_link_program.specs.Definitions.{definitions_of}
+use Rattle.sch_link_program.specs.Definitions.{definition_of, definitions_of}
+use Rattle.sch_link_program.specs.Size.{have_few_formals}
 use Rattle.sch_link_program.specs.PartsView.{parts_of}
 use Rattle.sch_link_program.specs.Ranged.{trees_in_range}
 use Rattle.sch_toplevel.specs.Views.{given}
@@ -75,6 +79,17 @@ returns-in-Some-2-clause-only c =
     let error = excessive_error ds items c.in-Some-2.kind c.in-Some-2.at (first_counted places forms c.in-Some-2.kind c.in-Some-2.at h)
     (exceeding ds items _ _ _ es names c.in_ok-own.ensures.read none places own _ _ _ _ forms at n c.in-Some-2.kind c.in-Some-2.at h) in
     λ p q. never_both ds items p _ q error
+
+pub assemble-requires : goal.assemble-requires
+assemble-requires c =
+    let ds = c.args.library.now.definitions in
+    let same = c.as_slice-definitions.ensures in
+    let formals : have_few_formals (definitions_of ds) ≡ true = ∥∥₁_elim c.args.library.now.sound (Prim.hlevel props) (λ s. few_formals (definitions_of ds) s.sound) in
+    let few : length (definitions_of ds) ≤ max_weight = ∥∥₁_elim c.args.library.now.sound (Prim.hlevel props) (λ s. s.few_definitions) in
+    record {
+      formals = subst (λ l. have_few_formals (definitions_of l) ≡ true) (sym same) formals;
+      few = omega (arith, few, length-map ds definition_of, ap length same);
+    }
 
 pub into_program-requires : goal.into_program-requires
 into_program-requires c =

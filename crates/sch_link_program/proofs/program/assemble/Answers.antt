@@ -1,8 +1,9 @@
-use Rattle.std.proofs.Common.{◌∙◌, ap}
+use Rattle.std.proofs.Common.{◌∙◌, ap, arith}
 use Rattle.sch_names.specs.NamesView.{names_of}
 use Rattle.sch_link_tables.specs.Named.{firsts, globals_in_each, symbols_in_each}
 use Rattle.sch_sketch.specs.DraftView.{drafts_of}
 use Rattle.sch_link_program.specs.Definitions.{definitions_of, kept_definitions}
+use Rattle.sch_link_program.proofs.FewDefinitions.{kept_few, kept_have_few}
 use Rattle.sch_link_program.proofs.ProgramMade.{whole_program}
 use Rattle.sch_link_program.proofs.program.assemble.Goals as goal
 
@@ -11,7 +12,11 @@ program_with-requires c =
     let own = names_of c.args.own.now in
     let forms = drafts_of c.args.forms.now in
     let listed = c.in_ok-name_each.ensures.listed c.new-named.ensures.listed in
+    let ds = c.args.definitions.now in
+    let kept = ap kept_definitions c.as_slice.ensures ∙ c.in_ok-kept.ensures in
     record {
+      formals = kept_have_few c.as_slice.result.now ds _ kept c.requires.formals;
+      few = omega (arith, kept_few c.as_slice.result.now ds _ kept, c.requires.few);
       globals = listed.0 ∙ c.in_ok-name_each.ensures.globals ∙ ap (λ n. firsts n (globals_in_each own forms)) c.new-named.ensures.globals;
       symbols = listed.1 ∙ c.in_ok-name_each.ensures.symbols ∙ ap (λ n. firsts n (symbols_in_each forms)) c.new-named.ensures.symbols;
     }

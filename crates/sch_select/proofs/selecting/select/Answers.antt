@@ -7,8 +7,8 @@ use Rattle.sch_asm.specs.declared.assembly.Word.{Word}
 use Rattle.sch_asm.specs.declared.assembly.Word.TheVariants.{Fixed}
 use Rattle.sch_asm.specs.declared.item.Item.{Item}
 use Rattle.sch_asm.specs.Items.{AreItems, AreKnown, AreOwn, IsEachOnce, labels_in, marks_arrive}
-use Rattle.sch_asm.specs.Codes.{text_size}
-use Rattle.sch_asm.specs.Narrow.{is_narrow_item}
+use Rattle.sch_asm.specs.Codes.{instructions_in, text_size}
+use Rattle.sch_asm.specs.Narrow.{is_narrow_item, narrowed}
 use Rattle.sch_asm.proofs.NarrowItems.{all_narrow, narrowed_marked, narrowed_size, narrowed_sound}
 use Rattle.sch_frames.specs.ProgramView.{source}
 use Rattle.sch_frames.specs.Sizes.{program_copies, program_work}
@@ -18,8 +18,10 @@ use Rattle.sch_select_data.specs.Data.{static_count, objects_unit, names_of, clo
 use Rattle.sch_select_data.specs.Data.{data_words, program_words}
 use Rattle.sch_select.specs.Program.{max_data, max_stack, program_code, program_zeros, own_label, selected_code, stack_bytes}
 use Rattle.sch_select_memory.specs.Addresses.{max_heap_end, names_address}
+use Rattle.sch_select_memory.specs.OwnCode.{own_code}
 use Rattle.sch_select.specs.MarkedStores.{stores_marked}
-use Rattle.sch_select.specs.Sizes.{instructions_in, kinds_in, kinds_of, steps_size}
+use Rattle.sch_select.specs.Parted.{ArePartedBefore}
+use Rattle.sch_select.specs.Sizes.{kinds_in, kinds_of, steps_size}
 use Rattle.sch_select.proofs.programs.CoveredPrograms.{codes_free, entries_selected, globals_known, labels_known}
 use Rattle.sch_select.proofs.programs.CoveredPrograms.{covered_selected, texts_are, literals_are, literals_named}
 use Rattle.sch_select.proofs.programs.CoveredPrograms.{library_small, procedures_known}
@@ -37,6 +39,7 @@ use Rattle.sch_select.proofs.items.InstructionCounts.{program_instructions}
 use Rattle.sch_select.proofs.items.MarkKinds.{program_kinds}
 use Rattle.sch_select.proofs.items.NarrowProgram.{narrowed_ahead, narrowed_instructions, narrowed_kinds, narrowed_known, narrowed_once, narrowed_own, narrowed_stores}
 use Rattle.sch_select.proofs.items.ProgramStores.{program_stands}
+use Rattle.sch_select.proofs.items.ProgramFrames.{program_parted}
 use Rattle.sch_select.proofs.items.JumpsAhead.{program_ahead}
 use Rattle.sch_select.specs.Jumps.{jumps_ahead}
 use Rattle.sch_select.proofs.items.TextSize.{text_small}
@@ -233,6 +236,13 @@ pub returns-clause-stores : goal.returns-clause-stores
 returns-clause-stores c = λ stand.
     subst (λ is. IsTrue (stores_marked None is)) (items_made c.before)
     (narrowed_stores None (wide c.before) ∙ program_stands (source c.args.p.now) c.args.limits.heap c.args.limits.depth stand)
+
+pub returns-clause-parts : goal.returns-clause-parts
+returns-clause-parts c =
+    let p = c.args.p.now in
+    let l = c.args.limits in
+    subst (ArePartedBefore (narrowed (own_code (heap_of (source p) + l.heap)))) (items_made c.before)
+    (program_parted (source p) l.heap l.depth (covered_selected p c.requires.covered))
 
 pub returns-clause-words : goal.returns-clause-words
 returns-clause-words c = subst (λ ws. 0x10000000 + 8 * length ws ≡ heap_of (source c.args.p.now)) (words_made c.before) (ends_there c.before)

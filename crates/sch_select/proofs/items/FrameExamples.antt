@@ -1,0 +1,110 @@
+-- How items use the address of the frame, worked.
+use Rattle.std.proofs.Common.{◌≡◌, List, [], ◌∷◌, map, replicate, Bool, true, false, Some, refl}
+use Rattle.std.specs.Prelude.{pos}
+use Rattle.sch_word.specs.declared.place.Place.TheVariants.{Slot}
+use Rattle.sch_word.specs.values.Literals.{no_literals}
+use Rattle.sch_control.specs.declared.operation.Atom.TheVariants.{Variable}
+use Rattle.sch_control.specs.declared.operation.Operand.TheVariants as operand
+use Rattle.sch_control.specs.declared.operation.Operation.TheVariants as operation
+use Rattle.sch_frames.specs.declared.instruction.Instruction.TheVariants.{Do, Return}
+use Rattle.sch_frames.specs.Tree.{Source}
+use Rattle.sch_insn.specs.declared.insn.Arg.{Arg}
+use Rattle.sch_insn.specs.declared.insn.Arg.TheVariants.{Reg, Base32}
+use Rattle.sch_insn.specs.declared.insn.Insn.TheVariants as insn
+use Rattle.sch_asm.specs.declared.item.Item.{Item}
+use Rattle.sch_asm.specs.declared.item.Item.TheVariants as item
+use Rattle.sch_asm.specs.Narrow.{narrowed}
+use Rattle.sch_select_memory.specs.RestCode.{rest_routine, slot_code}
+use Rattle.sch_select.specs.FrameWords.{by_frame_register, keeps_address, leaves_frame}
+use Rattle.sch_select.specs.Program.{forms_code, own_label, program_code}
+
+-- a word of the frame, whose address RBP has, and one of the heap
+abbrev slot : Arg
+slot = Base32 5 (pos 8)
+
+abbrev part : Arg
+part = Base32 12 (pos 8)
+
+-- RBP is a base, moves by a number, is set to one, or is not there
+kept : map keeps_address (insn.MovTo slot 3 ∷ insn.MovFrom 3 slot ∷ insn.AddFrom 0 slot ∷ insn.AddNumber slot (pos 1) ∷ insn.AddNumber (Reg 5) (pos 16)
+    ∷ insn.SubNumber (Reg 5) (pos 16) ∷ insn.MovWord 5 (pos 16) ∷ insn.MovTo part 3 ∷ insn.Lea 3 part ∷ insn.JumpTo (Reg 15) ∷ [])
+    ≡ true ∷ true ∷ true ∷ true ∷ true ∷ true ∷ true ∷ true ∷ true ∷ true ∷ []
+kept = refl
+
+-- its address goes elsewhere: to another register, into memory, by arithmetic, as the address of a word; or RBP gets a word of
+-- a register or of memory
+lost : map keeps_address (insn.MovTo (Reg 3) 5 ∷ insn.MovFrom 3 (Reg 5) ∷ insn.MovTo part 5 ∷ insn.MovTo slot 5 ∷ insn.AddTo (Reg 3) 5 ∷ insn.AddFrom 3 (Reg 5)
+    ∷ insn.Lea 3 slot ∷ insn.CmpTo (Reg 3) 5 ∷ insn.MovTo (Reg 5) 3 ∷ insn.MovFrom 5 slot ∷ insn.JumpTo (Reg 5) ∷ [])
+    ≡ false ∷ false ∷ false ∷ false ∷ false ∷ false ∷ false ∷ false ∷ false ∷ false ∷ false ∷ []
+lost = refl
+
+-- nor is RBP the register beside another operand,
+beside : map keeps_address (insn.MovTo part 5 ∷ insn.MovFrom 5 part ∷ insn.StoreByte part 5 ∷ insn.LoadByte 5 part ∷ insn.Lea 5 part ∷ insn.AddTo part 5 ∷ insn.OrTo part 5
+    ∷ insn.AndTo part 5 ∷ insn.SubTo part 5 ∷ insn.XorTo part 5 ∷ insn.CmpTo part 5 ∷ insn.AddFrom 5 part ∷ insn.OrFrom 5 part ∷ insn.AndFrom 5 part ∷ insn.SubFrom 5 part
+    ∷ insn.XorFrom 5 part ∷ insn.CmpFrom 5 part ∷ insn.TestTo part 5 ∷ insn.Imul 5 part ∷ [])
+    ≡ replicate 19 false
+beside = refl
+
+-- nor the only operand, unless a number is added to it or taken from it
+alone :
+    (map keeps_address (insn.MovNumber (Reg 5) (pos 8) ∷ insn.OrNumber (Reg 5) (pos 8) ∷ insn.AndNumber (Reg 5) (pos 8) ∷ insn.XorNumber (Reg 5) (pos 8)
+    ∷ insn.CmpNumber (Reg 5) (pos 8) ∷ insn.Neg (Reg 5) ∷ insn.Shl (Reg 5) 3 ∷ insn.Idiv (Reg 5) ∷ []) ≡ replicate 8 false)
+    × (map keeps_address (insn.AddNumber8 (Reg 5) (pos 8) ∷ insn.SubNumber8 (Reg 5) (pos 8) ∷ []) ≡ true ∷ true ∷ [])
+alone = (refl, refl)
+
+abbrev reach : List Item → Bool
+reach is = by_frame_register false is
+
+abbrev hand : Item
+hand = item.Plain (insn.MovTo (Reg 1) 5)
+
+-- The address of a slot is handed over to the routine of lists, and to nothing else; nor is the word there read or written.
+handed :
+    (reach (slot_code 8 (item.LoadLabel 11 7 ∷ item.Jump 1054 ∷ item.Label 7 ∷ [])) ≡ true)
+    × (map reach ((hand ∷ []) ∷ (hand ∷ item.Jump 1053 ∷ []) ∷ (hand ∷ item.Label 7 ∷ item.Jump 1054 ∷ [])
+    ∷ (hand ∷ item.Plain (insn.MovFrom 0 (Base32 1 (pos 8))) ∷ item.Jump 1054 ∷ []) ∷ (hand ∷ item.Plain (insn.MovTo (Base32 1 (pos 8)) 0) ∷ item.Jump 1054 ∷ [])
+    ∷ (hand ∷ item.Plain (insn.AddNumber (Reg 0) (pos 8)) ∷ item.Jump 1054 ∷ []) ∷ (hand ∷ item.LoadLabel 1 7 ∷ item.Jump 1054 ∷ []) ∷ [])
+    ≡ false ∷ false ∷ false ∷ false ∷ false ∷ false ∷ false ∷ [])
+handed = (refl, refl)
+
+-- It goes into RCX and no other register, and the routine is entered by a jump without a condition.
+entered : map reach ((item.Plain (insn.MovTo (Reg 3) 5) ∷ item.Jump 1054 ∷ []) ∷ (hand ∷ item.JumpIf 4 1054 ∷ []) ∷ []) ≡ false ∷ false ∷ []
+entered = refl
+
+-- words of the data and labels have nothing to do with it
+others : map reach ((item.StoreWord 0x10000000 0 ∷ item.LoadWord 0 0x10000000 ∷ item.LoadLabel 15 7 ∷ []) ∷ (item.StoreWord 0x10000000 5 ∷ []) ∷ (item.LoadWord 5 0x10000000 ∷ [])
+    ∷ (item.LoadLabel 5 7 ∷ []) ∷ []) ≡ true ∷ false ∷ false ∷ false ∷ []
+others = refl
+
+-- ## A program: a procedure of seven required operands and a rest variable returns the list, which is in its second slot
+
+abbrev listing : Source
+listing = record {
+  statics = record { symbols = []; literals = no_literals; globals = [] };
+  library = [];
+  bodies = record {
+    entry = Some (record { formals = 8; rest = true; fields = 0 });
+    words = 2;
+    labels = 0;
+    instructions = Do (operation.Operand (operand.Atom (Variable (Slot 1)))) ∷ Return ∷ [];
+  } ∷ [];
+  words = 2;
+}
+
+abbrev own : List Item
+own = forms_code 2 0x10000400 0 0 (own_label listing) listing.bodies (item.Jump 0 ∷ [])
+
+-- In its own items, and in their shortest forms, the address of the frame goes nowhere else. The routine of lists has it in RCX.
+programs :
+    (reach own ≡ true)
+    × (reach (narrowed own) ≡ true)
+    × (reach (rest_routine 0x10000400 []) ≡ false)
+    × (reach (program_code listing 16 1) ≡ false)
+programs = (refl, refl, refl, refl)
+
+-- ## Routines
+
+-- RBP is not moved, set, read, or the base of an operand; its address may go into RCX
+left : map leaves_frame (hand ∷ item.Plain (insn.MovTo part 3) ∷ item.Plain (insn.MovTo slot 3) ∷ item.Plain (insn.AddNumber (Reg 5) (pos 8)) ∷ item.Plain (insn.MovWord 5 (pos 8))
+    ∷ item.Plain (insn.MovTo (Reg 3) 5) ∷ item.LoadWord 5 0x10000000 ∷ []) ≡ true ∷ true ∷ false ∷ false ∷ false ∷ false ∷ false ∷ []
+left = refl
