@@ -1,5 +1,5 @@
-// An interpreter of the same structure as `schc step`, for comparison: each step fetches and decodes
-// anew, a segment is found without copying, and flags are kept as they were computed. Its table is that
+// An interpreter beside `schc step`, for comparison: each step fetches and decodes anew, where `schc step`
+// keeps what it decoded; a segment is found without copying, and flags are kept as they were computed. Its table is that
 // of the compiler's images, and it checks what `schc step` checks.
 //
 //     gcc -O2 -o step step.c && ./step IMAGE STEPS

@@ -8,7 +8,8 @@ use Rattle.sch_insn.specs.declared.insn.Arg.TheVariants.{Reg, Base, Base8, Base3
 use Rattle.sch_insn.specs.declared.insn.Insn.{Insn}
 use Rattle.sch_insn.specs.declared.insn.Insn.TheVariants as insn
 use Rattle.sch_insn.specs.declared.state.StuckCause.{StuckCause}
-use Rattle.sch_insn.specs.Decode.{decode, when_some}
+use Rattle.sch_insn.specs.Decode.{decode}
+use Rattle.sch_word.specs.values.Options.{when_some}
 use Rattle.sch_insn.specs.Machine.{holds, bytes_from, add64, word, condition, set_register, word_at, byte_at, stored, when_ok, or_access, with_segments, with_register, with_place, head_or_0}
 use Rattle.sch_insn.specs.Step.{Progress, Runs, done, fetch, fetched, perform, moved, step, jump_if}
 use Rattle.sch_insn.proofs.Paths.{leads_step}

@@ -14,7 +14,8 @@ use Rattle.sch_asm.specs.declared.item.Item.{Item}
 use Rattle.sch_asm.specs.declared.item.Item.TheVariants.{Label, Plain, Jump, JumpIf, LoadLabel, LoadWord, Mark}
 use Rattle.sch_asm.specs.declared.item.Mark as mark
 use Rattle.sch_word.specs.declared.mark.MarkKind.TheVariants.{Enter, Save}
-use Rattle.sch_asm.specs.declared.routine.Routine.TheVariants.{End, Stop, Put, PutFixnum, FillWords, FillBytes}
+use Rattle.sch_asm.specs.declared.routine.LeftOver.TheVariants.{FromFirst, InSlots}
+use Rattle.sch_asm.specs.declared.routine.Routine.TheVariants.{End, Stop, Put, PutFixnum, FillWords, FillBytes, PutValue, NewVector, NewString, NewList}
 use Rattle.sch_asm.specs.Routines.{label_of}
 use Rattle.sch_asm.specs.Items.{IsPlain, is_routine, labels_in, marks_arrive, uses_in, word_uses}
 use Rattle.sch_asm.specs.Stands.{marks_at}
@@ -87,9 +88,14 @@ routine_labels :
     × (label_of PutFixnum ≡ 12)
     × (label_of FillWords ≡ 13)
     × (label_of FillBytes ≡ 14)
-    × (is_routine 14 ≡ true)
-    × (is_routine 15 ≡ false)
-routine_labels = (refl, refl, refl, refl, refl, refl, refl, refl, refl)
+    × (label_of PutValue ≡ 15)
+    × (label_of NewVector ≡ 16)
+    × (label_of NewString ≡ 17)
+    × (label_of (NewList FromFirst) ≡ 18)
+    × (label_of (NewList InSlots) ≡ 24)
+    × (is_routine 24 ≡ true)
+    × (is_routine 25 ≡ false)
+routine_labels = (refl, refl, refl, refl, refl, refl, refl, refl, refl, refl, refl, refl, refl, refl)
 
 scratch : (is_scratch RAX ≡ true) × (is_scratch R11 ≡ true) × (is_scratch RSI ≡ false) × (is_scratch R12 ≡ false)
 scratch = (refl, refl, refl, refl)

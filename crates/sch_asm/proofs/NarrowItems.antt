@@ -1,6 +1,6 @@
 -- Items in their narrow forms: what holds of items holds of these.
 use Rattle.std.proofs.Common.{◌≡◌, ℕ, ◌+◌, ◌≤◌, List, [], ◌∷◌, ◌++◌, Bool, true, false, refl, ap, ◌∙◌, arith}
-use Rattle.std.specs.Prelude.{not, ◌&&◌}
+use Rattle.std.specs.Prelude.{ℤ, not, ◌&&◌}
 use Rattle.std.specs.List.{list_all}
 use Rattle.std.proofs.lemmas.Bool.{and_from}
 use Rattle.sch_asm.specs.declared.item.Item.{Item}
@@ -8,9 +8,11 @@ use Rattle.sch_asm.specs.declared.item.Item.TheVariants.{Label, Plain, Jump, Jum
 use Rattle.sch_word.specs.declared.mark.MarkKind.{MarkKind}
 use Rattle.sch_asm.specs.Codes.{text_size}
 use Rattle.sch_asm.specs.Items.{AreItems, labels_in, marks_arrive, uses_in}
-use Rattle.sch_asm.specs.Narrow.{is_narrow_item, narrowed}
+use Rattle.sch_insn.specs.declared.insn.Arg.TheVariants.{Base8, Base32}
+use Rattle.sch_insn.specs.declared.insn.Insn.{Insn}
+use Rattle.sch_asm.specs.Narrow.{is_narrow_item, narrow_item, narrowed, short_number, with_operand}
 use Rattle.sch_asm.specs.Stands.{Setting, Stands}
-use Rattle.sch_asm.proofs.Shortest.{narrow_is_narrow, plain_narrow, row_narrow, size_narrow, valid_narrow}
+use Rattle.sch_asm.proofs.Shortest.{narrow_is_narrow, narrow_same, plain_narrow, row_narrow, size_narrow, valid_narrow}
 
 pub all_narrow : (is : List Item) → list_all is_narrow_item (narrowed is) ≡ true
 all_narrow [] = refl
@@ -47,6 +49,12 @@ narrowed_size [] = omega arith
 narrowed_size (Plain i ∷ is) = let h = narrowed_size is in let s = size_narrow i in omega (arith, h, s)
 narrowed_size (Label l ∷ is) = let h = narrowed_size is in omega (arith, h)
 narrowed_size (_ ∷ is) = let h = narrowed_size is in omega (arith, h)
+
+-- what sees neither how long a number is nor how long a displacement is the same of the narrow form
+pub item_same : {A : Type 0} (f : Item → A) → ((i : Insn) → f (Plain (short_number i)) ≡ f (Plain i))
+    → ((i : Insn) (b : ℕ) (d : ℤ) → f (Plain (with_operand (Base8 b d) i)) ≡ f (Plain (with_operand (Base32 b d) i))) → (i : Item) → f (narrow_item i) ≡ f i
+item_same f numbers operands (Plain i) = narrow_same (λ j. f (Plain j)) numbers operands i
+item_same f numbers operands _ = refl
 
 -- Where the narrow forms stand, the items do.
 module _ (setting : Setting) where

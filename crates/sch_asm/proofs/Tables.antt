@@ -1,5 +1,5 @@
 -- The tables of a text are those of its items.
-use Rattle.std.proofs.Common.{◌≡◌, ◌≢◌, ℕ, zero, suc, ◌+◌, ◌*◌, ◌<◌, ◌≤◌, List, [], ◌∷◌, ◌++◌, length, Bool, true, false, refl, sym, subst, arith, ⊎_elim, ◌==◌, ◌||◌, ◌&&◌}
+use Rattle.std.proofs.Common.{◌-◌, ◌≡◌, ◌≢◌, ℕ, zero, suc, ◌+◌, ◌*◌, ◌<◌, ◌≤◌, List, [], ◌∷◌, ◌++◌, length, Bool, true, false, refl, sym, subst, arith, ⊎_elim, ◌==◌, ◌||◌, ◌&&◌}
 use Rattle.std.specs.Prelude.{nat_le, nat_lt, slice_index, IsTrue, All, AllPairs}
 use Rattle.std.specs.List.{AllByRecursion}
 use Rattle.std.proofs.lemmas.Bool.{eqb-true, eqb-false, cases_lt, or_parts}
@@ -14,7 +14,8 @@ use Rattle.sch_asm.specs.declared.assembly.Word.TheVariants.{Fixed, Address}
 use Rattle.sch_asm.specs.declared.item.Item.{Item}
 use Rattle.sch_asm.specs.declared.item.Item.TheVariants.{Label, Plain, Jump, JumpIf, LoadLabel, LoadWord, StoreWord, Mark}
 use Rattle.sch_asm.specs.declared.routine.Routine.{Routine}
-use Rattle.sch_asm.specs.declared.routine.Routine.TheVariants.{End, Stop, Put, PutFixnum, FillWords, FillBytes}
+use Rattle.sch_asm.specs.declared.routine.LeftOver.TheVariants.{FromFirst, FromSecond, FromThird, FromFourth, FromFifth, FromSixth, InSlots}
+use Rattle.sch_asm.specs.declared.routine.Routine.TheVariants.{End, Stop, Put, PutFixnum, FillWords, FillBytes, PutValue, NewVector, NewString, NewList}
 use Rattle.sch_asm.specs.Routines.{label_of}
 use Rattle.sch_asm.specs.Items.{AreItems, AreKnown, AreOwn, IsEachOnce, is_among, is_routine, labels_in, uses_in, word_uses}
 use Rattle.sch_asm.specs.Codes.{item_size, text_size}
@@ -94,10 +95,28 @@ all_by P Q f [] h = tt
 all_by P Q f (l ∷ ls) h = (f l h.0, all_by P Q f ls h.1)
 
 -- the routine of a label
-routine_at : (l : ℕ) → l < 15 → (k : Routine) × (label_of k ≡ l)
-routine_at l lt =
-    ⊎_elim (λ a. by_stop l a) (λ b. ⊎_elim (λ c. by_put l b c) (λ d. ⊎_elim (λ e. (FillWords, omega arith)) (λ f. (FillBytes, omega arith)) (cases_lt l 14)) (cases_lt l 13)) (cases_lt l 11)
+routine_at : (l : ℕ) → l < 25 → (k : Routine) × (label_of k ≡ l)
+routine_at l lt = ⊎_elim (λ a. by_stop l a) (λ b. ⊎_elim (λ c. by_put l b c) (λ d. ⊎_elim (λ e. by_fill l d e) (λ f. by_value l f lt) (cases_lt l 15)) (cases_lt l 13)) (cases_lt l 11)
   where
+    by_list : (m : ℕ) → m < 7 → (k : Routine) × (label_of k ≡ 18 + m)
+    by_list zero lt = (NewList FromFirst, refl)
+    by_list (suc zero) lt = (NewList FromSecond, refl)
+    by_list (suc (suc zero)) lt = (NewList FromThird, refl)
+    by_list (suc (suc (suc zero))) lt = (NewList FromFourth, refl)
+    by_list (suc (suc (suc (suc zero)))) lt = (NewList FromFifth, refl)
+    by_list (suc (suc (suc (suc (suc zero))))) lt = (NewList FromSixth, refl)
+    by_list (suc (suc (suc (suc (suc (suc zero)))))) lt = (NewList InSlots, refl)
+    by_list (suc (suc (suc (suc (suc (suc (suc m))))))) lt = absurd (omega arith)
+
+    by_value : (l : ℕ) → 15 ≤ l → l < 25 → (k : Routine) × (label_of k ≡ l)
+    by_value l b c =
+        ⊎_elim (λ d. (PutValue, omega arith))
+        (λ d. ⊎_elim (λ e. (NewVector, omega arith)) (λ e. ⊎_elim (λ f. (NewString, omega arith)) (λ f. let r = by_list (l - 18) (omega arith) in let at = r.1 in (r.0, omega arith)) (cases_lt l 18)) (cases_lt l 17))
+        (cases_lt l 16)
+
+    by_fill : (l : ℕ) → 13 ≤ l → l < 15 → (k : Routine) × (label_of k ≡ l)
+    by_fill l b c = ⊎_elim (λ d. (FillWords, omega arith)) (λ d. (FillBytes, omega arith)) (cases_lt l 14)
+
     by_put : (l : ℕ) → 11 ≤ l → l < 13 → (k : Routine) × (label_of k ≡ l)
     by_put l b c = ⊎_elim (λ d. (Put, omega arith)) (λ d. (PutFixnum, omega arith)) (cases_lt l 12)
 
@@ -115,7 +134,7 @@ routine_at l lt =
     by_stop (suc (suc (suc (suc (suc (suc (suc (suc (suc (suc zero)))))))))) lt = (Stop OutputFailed, refl)
     by_stop (suc (suc (suc (suc (suc (suc (suc (suc (suc (suc (suc l))))))))))) lt = absurd (omega arith)
 
-routine_low : (l : ℕ) → IsTrue (is_routine l) → l < 15
+routine_low : (l : ℕ) → IsTrue (is_routine l) → l < 25
 routine_low l e = grind (arith, nat_tests)
 
 -- ---- two lists of items, the one behind the other

@@ -9,7 +9,7 @@ use Rattle.sch_insn.specs.declared.register.TheConstants.{RAX, RCX, RDX, R11}
 use Rattle.sch_insn.specs.Step.{Exited, step}
 use Rattle.sch_asm.specs.declared.item.Item.{Item}
 use Rattle.sch_asm.specs.declared.routine.Routine.{Routine}
-use Rattle.sch_asm.specs.declared.routine.Routine.TheVariants.{End, Stop, Put, PutFixnum, FillWords, FillBytes}
+use Rattle.sch_asm.specs.declared.routine.Routine.TheVariants.{End, Stop, Put, PutFixnum, FillWords, FillBytes, PutValue, NewVector, NewString, NewList}
 use Rattle.sch_asm.specs.Stands.{Setting, Stands}
 use Rattle.sch_asm.specs.Data.{FixnumWord, PieceAt, word_in}
 use Rattle.sch_asm.specs.Routines.{label_of}
@@ -103,7 +103,8 @@ module _ (setting : Setting) where
   abbrev pub Puts : View → ℕ → List ℕ → Type 0
   Puts x bound piece = PutEnds (put piece x.answers).whole x bound (x.output ++ (put piece x.answers).taken) (put piece x.answers).left
 
-  -- What a routine does from its label on. A piece that is put lies behind the routines' own words.
+  -- What a routine does from its label on. A piece that is put lies behind the routines' own words. What those do that know
+  -- how values are in the machine is said by their items.
   abbrev pub Effect : Routine → View → Type 0
   Effect End x = Stops x 3 0 x.output x.answers
   Effect (Stop s) x = Stops x 3 (status_of s) x.output x.answers
@@ -111,6 +112,10 @@ module _ (setting : Setting) where
   Effect PutFixnum x = (n : ℤ) → IsReady x → FixnumWord n (x.registers RAX) → Puts x 167 (signed_decimal n)
   Effect FillWords x = (a n w : ℕ) → IsReady x → HasRoom x a n (8 * n) → x.registers RCX ≡ w → w < 2 ^ 64 → Fills x a (8 * n) (5 * n + 4) (AreWords a n w)
   Effect FillBytes x = (a n b : ℕ) → IsReady x → HasRoom x a n n → x.registers RCX % 256 ≡ b → Fills x a n (5 * n + 4) (AreBytes a n b)
+  Effect PutValue x = Unit {0}
+  Effect NewVector x = Unit {0}
+  Effect NewString x = Unit {0}
+  Effect (NewList which) x = Unit {0}
 
 -- Items that do what the routines do, wherever they stand in a text.
 pub record AreEffective (items : List Item) : Type 0 where

@@ -14,4 +14,4 @@ pub use error::AsmError;
 pub use item::{Item, Mark};
 pub use narrowing::narrowed;
 pub use resolving::{Resolved, resolve};
-pub use routine::Routine;
+pub use routine::{LeftOver, Routine};

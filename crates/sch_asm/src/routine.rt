@@ -1,11 +1,42 @@
 //! The run-time routines, and their labels.
 
 ghost use Rattle.std.specs.Prelude.{◌≡◌};
-ghost use Rattle.sch_asm.specs.Routines.{label_of};
+ghost use Rattle.sch_asm.specs.Routines.{label_of, registers_before};
 
 use sch_word::Stop;
 
-/// A piece of code that every program carries. `specs/Effects` says what each does to a machine.
+/// Which operands are left over for a list, by where the first of them was handed over: from one of the six argument
+/// registers on, or in slots alone.
+#[derive(Clone, Copy)]
+pub enum LeftOver {
+    FromFirst,
+    FromSecond,
+    FromThird,
+    FromFourth,
+    FromFifth,
+    FromSixth,
+    InSlots,
+}
+
+impl LeftOver {
+    /// How many argument registers come before, from 0 to 6.
+    pub fn registers_before(self) -> u32
+        ensures { result ≡ registers_before self }
+    {
+        match self {
+            LeftOver::FromFirst => 0,
+            LeftOver::FromSecond => 1,
+            LeftOver::FromThird => 2,
+            LeftOver::FromFourth => 3,
+            LeftOver::FromFifth => 4,
+            LeftOver::FromSixth => 5,
+            LeftOver::InSlots => 6,
+        }
+    }
+}
+
+/// A piece of code that every program carries. `specs/Effects` says what each does to a machine, but for those that know
+/// how values are in the machine: their items are defined where that is.
 #[derive(Clone, Copy)]
 pub enum Routine {
     /// Exits with status 0.
@@ -20,10 +51,19 @@ pub enum Routine {
     FillWords,
     /// Writes the byte in cl at the address in rax and behind it, as many times as rdx says.
     FillBytes,
+    /// Writes the value whose word is in rax.
+    PutValue,
+    /// Makes a vector with the length in rax, filled with what rcx has.
+    NewVector,
+    /// Makes a string with the length in rax, filled with the character in rcx.
+    NewString,
+    /// Makes a list of operands that are left over, as many as rax says. Where they are in slots alone, rcx says how many bytes of
+    /// the frame are before the first.
+    NewList(LeftOver),
 }
 
 impl Routine {
-    /// The label at which the routine is entered, from 0 to 14.
+    /// The label at which the routine is entered, from 0 to 24.
     pub fn label(self) -> u32
         ensures { result ≡ label_of self }
     {
@@ -34,6 +74,10 @@ impl Routine {
             Routine::PutFixnum => 12,
             Routine::FillWords => 13,
             Routine::FillBytes => 14,
+            Routine::PutValue => 15,
+            Routine::NewVector => 16,
+            Routine::NewString => 17,
+            Routine::NewList(which) => 18 + which.registers_before(),
         }
     }
 }

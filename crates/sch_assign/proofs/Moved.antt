@@ -9,10 +9,7 @@ use Rattle.sch_cells.proofs.Without.{without_each_none, without_none}
 use Rattle.sch_assign.specs.Converted.{and_cell, cells_for, wrapped, Low}
 use Rattle.sch_assign.proofs.Lookups.{Apart, apart_next, apart_first, Where, inside, outside, where_is}
 use Rattle.sch_word.proofs.facts.NumberTests.{same}
-
-abbrev pub Under : List ℕ → ℕ → Type 0
-Under [] n = Unit {0}
-Under (x ∷ xs) n = (x < n) × Under xs n
+use Rattle.sch_word.proofs.facts.NumberSets.{Under}
 
 without_out : (x m y : ℕ) (zs : List ℕ) → Apart x m y → without x m (y ∷ zs) ≡ y ∷ without x m zs
 without_out x zero y zs p = refl

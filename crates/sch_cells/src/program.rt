@@ -46,8 +46,7 @@ pub struct CellProgram<K: Form> {
     ghost scoped: { IsTrue (scoped (source_of statics library forms sites variables)) },
     // The nodes are those of this form, name what there is, and have the parts that they must have.
     ghost formed: { IsTrue (formed K.boxed (source_of statics library forms sites variables)) },
-    // Fixnums are in range, characters and the bytes of texts and names are bytes, and literals are not
-    // nested too deeply.
+    // Fixnums are in range, and characters and the bytes of texts and names are bytes.
     ghost words: { IsTrue (constants_in_range (source_of statics library forms sites variables)) },
     // The limits on nesting, operands, formals, bindings, variables and free variables hold.
     ghost limited: { IsTrue (within_limits K.boxed (source_of statics library forms sites variables)) },

@@ -2,6 +2,7 @@
 use Rattle.std.proofs.Common.{◌≡◌, ℕ, ◌≤◌, List, [], ◌∷◌, Option, Some, None, Result, Ok, Err, OnOk, OnErr, IfErr, refl, sym, subst, ap, arith}
 use Rattle.std.specs.Prelude.{⊤, IsSomeAnd, IsErrAnd}
 use Rattle.std.specs.FinMap.{get, insert}
+use Rattle.sch_io.proofs.PutSteps.{tells_then}
 use Rattle.sch_io.specs.Counters.{Rose, raised}
 use Rattle.sch_io.specs.Files.{Files, Replaces, Spoils, written}
 use Rattle.sch_io.specs.Told.{Tells}
@@ -105,12 +106,6 @@ both before None (Some a) P R Q same h r f = absurd r
 both None (Some m) (Some a) P R Q same h r f = absurd same
 both (Some b) (Some m) (Some a) P R Q same h r f = f b m a same h r
 
-both_steps : {A : Type 0} (before middle after : Option A) (P R Q : A → A → Type 0) → Tells before middle P → Tells middle after R → ((b m a : A) → P b m → R m a → Q b a) → Tells before after Q
-both_steps before middle None P R Q h r f = tt
-both_steps before None (Some a) P R Q h r f = absurd r
-both_steps None (Some m) (Some a) P R Q h r f = absurd h
-both_steps (Some b) (Some m) (Some a) P R Q h r f = f b m a h r
-
 -- a source of which there is a program was read, and then something was done with the disk
 module _ (source target text file : List ℕ) (heap depth : ℕ) (b m a : DiskState) (read : HasRead source max_source_size text (record { before = b; after = m }))
     (same : SameFiles (record { before = b; after = m })) (faults : b.faults ≤ m.faults) (calls : HadCalls 1 (record { before = b; after = m })) (made : IsFileOf text heap depth file) where
@@ -176,7 +171,7 @@ module _ (target file name text : List ℕ) (b m a : DiskState) (faults : b.faul
 
   after_first : (P Q : Files → Files → Type 0) → FilesChange (record { before = b; after = m }) (Replaces target file) → FilesChange (record { before = m; after = a }) P
       → ((before after : Files) → P (insert before target file) after → Q before after) → FilesChange (record { before = b; after = a }) Q
-  after_first P Q first p f = both_steps b.files m.files a.files (Replaces target file) P Q first p (λ before middle after is p. f before after (subst (λ all. P all after) is p))
+  after_first P Q first p f = tells_then b.files m.files a.files (Replaces target file) P Q first p (λ before middle after is p. f before after (subst (λ all. P all after) is p))
 
   pub both_done : FilesChange (record { before = b; after = m }) (Replaces target file) → FilesChange (record { before = m; after = a }) (Replaces name text) → a.calls ≡ raised m.calls
       → WritesBoth target file name text (record { before = b; after = a }) (Ok tt)

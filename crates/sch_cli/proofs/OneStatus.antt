@@ -3,6 +3,7 @@ use Rattle.std.proofs.Common.{◌≡◌, ◌≢◌, ◌≤◌, ◌<◌, ℕ, Boo
 use Rattle.std.specs.Prelude.{⊤, nat_lt}
 use Rattle.std.proofs.lemmas.Bool.{lt-ltb, ltb-true}
 use Rattle.sch_word.specs.runs.ProgramLayout.{max_text_size}
+use Rattle.sch_insn.proofs.Reading.{not_below}
 use Rattle.sch_lang.specs.Tree.{Source}
 use Rattle.sch_prelude.specs.LibraryText.{library_text}
 use Rattle.sch_read.specs.Grammar.{Data}
@@ -107,13 +108,6 @@ one_in_texts library text depth _ _ (second r h ds l i) (second r' h' es m j) =
 above : (a b : ℕ) → a < b → nat_lt a b ≡ true
 above a b l = lt-ltb a b l
 
-within : (a b : ℕ) → b ≤ a → nat_lt a b ≡ false
-within a b l = go (nat_lt a b) refl
-  where
-    go : (t : Bool) → nat_lt a b ≡ t → t ≡ false
-    go true e = absurd (omega (arith, ltb-true a b e, l))
-    go false e = refl
-
 by_stack : (p : Source) (depth : ℕ) → max_stack < frames_bytes (frame_words_of p) depth → by_size p depth ≡ Err (failure.Compile (compiling.StackTooLarge (frame_words_of p)))
 unfolding by_size
 by_stack p depth l = rw (above max_stack (frames_bytes (frame_words_of p) depth) l) refl
@@ -121,11 +115,11 @@ by_stack p depth l = rw (above max_stack (frames_bytes (frame_words_of p) depth)
 by_text : (p : Source) (depth : ℕ) → frames_bytes (frame_words_of p) depth ≤ max_stack → max_text_size < text_bytes_of p
     → by_size p depth ≡ Err (failure.Compile (compiling.TextTooLarge (text_bytes_of p)))
 unfolding by_size
-by_text p depth f l = rw (within max_stack (frames_bytes (frame_words_of p) depth) f, above max_text_size (text_bytes_of p) l) refl
+by_text p depth f l = rw (not_below max_stack (frames_bytes (frame_words_of p) depth) f, above max_text_size (text_bytes_of p) l) refl
 
 by_none : (p : Source) (depth : ℕ) → frames_bytes (frame_words_of p) depth ≤ max_stack → text_bytes_of p ≤ max_text_size → by_size p depth ≡ Ok tt
 unfolding by_size
-by_none p depth f l = rw (within max_stack (frames_bytes (frame_words_of p) depth) f, within max_text_size (text_bytes_of p) l) refl
+by_none p depth f l = rw (not_below max_stack (frames_bytes (frame_words_of p) depth) f, not_below max_text_size (text_bytes_of p) l) refl
 
 stack_is : (text : List ℕ) (depth words : ℕ) (is : IsStackTooLarge library_text text depth words) → Err (failure.Compile (compiling.StackTooLarge words)) ≡ by_size is.program depth
 stack_is text depth words is =

@@ -1,7 +1,7 @@
 -- The figures of a program that is made of a number, compiled and run, and the text in which `gen` prints them.
 use Rattle.std.specs.Prelude.{◌≡◌, ℕ, List, ◌++◌, codes, length}
-use Rattle.std.specs.Fmt.{decimal}
 use Rattle.sch_commands.specs.Command.{default_depth, default_heap}
+use Rattle.sch_listing.specs.Lines.{number_line}
 use Rattle.sch_cli.specs.LoneRuns.{ExitsAlone, HasNoExit}
 use Rattle.sch_cli.specs.declared.failure.Failure.{Failure}
 use Rattle.sch_cli.specs.declared.figures.Figures.{Figures}
@@ -22,14 +22,10 @@ HasNoFigures text steps failure = HasNoExit text default_heap default_depth step
 
 -- ---- the text
 
--- a line of a word and a number, in decimal
-abbrev pub figure_line : (word : List ℕ) → (number : ℕ) → List ℕ
-figure_line word number = word ++ (codes " " ++ (decimal number ++ codes "\n"))
-
 abbrev pub figures_text : Figures → List ℕ
 figures_text figures =
-    figure_line (codes "source") figures.source
-    ++ (figure_line (codes "image") figures.image
-    ++ (figure_line (codes "instructions") figures.instructions
-    ++ (figure_line (codes "output") figures.output
-    ++ figure_line (codes "status") figures.status)))
+    number_line (codes "source") figures.source
+    ++ (number_line (codes "image") figures.image
+    ++ (number_line (codes "instructions") figures.instructions
+    ++ (number_line (codes "output") figures.output
+    ++ number_line (codes "status") figures.status)))

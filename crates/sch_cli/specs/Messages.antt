@@ -6,6 +6,7 @@ use Rattle.std.specs.Int.{w32, w64, to_be_bytes}
 use Rattle.hex.specs.Hex.{encode_lower}
 use Rattle.sch_word.specs.declared.stop.Stop.{Stop}
 use Rattle.sch_word.specs.runs.Stops.{status_of, stop_of, text_of}
+use Rattle.sch_listing.specs.Lines.{address_text}
 use Rattle.sch_insn.specs.declared.state.StuckCause.{StuckCause}
 use Rattle.sch_insn.specs.declared.state.StuckCause.TheVariants.{Fetch, Access, Flag, Divide, Kernel}
 use Rattle.sch_step.specs.declared.ends.RunEnd.{RunEnd}
@@ -39,7 +40,7 @@ other_exit_line name status = name ++ (codes ": exit status " ++ (decimal status
 
 -- an address in hexadecimal: 8 digits in lower case, or 16 where it does not fit
 abbrev pub hexadecimal : ℕ → List ℕ
-hexadecimal address = if nat_lt address (2 ^ 32) then encode_lower (to_be_bytes w32 address) else encode_lower (to_be_bytes w64 address)
+hexadecimal address = if nat_lt address (2 ^ 32) then address_text address else encode_lower (to_be_bytes w64 address)
 
 abbrev pub cause_text : StuckCause → List ℕ
 cause_text Fetch = codes "fetch"

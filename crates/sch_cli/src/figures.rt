@@ -1,9 +1,9 @@
 //! The figures of a program, and the text in which they are printed.
 
-ghost use Rattle.std.specs.Prelude.{◌≡◌, ◌++◌, IfOk, OnOk};
-ghost use Rattle.sch_cli.specs.Figures.{figure_line, figures_text};
+ghost use Rattle.std.specs.Prelude.{◌≡◌, IfOk};
+ghost use Rattle.sch_cli.specs.Figures.{figures_text};
 
-use itoa::Buffer;
+use sch_listing::write_number_line;
 use sch_word::{Bytes, Mem};
 use std::alloc::Global;
 
@@ -27,20 +27,10 @@ pub fn print_figures(alloc: Global, figures: Figures) -> Result<Bytes, Mem>
     ensures { IfOk result (λ text. text ≡ figures_text figures) }
 {
     let mut text = Bytes::new(alloc);
-    print_figure(&mut text, b"source", figures.source)?;
-    print_figure(&mut text, b"image", figures.image)?;
-    print_figure(&mut text, b"instructions", figures.instructions)?;
-    print_figure(&mut text, b"output", figures.output)?;
-    print_figure(&mut text, b"status", u64::from(figures.status))?;
+    write_number_line(&mut text, b"source", figures.source)?;
+    write_number_line(&mut text, b"image", figures.image)?;
+    write_number_line(&mut text, b"instructions", figures.instructions)?;
+    write_number_line(&mut text, b"output", figures.output)?;
+    write_number_line(&mut text, b"status", u64::from(figures.status))?;
     Ok(text)
-}
-
-fn print_figure(text: &mut Bytes, word: &[u8], number: u64) -> Result<(), Mem>
-    ensures { OnOk result (text.new ≡ text.old ++ figure_line word.now number) }
-{
-    let mut buffer = Buffer::new();
-    text.extend_from_slice(word)?;
-    text.extend_from_slice(b" ")?;
-    text.extend_from_slice(buffer.format(number).as_bytes())?;
-    text.extend_from_slice(b"\n")
 }

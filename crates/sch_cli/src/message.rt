@@ -11,6 +11,7 @@ use hex::encode_to_slice;
 use itoa::Buffer;
 use sch_insn::StuckCause;
 use sch_io::{Outlet, put_all};
+use sch_listing::address_digits;
 use sch_step::{RunEnd, Stuck};
 use sch_word::Stop;
 
@@ -163,18 +164,10 @@ fn say_stuck<E: Outlet>(err: &mut E, name: &str, stuck: Stuck)
 {
     let end = end_for(stuck.cause);
     if stuck.at < 1 << 32 {
-        say_place(err, name, &short_address(stuck.at as u32), end);
+        say_place(err, name, &address_digits(stuck.at as u32), end);
     } else {
         say_place(err, name, &long_address(stuck.at), end);
     }
-}
-
-fn short_address(address: u32) -> [u8; 8]
-    ensures { result ≡ encode_lower (to_be_bytes w32 address) }
-{
-    let mut digits = [0; 8];
-    let _ = encode_to_slice(address.to_be_bytes(), &mut digits);
-    digits
 }
 
 fn long_address(address: u64) -> [u8; 16]

@@ -7,35 +7,15 @@
 ghost use Rattle.std.specs.Prelude.{◌≡◌, [], ◌∷◌, reverse, IfOk, OnOk};
 ghost use Rattle.sch_cells.specs.Tree as plain;
 ghost use Rattle.sch_word.specs.trees.Bindings.{numbers, without};
-ghost use Rattle.sch_word.specs.trees.NumberSets.{has, insert, union};
+ghost use Rattle.sch_word.specs.trees.NumberSets.{has, union};
 ghost use Rattle.sch_cells.specs.Variables.{cells_bound, without_each};
 ghost use Rattle.sch_cells.specs.View.{tree, trees_of, lambdas_of};
 ghost use Rattle.sch_closure.specs.Closed.{program_fields};
 ghost use Rattle.sch_closure.specs.Found.{found, found_cells, found_each, found_lambdas, fields_found, fields_of_each, fields_of_lambdas};
 
 use sch_cells::{Exp, Lambda, NewCell};
-use sch_word::{List, Mem, is_in};
+use sch_word::{List, Mem, insert_number, insert_numbers};
 use std::alloc::Global;
-
-// Puts a variable before others unless it is one of them.
-fn insert_variable(x: u32, xs: &mut Vec<u32>) -> Result<(), Mem>
-    ensures { OnOk result (reverse xs.new.items ≡ insert x (reverse xs.old.items)) }
-{
-    if !is_in(x, xs.as_slice()) {
-        xs.push(x)?;
-    }
-    Ok(())
-}
-
-// Puts each of some variables before others.
-fn insert_each(more: &[u32], xs: &mut Vec<u32>) -> Result<(), Mem>
-    ensures { OnOk result (reverse xs.new.items ≡ union (reverse more.now) (reverse xs.old.items)) }
-{
-    for x in more {
-        insert_variable(*x, xs)?;
-    }
-    Ok(())
-}
 
 // Those that are none of the `count` variables from the first on.
 fn outside_group(alloc: Global, first: u32, count: usize, xs: &[u32]) -> Result<Vec<u32>, Mem>
@@ -90,7 +70,7 @@ fn insert_contents(cs: &[NewCell], xs: &mut Vec<u32>) -> Result<(), Mem>
     while left > 0 {
         left -= 1;
         if let Some(x) = cs[left].content {
-            insert_variable(x, xs)?;
+            insert_number(x, xs)?;
         }
     }
     Ok(())
@@ -121,10 +101,10 @@ fn find(alloc: Global, e: &Exp, free: &mut Vec<u32>, fields: &mut Vec<List<u32>>
 {
     match e {
         Exp::Constant(_) | Exp::Literal(_) | Exp::Global(_) => Ok(()),
-        Exp::Var(x) | Exp::CellGet(x) => insert_variable(*x, free),
+        Exp::Var(x) | Exp::CellGet(x) => insert_number(*x, free),
         Exp::SetVar(x, value) | Exp::CellSet(x, value) => {
             find(alloc, value, free, fields)?;
-            insert_variable(*x, free)
+            insert_number(*x, free)
         }
         Exp::SetGlobal(_, value) | Exp::Define(_, value) => find(alloc, value, free, fields),
         Exp::If(test, yes, no) => {
@@ -142,7 +122,7 @@ fn find(alloc: Global, e: &Exp, free: &mut Vec<u32>, fields: &mut Vec<List<u32>>
             let mut inside = Vec::new(alloc);
             find(alloc, body, &mut inside, fields)?;
             let outer = outside_group(alloc, *first, count(inits), inside.as_slice())?;
-            insert_each(outer.as_slice(), free)?;
+            insert_numbers(outer.as_slice(), free)?;
             find_each(alloc, inits, free, fields)
         }
         Exp::Fix {
@@ -154,7 +134,7 @@ fn find(alloc: Global, e: &Exp, free: &mut Vec<u32>, fields: &mut Vec<List<u32>>
             find(alloc, body, &mut inside, fields)?;
             find_lambdas(alloc, lambdas, &mut inside, fields)?;
             let outer = outside_group(alloc, *first, count_lambdas(lambdas), inside.as_slice())?;
-            insert_each(outer.as_slice(), free)
+            insert_numbers(outer.as_slice(), free)
         }
         Exp::Rec {
             site: _,
@@ -166,7 +146,7 @@ fn find(alloc: Global, e: &Exp, free: &mut Vec<u32>, fields: &mut Vec<List<u32>>
             find(alloc, body, &mut inside, fields)?;
             find_each(alloc, inits, &mut inside, fields)?;
             let outer = outside_group(alloc, *first, count(inits), inside.as_slice())?;
-            insert_each(outer.as_slice(), free)
+            insert_numbers(outer.as_slice(), free)
         }
         Exp::Lambda(l) => find_lambda(alloc, l, free, fields),
         Exp::Call {
@@ -183,7 +163,7 @@ fn find(alloc: Global, e: &Exp, free: &mut Vec<u32>, fields: &mut Vec<List<u32>>
             let mut inside = Vec::new(alloc);
             find(alloc, body, &mut inside, fields)?;
             let outer = outside_cells(alloc, cells.as_slice(), inside.as_slice())?;
-            insert_each(outer.as_slice(), free)?;
+            insert_numbers(outer.as_slice(), free)?;
             insert_contents(cells.as_slice(), free)
         }
     }
@@ -222,7 +202,7 @@ fn find_lambda(
     let mut inside = Vec::new(alloc);
     find(alloc, &l.body, &mut inside, fields)?;
     let mut own = outside_group(alloc, l.first, l.formals as usize, inside.as_slice())?;
-    insert_each(own.as_slice(), free)?;
+    insert_numbers(own.as_slice(), free)?;
     own.reverse();
     fields.push(List::from_vec(own))?;
     Ok(())

@@ -11,11 +11,12 @@ use Rattle.sch_control.specs.Tree.{Source}
 use Rattle.sch_control.specs.Fits.{begins_with, fits, table_fits}
 use Rattle.sch_control.specs.Valid.{bound_parts, bound_known, without_repeats}
 use Rattle.sch_control.specs.OrderTable.{others, given_order, given_orders, given_table}
+use Rattle.sch_control.proofs.NumberRows.{permuted}
 use Rattle.sch_word.proofs.facts.NumberSets.{numbers_length}
 use Rattle.sch_word.proofs.facts.Booleans.{and_left, and_right, and_of, not_true}
 use Rattle.sch_word.proofs.facts.Occurrences.{one, one_same, one_other, times, times_append, times_cons}
 
-begins_itself : (xs ys : List ℕ) → begins_with xs (xs ++ ys) ≡ true
+pub begins_itself : (xs ys : List ℕ) → begins_with xs (xs ++ ys) ≡ true
 begins_itself [] ys = refl
 begins_itself (x ∷ xs) ys = and_of (nat_eq x x) (begins_with xs (xs ++ ys)) (eq-eqb x x refl) (begins_itself xs ys)
 
@@ -57,7 +58,7 @@ once_there k (x ∷ xs) h = go (nat_eq k x) refl (once_there k xs (and_right (no
         omega (arith, none, times_cons k x xs, ap (λ z. one k z) (sym m), one_same k)
     go false e h = omega (arith, times_cons k x xs, one_other k x (λ m. eqb-false k x e (sym m))) ∙ h
 
-times_others : (k : ℕ) (parts ks : List ℕ) → times k (others parts ks) ≡ cond (has k parts) 0 (times k ks)
+pub times_others : (k : ℕ) (parts ks : List ℕ) → times k (others parts ks) ≡ cond (has k parts) 0 (times k ks)
 times_others k parts [] = go (has k parts)
   where
     go : (b : Bool) → 0 ≡ cond {A = ℕ} b 0 0
@@ -136,10 +137,6 @@ order_length width parts l r =
     let k = all_among width parts l r in
     omega (arith, h, k, length-append parts (others parts (numbers 0 width)), numbers_length 0 width)
 
-every_once : (f : ℕ → Bool) (x n : ℕ) → ((k : ℕ) → k < x + n → f k ≡ true) → list_all f (numbers x n) ≡ true
-every_once f x zero h = refl
-every_once f x (suc n) h = and_of (f x) (list_all f (numbers (suc x) n)) (h x (omega arith)) (every_once f (suc x) n (λ k l. h k (omega (arith, l))))
-
 given_fits : (sites : List ℕ) (bound : List (List ℕ)) → bound_parts sites bound ≡ true → fits sites bound (given_orders sites bound) ≡ true
 given_fits [] [] h = refl
 given_fits [] (parts ∷ bound) h = absurd (cc)
@@ -149,9 +146,7 @@ given_fits (width ∷ sites) (parts ∷ bound) h =
     let h' = and_right (list_all (λ k. nat_lt k width) parts) (without_repeats parts && bound_parts sites bound) h in
     let r = and_left (without_repeats parts) (bound_parts sites bound) h' in
     and_of (is_permutation width (given_order width parts)) (begins_with parts (given_order width parts) && fits sites bound (given_orders sites bound))
-    (and_of (nat_eq (length (given_order width parts)) width) (list_all (λ k. nat_eq (times k (given_order width parts)) 1) (numbers 0 width))
-    (eq-eqb (length (given_order width parts)) width (order_length width parts l r))
-    (every_once (λ k. nat_eq (times k (given_order width parts)) 1) 0 width (λ k m. eq-eqb (times k (given_order width parts)) 1 (order_once width parts k r (omega (arith, m))))))
+    (permuted width (given_order width parts) (order_length width parts l r) (λ k m. order_once width parts k r m))
     (and_of (begins_with parts (given_order width parts)) (fits sites bound (given_orders sites bound)) (begins_itself parts (others parts (numbers 0 width)))
     (given_fits sites bound (and_right (without_repeats parts) (bound_parts sites bound) h')))
 

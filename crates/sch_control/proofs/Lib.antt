@@ -15,3 +15,8 @@ pub mod ExactSets
 pub mod NumberLists
 pub mod ReadSteps
 pub mod SetTests
+pub mod NumberRows
+pub mod VariableLists
+pub mod Results
+pub mod MarksAlone
+pub mod SlotCounts

@@ -8,6 +8,7 @@ use Rattle.std.specs.Cmp.{unsigned_tied}
 use Rattle.std.proofs.lemmas.Bool.{eqb-true}
 use Rattle.std.proofs.lemmas.List.{drop_all, get_or_default}
 use Rattle.std.proofs.lemmas.Bool.Decides.{nat_tests}
+use Rattle.std.proofs.Math.Bool.{and-false}
 use Rattle.sch_sets.specs.Members.{NumberSet, IsMember, HasNone, IsFirst}
 use Rattle.sch_sets.proofs.Membership.{contains-insert}
 use Rattle.sch_word.specs.trees.NumberSets.{has}
@@ -25,10 +26,7 @@ has_filter f x (y ∷ ys) = by (f y) (nat_eq x y) refl refl (has_filter f x ys) 
   by : (t u : Bool) → f y ≡ t → nat_eq x y ≡ u → has x (filter f ys) ≡ (has x ys && f x) → has x (cond t (y ∷ filter f ys) (filter f ys)) ≡ ((u || has x ys) && f x)
   by true true e u h = ap (λ b. b || has x (filter f ys)) u ∙ sym (ap f (eqb-true x y u) ∙ e)
   by true false e u h = ap (λ b. b || has x (filter f ys)) u ∙ h
-  by false true e u h = h ∙ (ap (λ b. has x ys && b) (ap f (eqb-true x y u) ∙ e) ∙ (none (has x ys) ∙ sym (ap f (eqb-true x y u) ∙ e))) where
-    none : (b : Bool) → (b && false) ≡ false
-    none true = refl
-    none false = refl
+  by false true e u h = h ∙ (ap (λ b. has x ys && b) (ap f (eqb-true x y u) ∙ e) ∙ (and-false (has x ys) ∙ sym (ap f (eqb-true x y u) ∙ e)))
   by false false e u h = h
 
 has_from : (x k n : ℕ) → has x (numbers k n) ≡ (nat_le k x && nat_lt x (k + n))
@@ -157,17 +155,17 @@ below_turn p xs i l h =
     let h' : (p x && list_all p (drop (suc i) xs)) ≡ true = subst (λ r. list_all p r ≡ true) (next_number xs i l) h in
     (and_left (p x) _ h', rw add-one (and_right (p x) _ h'))
 
-pub or_swap : (a b c : Bool) → (b || (a || c)) ≡ ((a || b) || c)
-or_swap true true c = refl
-or_swap true false c = refl
-or_swap false b c = refl
+pub or_around : (a b c : Bool) → (b || (a || c)) ≡ ((a || b) || c)
+or_around true true c = refl
+or_around true false c = refl
+or_around false b c = refl
 
 pub all_turn : (s s' : NumberSet) (xs : List ℕ) (i : ℕ) (whole : ℕ → Bool) → i < length xs → s' ≡ set.insert s (get_or xs i 0)
     → ((y : ℕ) → (has y (drop i xs) || set.contains s y) ≡ whole y) → (y : ℕ) → (has y (drop (i + 1) xs) || set.contains s' y) ≡ whole y
 all_turn s s' xs i whole l h e y =
     let x = get_or xs i 0 in
     let e' : ((nat_eq y x || has y (drop (suc i) xs)) || set.contains s y) ≡ whole y = subst (λ r. (has y r || set.contains s y) ≡ whole y) (next_number xs i l) (e y) in
-    rw (h, add-one) (ap (λ b. has y (drop (suc i) xs) || b) (contains-insert s x y) ∙ or_swap (nat_eq y x) (has y (drop (suc i) xs)) (set.contains s y) ∙ e')
+    rw (h, add-one) (ap (λ b. has y (drop (suc i) xs) || b) (contains-insert s x y) ∙ or_around (nat_eq y x) (has y (drop (suc i) xs)) (set.contains s y) ∙ e')
 
 pub all_end : (s : NumberSet) (xs : List ℕ) (i : ℕ) (whole : ℕ → Bool) → length xs ≤ i → ((y : ℕ) → (has y (drop i xs) || set.contains s y) ≡ whole y) → (y : ℕ) → set.contains s y ≡ whole y
 all_end s xs i whole l e y = subst (λ r. (has y r || set.contains s y) ≡ whole y) (drop_all i xs l) (e y)

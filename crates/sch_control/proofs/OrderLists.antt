@@ -10,7 +10,7 @@ use Rattle.sch_control.specs.Valid.{bound_parts, without_repeats}
 use Rattle.sch_control.specs.OrderTable.{others, given_order, given_orders}
 use Rattle.sch_word.proofs.facts.Booleans.{and_right}
 
-unless_append : (b : Bool) (k : ℕ) (xs : List ℕ) → unless b k [] ++ xs ≡ unless b k xs
+pub unless_append : (b : Bool) (k : ℕ) (xs : List ℕ) → unless b k [] ++ xs ≡ unless b k xs
 unless_append true k xs = refl
 unless_append false k xs = refl
 

@@ -8,7 +8,7 @@ use Rattle.sch_sets.specs.Members.{NumberSet}
 use Rattle.sch_sets.proofs.Membership.{contains-insert, contains-remove}
 use Rattle.sch_word.specs.trees.NumberSets.{has}
 use Rattle.sch_word.proofs.Walking.{next_is}
-use Rattle.sch_word.proofs.facts.Booleans.{and_left, and_right, and_of}
+use Rattle.sch_word.proofs.facts.Booleans.{and_left, and_right, and_of, or_false}
 use Rattle.sch_word.proofs.facts.NumberSets.{has_append}
 use Rattle.sch_control.specs.declared.operation.Atom.{Atom}
 use Rattle.sch_control.specs.declared.operation.Atom.TheVariants.{Constant, Literal, Variable}
@@ -18,7 +18,7 @@ use Rattle.sch_control.specs.AtomsAndSites.{source_atom, source_atoms}
 use Rattle.sch_control.specs.Valid.{member_variables}
 use Rattle.sch_control.specs.flow.Live.{named}
 use Rattle.sch_control.specs.flow.Reads.{IsWith, AtomsBelow}
-use Rattle.sch_control.proofs.NumberLists.{or_swap}
+use Rattle.sch_control.proofs.NumberLists.{or_around}
 
 -- ## Two lists of atoms
 
@@ -34,7 +34,7 @@ has_named x xs ys = ap (has x) (named_append xs ys) ∙ has_append x (named xs) 
 pub with_append : (xs ys : List (Atom ℕ)) (s m r : NumberSet) → IsWith xs s m → IsWith ys m r → IsWith (xs ++ ys) s r
 with_append xs ys s m r f g x =
     g x ∙ (ap (λ b. has x (named ys) || b) (f x)
-    ∙ (or_swap (has x (named xs)) (has x (named ys)) (set.contains s x) ∙ ap (λ b. b || set.contains s x) (sym (has_named x xs ys))))
+    ∙ (or_around (has x (named xs)) (has x (named ys)) (set.contains s x) ∙ ap (λ b. b || set.contains s x) (sym (has_named x xs ys))))
 
 all_parts : (p : ℕ → Bool) (xs ys : List ℕ) → list_all p (xs ++ ys) ≡ true → (list_all p xs ≡ true) × (list_all p ys ≡ true)
 all_parts p [] ys h = (refl, h)
@@ -48,10 +48,7 @@ below_parts bound xs ys h = all_parts (λ x. nat_lt x bound) (named xs) (named y
 -- ## One atom
 
 pub with_variable : (y : ℕ) (s r : NumberSet) → r ≡ set.insert s y → IsWith (Variable y ∷ []) s r
-with_variable y s r e x = rw e (contains-insert s y x ∙ ap (λ b. b || set.contains s x) (sym (none (nat_eq x y)))) where
-  none : (b : Bool) → (b || false) ≡ b
-  none true = refl
-  none false = refl
+with_variable y s r e x = rw e (contains-insert s y x ∙ ap (λ b. b || set.contains s x) (sym (or_false (nat_eq x y))))
 
 -- ## What has atoms
 
@@ -77,7 +74,7 @@ module _ {A : Type 0} (one : A → List (Atom ℕ)) (all : List A → List (Atom
   one_read : (a : A) (rest : List A) (s s' : NumberSet) (whole : ℕ → Bool) → IsWith (one a) s s' → Left all (a ∷ rest) s whole → Left all rest s' whole
   one_read a rest s s' whole w h x =
       ap (λ b. has x (named (all rest)) || b) (w x)
-      ∙ (or_swap (has x (named (one a))) (has x (named (all rest))) (set.contains s x)
+      ∙ (or_around (has x (named (one a))) (has x (named (all rest))) (set.contains s x)
       ∙ (ap (λ b. b || set.contains s x) (sym (ap (λ zs. has x (named zs)) (more a rest) ∙ has_named x (one a) (all rest))) ∙ h x))
 
   pub read_turn : (items : List A) (i : ℕ) (a : A) (s s' : NumberSet) (whole : ℕ → Bool) → i < length items → a ≡ get_or items i a

@@ -6,6 +6,7 @@ use Rattle.sch_word.specs.runs.Store.{Store}
 use Rattle.sch_word.specs.runs.Computation.{Outcome, gives, State, Computation, unreached, after, in_store, read_global, write_global, read_cell, write_cell, new_procedure}
 use Rattle.sch_word.specs.runs.Charges.{charge, cell_bytes, procedure_bytes}
 use Rattle.sch_word.specs.values.PrimitiveRows.{primitive}
+use Rattle.sch_word.specs.values.Options.{when_some}
 use Rattle.sch_control.specs.declared.operation.Atom.{Atom}
 use Rattle.sch_control.specs.declared.operation.Atom.TheVariants.{Constant, Literal, Variable}
 use Rattle.sch_control.specs.declared.operation.Operand.{Operand}
@@ -25,10 +26,6 @@ pub record Procedure : Type 0 where
 -- what an operation ends with; none where some value that it reads is not there
 abbrev pub Ending : Type 0
 Ending = Option (Outcome (State Procedure) Value)
-
-abbrev pub with_some : {A B : Type 0} → Option A → (A → Option B) → Option B
-with_some None next = None
-with_some (Some a) next = next a
 
 -- one value more
 abbrev pub and_value : {A : Type 0} → Option A → Option (List A) → Option (List A)
@@ -111,19 +108,19 @@ module _ {V : Type 0} (at : V → Option Value) where
   -- ## Operations
 
   abbrev pub operate : Operation V → State Procedure → Ending
-  operate (operation.Operand o) s = with_some (operand_value s.store o) (λ v. Some (gives v s))
+  operate (operation.Operand o) s = when_some (operand_value s.store o) (λ v. Some (gives v s))
   operate (operation.Prim site which operands) s =
-      with_some (operand_values s.store operands) (λ vs. Some (in_store (primitive which vs) s))
+      when_some (operand_values s.store operands) (λ vs. Some (in_store (primitive which vs) s))
   operate (operation.Global g) s = Some (in_store (read_global g) s)
-  operate (operation.SetGlobal g o) s = with_some (operand_value s.store o) (λ v. Some (in_store (write_global g v) s))
-  operate (operation.Field v k) s = with_some (field (at v) k s.procedures) (λ u. Some (gives u s))
-  operate (operation.NewCell c) s = with_some (source_value s c) (λ v. Some (new_cell (Some v) s))
+  operate (operation.SetGlobal g o) s = when_some (operand_value s.store o) (λ v. Some (in_store (write_global g v) s))
+  operate (operation.Field v k) s = when_some (field (at v) k s.procedures) (λ u. Some (gives u s))
+  operate (operation.NewCell c) s = when_some (source_value s c) (λ v. Some (new_cell (Some v) s))
   operate operation.UnsetCell s = Some (new_cell None s)
-  operate (operation.CellGet c) s = with_some (source_value s c) (λ v. Some (with_cell v read_cell s))
+  operate (operation.CellGet c) s = when_some (source_value s c) (λ v. Some (with_cell v read_cell s))
   operate (operation.CellSet c o) s =
-      with_some (source_value s c)
-      (λ v. with_some (operand_value s.store o) (λ u. Some (with_cell v (λ n. write_cell n u) s)))
-  operate (operation.MakeClosure c) s = with_some (source_values s c.fields) (λ vs. Some (close c.label vs s))
+      when_some (source_value s c)
+      (λ v. when_some (operand_value s.store o) (λ u. Some (with_cell v (λ n. write_cell n u) s)))
+  operate (operation.MakeClosure c) s = when_some (source_values s c.fields) (λ vs. Some (close c.label vs s))
 
   -- ## Groups
 
@@ -131,7 +128,7 @@ module _ {V : Type 0} (at : V → Option Value) where
   abbrev pub members_made : State Procedure → List (Member V) → Option (List Procedure)
   members_made s [] = Some []
   members_made s (m ∷ members) =
-      and_value (with_some (source_values s m.closure.fields) (λ vs. Some (record { label = m.closure.label; fields = vs })))
+      and_value (when_some (source_values s m.closure.fields) (λ vs. Some (record { label = m.closure.label; fields = vs })))
       (members_made s members)
 
 -- what the procedures of a group are charged, in the order of the text

@@ -17,18 +17,16 @@ use Rattle.sch_core.specs.declared.error.CoreError.{CoreError}
 use Rattle.sch_core.specs.declared.error.CoreError.TheVariants as errors
 use Rattle.sch_core.specs.declared.error.Kind.{Kind}
 use Rattle.sch_core.specs.declared.error.Kind.TheVariants as kinds
+use Rattle.sch_word.proofs.facts.Lists.{some_same}
 
 pub none_some : {A : Type 0} {a : A} → None ≡ Some a → ⊥
 none_some e = cc
 
-pub some_some : {A : Type 0} {a b : A} → Some a ≡ Some b → a ≡ b
-some_some e = cc
-
 pub left_is : {p q : Kind × ℕ} → Some p ≡ Some q → p.0 ≡ q.0
-left_is e = ap (λ p. p.0) (some_some e)
+left_is e = ap (λ p. p.0) (some_same e)
 
 pub right_is : {p q : Kind × ℕ} → Some p ≡ Some q → p.1 ≡ q.1
-right_is e = ap (λ p. p.1) (some_some e)
+right_is e = ap (λ p. p.1) (some_same e)
 
 -- what is an error has no value
 pub err_only : {A B : Type 0} (P : A → Type 0) (Q : B → Type 0) (r : Result A B) → IsErrAnd r Q → MatchResult r P Q
@@ -43,8 +41,8 @@ IsCounted _ = ⊥
 
 pub excess_counted : (a b : Bool) (k : Kind) → cond a (cond b None (Some kinds.Free)) (Some kinds.Variables) ≡ Some k → IsCounted k
 excess_counted true true k e = absurd (none_some e)
-excess_counted true false k e = subst IsCounted (some_some e) tt
-excess_counted false b k e = subst IsCounted (some_some e) tt
+excess_counted true false k e = subst IsCounted (some_same e) tt
+excess_counted false b k e = subst IsCounted (some_same e) tt
 
 pub place_counted : (at : ℕ) (o : Option Kind) (others : Option (Kind × ℕ)) (k : Kind) (at' : ℕ) → at_place at o others ≡ Some (k, at') → ((j : Kind) → o ≡ Some j → IsCounted j) →
     (others ≡ Some (k, at') → IsCounted k) → IsCounted k

@@ -1,5 +1,5 @@
 pub mod Bytes
-pub mod Nesting
+pub mod DataKnown
 pub mod ExcessSteps
 pub mod ExcessWithoutNumbers
 pub mod texts

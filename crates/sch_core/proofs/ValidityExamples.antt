@@ -1,10 +1,12 @@
 -- Small drafts: which are sound, how deep they are, what they take, and programs that are valid.
 use Rattle.std.proofs.Common.{◌≡◌, map, ℕ, true, false, [], ◌∷◌, replicate, Some, None, refl, codes, arith}
+use Rattle.std.specs.Prelude.{pos}
 use Rattle.sch_word.specs.declared.constant.Const.TheVariants.{Nil, Symbol}
 use Rattle.sch_word.specs.declared.primitive.Primitive.TheVariants.{Cons, Car}
 use Rattle.sch_lang.specs.Valid.{is_valid}
 use Rattle.sch_lang.specs.Tree as tree
-use Rattle.sch_read.specs.Grammar.{Datum, atom, list, none, cons, text, symbol as symbol_atom, character}
+use Rattle.sch_read.specs.Grammar.{Datum, atom, list, dotted, vector, none, cons, text, symbol as symbol_atom, character, integer}
+use Rattle.sch_read.specs.DatumParts.{parts}
 use Rattle.sch_names.specs.Scope.{Globals}
 use Rattle.sch_names.specs.Words.{keyword_of}
 use Rattle.sch_sketch.specs.Draft.{Draft, Drafts, drafts, constant, symbol, literal, local, global, set_local, define, branch, sequence, bind, letrec, lambda, call, operation, no_drafts, and_draft}
@@ -20,7 +22,7 @@ use Rattle.sch_core.specs.SoundDrafts.{IsSound, levels}
 use Rattle.sch_core.specs.LibraryDefinitions.{AreOrdered, AreKnown}
 use Rattle.sch_sketch.specs.DraftMeasures.{size}
 use Rattle.sch_core.specs.SizesOfStatics.{statics_in}
-use Rattle.sch_core.specs.Quotable.{datum_in_range, AreQuotable}
+use Rattle.sch_core.specs.Quotable.{own_in_range, datum_in_range, AreQuotable}
 
 -- ## Soundness
 
@@ -115,6 +117,26 @@ byte_in_range = refl
 character_too_large : datum_in_range (list 0 (cons (atom 1 (character 256)) none)) ≡ false
 character_too_large = refl
 
+-- each kind of atom, behind a dot and in a vector too
+own_rows :
+    (own_in_range (atom 1 (character 256)) ≡ false)
+    × (own_in_range (list 0 (cons (atom 1 (character 256)) none)) ≡ true)
+own_rows = (refl, refl)
+
+out_of_range :
+    (datum_in_range (dotted 0 (cons (atom 1 (character 1)) none) (atom 2 (text (300 ∷ [])))) ≡ false)
+    × (datum_in_range (vector 0 (cons (atom 1 (symbol_atom (300 ∷ []))) none)) ≡ false)
+    × (datum_in_range (atom 1 (integer (pos 1152921504606846976))) ≡ false)
+    × (datum_in_range (atom 1 (integer (pos 1152921504606846975))) ≡ true)
+out_of_range = (refl, refl, refl, refl)
+
+-- the parts of data, in order
+list_parts : (a b : Datum) → parts (list 1 (cons a (cons b none))) ≡ a ∷ b ∷ []
+list_parts a b = refl
+
+atom_parts : parts (atom 1 (character 1)) ≡ []
+atom_parts = refl
+
 not_quotable : AreQuotable (list 0 (cons (atom 1 (character 256)) none) ∷ []) → ⊥
 not_quotable h = cc
 
@@ -150,7 +172,7 @@ not_defined h = cc
 
 in_range : AreOfData (defining ∷ expression (atom 0 (character 255)) ∷ [])
 unfolding defining
-in_range = (((refl, omega arith), ((refl, omega arith), tt)), ((refl, omega arith), tt))
+in_range = ((refl, (refl, tt)), (refl, tt))
 
 -- a definition's data, and an expression's
 not_in_range : AreOfData (definition 0 (cons (atom 1 (character 256)) none) ∷ []) → ⊥

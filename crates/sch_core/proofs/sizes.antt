@@ -3,5 +3,4 @@ pub mod StaticsOfPrograms
 pub mod StaticsOfDrafts
 pub mod StaticsOfRows
 pub mod StaticsOfSketches
-pub mod ReadDepths
 pub mod SmallBodies

@@ -1,10 +1,8 @@
--- What may be quoted in a draft: data in range that are not nested too deeply, and names of bytes.
-use Rattle.std.specs.Prelude.{◌≡◌, ◌≤◌, ℕ, Bool, true, ◌&&◌, List, [], ◌∷◌}
+-- What may be quoted in a draft: data in range, and names of bytes.
+use Rattle.std.specs.Prelude.{◌≡◌, ℕ, Bool, true, ◌&&◌, List, [], ◌∷◌}
 use Rattle.sch_word.specs.values.Fixnum.{is_fixnum}
 use Rattle.sch_word.specs.values.Values.{is_byte, are_bytes}
 use Rattle.sch_read.specs.Grammar.{Atom, boolean, integer, character, text, symbol as symbol_atom, Datum, Data, atom, list, dotted, vector, none, cons}
-use Rattle.sch_read.specs.Levels.{depth}
-use Rattle.sch_read.specs.Text.{max_nesting}
 use Rattle.sch_sketch.specs.Draft.{Draft, Drafts}
 use Rattle.sch_link_tables.specs.Named.{symbols_in, symbols_in_each}
 use Rattle.sch_link_tables.specs.Quoted.{quotes_in, quotes_in_each}
@@ -15,6 +13,15 @@ atom_in_range (integer z) = is_fixnum z
 atom_in_range (character c) = is_byte c
 atom_in_range (text bs) = are_bytes bs
 atom_in_range (symbol_atom x) = are_bytes x
+
+-- whether what an atom has is in range; any other datum has nothing but its parts
+abbrev pub own_in_range : Datum → Bool
+own_in_range (atom at a) = atom_in_range a
+own_in_range _ = true
+
+abbrev pub EachOwn : List Datum → Type 0
+EachOwn [] = Unit {0}
+EachOwn (d ∷ ds) = (own_in_range d ≡ true) × EachOwn ds
 
 abbrev mutual
   pub datum_in_range : Datum → Bool
@@ -27,9 +34,9 @@ abbrev mutual
   data_in_range none = true
   data_in_range (cons x xs) = datum_in_range x && data_in_range xs
 
--- a datum of integers that are fixnums, and of characters and texts of bytes, that is not nested deeper than a text is
+-- a datum of integers that are fixnums, and of characters, texts and symbols of bytes
 abbrev pub IsQuotable : Datum → Type 0
-IsQuotable d = (datum_in_range d ≡ true) × (depth d ≤ max_nesting)
+IsQuotable d = datum_in_range d ≡ true
 
 abbrev pub AreQuotable : List Datum → Type 0
 AreQuotable [] = Unit {0}

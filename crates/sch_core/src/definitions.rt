@@ -19,7 +19,7 @@ ghost use Rattle.sch_toplevel.specs.Items.{item_places};
 use crate::error::{CoreError, Kind, error_of};
 use crate::libraries::Library;
 use crate::limits::excess;
-use crate::quotable::are_quotable;
+use crate::quotable::know_data;
 use crate::small::is_small;
 use sch_link_drafts::{Numbers, number};
 use sch_link_program::Definition;
@@ -58,9 +58,7 @@ fn definitions<'a>(
     ensures named { IfOk result (λ ds. given_names names.now ≡ map Some (names_of_each (definitions_of ds))) }
     ensures made { IfOk result (λ ds. map draft_of drafts.entry ≡ map procedure_of (definitions_of ds)) }
 {
-    let mut items = drafts.into_vec();
-    items.reverse();
-    let mut left = List::from_vec(items);
+    let mut left = drafts.reversed();
     let mut all = List::new(alloc);
     for name in names {
         let Some(name) = *name else {
@@ -113,8 +111,7 @@ fn first_definition_excess(
 }
 
 /// The definitions of a library's text, or why it is none: the least place, and there the first cause. Each item
-/// defines a procedure, which names itself and earlier ones alone. Data of more than 1,000 levels of lists are out of
-/// memory.
+/// defines a procedure, which names itself and earlier ones alone.
 pub fn library<'a>(alloc: Global, items: &'a [Datum]) -> Result<Library<'a>, CoreError>
     requires light { weights (data_of items.now) ≤ max_weight }
     ensures found { IfOk result (λ l. IsLibraryOf (data_of items.now) (definitions_of l.definitions)) }
@@ -124,9 +121,7 @@ pub fn library<'a>(alloc: Global, items: &'a [Datum]) -> Result<Library<'a>, Cor
         MatchResult result (λ l. definitions_of l.definitions ≡ ds) (λ e. e ≡ CoreError.Memory) }
     ensures fault { IfErr result (IsLibraryError (data_of items.now)) }
 {
-    if !are_quotable(items) {
-        return Err(CoreError::Memory);
-    }
+    know_data(alloc, items)?;
     let Items {
         names,
         drafts,

@@ -15,7 +15,7 @@ ghost use Rattle.sch_read.specs.Valid.{max_weight, weights};
 use crate::error::{CoreError, error_of};
 use crate::libraries::{Library, seen_names};
 use crate::limits::first_excess;
-use crate::quotable::are_quotable;
+use crate::quotable::know_data;
 use sch_lang::Program;
 use sch_link_program::assemble;
 use sch_read::Datum;
@@ -23,7 +23,6 @@ use sch_toplevel::{Text, read_text};
 use std::alloc::Global;
 
 /// The program of a text that uses a library, or why it has none: the least place, and there the first cause.
-/// Data of more than 1,000 levels of lists are out of memory.
 pub fn core(alloc: Global, library: &Library<'_>, items: &[Datum]) -> Result<Program, CoreError>
     requires light { weights (data_of items.now) ≤ max_weight }
     ensures found { IfOk result (λ p. IsProgramOf (definitions_of library.now.definitions) (data_of items.now) (source p)) }
@@ -35,9 +34,7 @@ pub fn core(alloc: Global, library: &Library<'_>, items: &[Datum]) -> Result<Pro
         MatchResult result (λ q. source q ≡ p) (λ e. e ≡ CoreError.Memory) }
     ensures fault { IfErr result (IsErrorIn (definitions_of library.now.definitions) (data_of items.now)) }
 {
-    if !are_quotable(items) {
-        return Err(CoreError::Memory);
-    }
+    know_data(alloc, items)?;
     let definitions = library.definitions.as_slice();
     let seen = seen_names(alloc, definitions)?;
     let Text {

@@ -1,15 +1,15 @@
-//! Data that may be quoted: not nested deeper than a text is, and with the integers and bytes that their types
-//! keep.
+//! Data that may be quoted: they have the integers and bytes that their types keep.
 
-ghost use Rattle.std.specs.Prelude.{◌≡◌, ◌≤◌, true};
+ghost use Rattle.std.specs.Prelude.{◌≡◌, true, OnOk};
 ghost use Rattle.sch_word.specs.values.Fixnum.{is_fixnum};
 ghost use Rattle.sch_word.specs.values.Values.{is_byte, are_bytes};
-ghost use Rattle.sch_read.specs.Levels.{depth, depths};
+ghost use Rattle.sch_read.specs.DatumParts.{lent_trees};
 ghost use Rattle.sch_read.specs.Views.{tree_of, data_of, atom_of};
-ghost use Rattle.sch_core.specs.Quotable.{atom_in_range, datum_in_range, data_in_range, AllQuotable};
+ghost use Rattle.sch_core.specs.Quotable.{atom_in_range, own_in_range, AllQuotable, EachOwn};
 
-use sch_read::{Atom, Datum, MAX_NESTING, Node};
-use sch_word::Fix;
+use sch_read::{Atom, Datum, data_in_order};
+use sch_word::{Fix, Mem};
+use std::alloc::Global;
 
 /// A list of bytes has bytes, by its type.
 fn know_bytes(x: &[u8])
@@ -39,58 +39,30 @@ fn know_atom(a: &Atom)
     }
 }
 
-/// Whether a datum nests at most `levels` levels.
-#[cycle(nesting)]
-fn nests_within(d: &Datum, levels: u32) -> bool
-    ensures shallow { result ≡ true → depth (tree_of d.now) ≤ levels }
-    ensures in_range { result ≡ true → datum_in_range (tree_of d.now) ≡ true }
+/// What a datum has beside its parts is in range, by its type.
+fn know_own(d: &Datum)
+    ensures { own_in_range (tree_of d.now) ≡ true }
 {
-    match &d.node {
-        Node::Atom(a) => {
-            know_atom(a);
-            true
-        }
-        Node::List(items, None) => {
-            if levels == 0 {
-                return false;
-            }
-            nest_within(items.as_slice(), levels - 1)
-        }
-        Node::List(items, Some(last)) => {
-            if levels == 0 {
-                return false;
-            }
-            if !nest_within(items.as_slice(), levels - 1) {
-                return false;
-            }
-            nests_within(last, levels - 1)
-        }
-        Node::Vector(items) => {
-            if levels == 0 {
-                return false;
-            }
-            nest_within(items.as_slice(), levels - 1)
-        }
+    match d.atom() {
+        Some(a) => know_atom(a),
+        None => {}
     }
 }
 
-/// Whether data nest at most `levels` levels.
-#[cycle(nesting)]
-fn nest_within(items: &[Datum], levels: u32) -> bool
-    ensures shallow { result ≡ true → depths (data_of items.now) ≤ levels }
-    ensures in_range { result ≡ true → data_in_range (data_of items.now) ≡ true }
+/// The same of data, one after the other.
+fn know_each(nodes: &[&Datum])
+    ensures { EachOwn (lent_trees nodes.now) }
 {
-    for d in items {
-        if !nests_within(d, levels) {
-            return false;
-        }
+    for d in nodes {
+        know_own(d);
     }
-    true
 }
 
-/// Whether data nest no deeper than those that are read: each level that is walked takes a part of the stack.
-pub(crate) fn are_quotable(items: &[Datum]) -> bool
-    ensures { result ≡ true → AllQuotable (data_of items.now) }
+/// What data have at any level is in range, by their types.
+pub(crate) fn know_data(alloc: Global, items: &[Datum]) -> Result<(), Mem>
+    ensures { OnOk result (AllQuotable (data_of items.now)) }
 {
-    nest_within(items, MAX_NESTING)
+    let order = data_in_order(alloc, items)?;
+    know_each(order.as_slice());
+    Ok(())
 }

@@ -1,5 +1,5 @@
 -- Texts of made-up counts, computed.
-use Rattle.std.specs.Prelude.{◌≡◌, ℕ, List, [], ◌∷◌, ◌++◌, codes, refl}
+use Rattle.std.specs.Prelude.{◌≡◌, ℕ, [], ◌∷◌, codes, refl}
 use Rattle.std.specs.Fmt.{digits}
 use Rattle.sch_count.specs.declared.row.Row.{Row}
 use Rattle.sch_count.specs.CountsText.{counts_text}

@@ -6,6 +6,7 @@ use Rattle.sch_word.specs.declared.answer.Answer.{Answer}
 use Rattle.sch_word.specs.declared.constant.Const.TheVariants.{Nil}
 use Rattle.sch_word.specs.runs.Runs.{Run, ended}
 use Rattle.sch_word.specs.trees.Shape.{Procedure}
+use Rattle.sch_select.proofs.programs.PathEvents.{no_exit}
 use Rattle.sch_insn.specs.Behaves.{Given, exit_of, start}
 use Rattle.sch_insn.specs.Machine.{State}
 use Rattle.sch_insn.specs.Step.{Progress, Runs, Exited, Stuck, mach, standing, step}
@@ -191,12 +192,6 @@ no_meaning library text none heap depth file listing p image means stands = absu
 
 no_image : (library text : List ℕ) (heap depth : ℕ) (listing : Listing) → ExitsInTime library text heap depth [] listing
 no_image library text heap depth listing p image means stands = absurd (omega (arith, stands.long))
-
--- a machine that has made no step has not exited
-no_exit : (s : State) (q : Progress) (status : ℕ) (output : List ℕ) → exit_of (standing s q) ≡ Some (status, output) → ⊥
-no_exit s (Runs t) status output e = cc
-no_exit s (Exited n t) status output e = cc
-no_exit s (Stuck cause t) status output e = cc
 
 -- of a text of two forms that is compiled with 100 instructions, or is said to have none
 module _ (library text : List ℕ) (p : Source) (means : Means library text p) (two : count p.forms ≡ 2) (heap depth : ℕ) (file : List ℕ) (image : Image) (stands : StandsFor file image)

@@ -1,5 +1,5 @@
 -- The image of a program whose items follow the runs of its frames.
-use Rattle.std.proofs.Common.{◌≡◌, ◌≤◌, ℕ, suc, ◌+◌, ◌*◌, List, [], ◌∷◌, ◌++◌, length, map, refl, Option, Some, None, sym, ap, ◌∙◌, subst, arith}
+use Rattle.std.proofs.Common.{◌≡◌, ◌≤◌, ℕ, true, suc, ◌+◌, ◌*◌, List, [], ◌∷◌, ◌++◌, length, map, refl, Option, Some, None, sym, ap, ◌∙◌, subst, arith}
 use Rattle.std.specs.Prelude.{IfErr, IsErrAnd, IsTrue, Result, Ok, Err, replicate}
 use Rattle.std.specs.List.{flat_map}
 use Rattle.std.proofs.lemmas.Bool.{and_parts, leb-true}
@@ -39,7 +39,9 @@ use Rattle.sch_frames.specs.Valid.{max_words}
 use Rattle.sch_frames.specs.Does.{Follows, SameRuns}
 use Rattle.sch_frames.specs.Run as frames_run
 use Rattle.sch_frames.specs.Tree as frames
-use Rattle.sch_runtime.specs.Code.{routine_items}
+use Rattle.sch_asm.specs.Narrow.{narrowed}
+use Rattle.sch_runtime.specs.Code.{all_routines, routine_items}
+use Rattle.sch_select_memory.specs.ValueCode.{StandInFront, value_code}
 use Rattle.sch_select_data.specs.Data.{heap_of}
 use Rattle.sch_select.specs.Ends.{EndsWithin}
 use Rattle.sch_frames.specs.Run.{entries_of}
@@ -58,7 +60,8 @@ use Rattle.sch_driver.specs.Causes.{IsErrorOf, HasFrames, Means, text_bound}
 use Rattle.sch_driver.specs.FitsProgram.{FitsProgram}
 use Rattle.sch_driver.specs.Framed.{IsMarked, framed, framed_size}
 use Rattle.sch_driver.specs.Assembled.{IsAssembled, IsFrameSize, IsUnfit, assembled_bound, of_assembly, steps_of}
-use Rattle.sch_select.proofs.items.SameSize.{same_pieces}
+use Rattle.sch_select.proofs.items.NarrowProgram.{narrowed_stores}
+use Rattle.sch_select.proofs.items.SameSize.{same_pieces, same_routines}
 use Rattle.sch_select.specs.MarkedStores.{stores_marked}
 use Rattle.sch_registers.specs.OwnMarks.{EachSaveCalled}
 use Rattle.sch_driver.proofs.LazyWays.{lazy_ways}
@@ -109,14 +112,14 @@ framed_parts p f statics library bodies words =
     framed_of s l bs n = record { statics = s; library = l; bodies = bs; words = n }
 
 -- the items of its frame program and the routines are as long as its text
-pub size_of_frames : (p : control.Source) (f : frames.Source) (heap depth : ℕ) (items routines : List Item) → items ≡ program_code f heap depth → routines ≡ routine_items → f ≡ framed p
+pub size_of_frames : (p : control.Source) (f : frames.Source) (heap depth : ℕ) (items routines : List Item) → items ≡ program_code f heap depth → routines ≡ all_routines (heap_of f + heap) → f ≡ framed p
     → shortest_size (items ++ routines) ≡ framed_size p
 size_of_frames p f heap depth items routines made are is_framed =
     ap (λ is. shortest_size (is ++ routines)) made
     ∙ ap (λ rs. shortest_size (program_code f heap depth ++ rs)) are
-    ∙ same_shortest (program_code f heap depth ++ routine_items) (program_code f 0 0 ++ routine_items)
-    (same_append (program_code f heap depth) (program_code f 0 0) routine_items routine_items (same_pieces f heap depth) refl)
-    ∙ ap (λ g. shortest_size (program_code g 0 0 ++ routine_items)) is_framed
+    ∙ same_shortest (program_code f heap depth ++ all_routines (heap_of f + heap)) (program_code f 0 0 ++ all_routines (heap_of f))
+    (same_append (program_code f heap depth) (program_code f 0 0) (all_routines (heap_of f + heap)) (all_routines (heap_of f)) (same_pieces f heap depth) (same_routines f heap))
+    ∙ ap (λ g. shortest_size (program_code g 0 0 ++ all_routines (heap_of g))) is_framed
 
 -- what `select` says of the items and the data of a frame program
 pub record AreSelected (f : frames.Source) (heap depth : ℕ) (a : Asm) : Type 0 where
@@ -133,20 +136,28 @@ pub record AreSelected (f : frames.Source) (heap depth : ℕ) (a : Asm) : Type 0
   pub items : a.items ≡ program_code f heap depth
   pub words_end : data_address + 8 * length a.words ≡ heap_of f
 
+-- the routines that know how values are in the machine have no marks, and write no word that RBP names
+value_stored : (heap_end : ℕ) → stores_marked None (value_code heap_end) ≡ true
+value_stored heap_end = refl
+
+routines_stored : (heap_end : ℕ) → IsTrue (stores_marked None (all_routines heap_end))
+routines_stored heap_end = both_marked None (narrowed (value_code heap_end)) routine_items (narrowed_stores None (value_code heap_end) ∙ value_stored heap_end) refl
+
 -- What is selected of the frames, with the routines, follows the runs of the control program, exits in time and passes
 -- the marks.
 pub assembled : (p : control.Source) (f : frames.Source) (heap depth : ℕ) (a routines : Asm) (code : List Insn) (marks : List Mark) (words text : List ℕ) (zeros : ℕ) (image : Image) (instructions : ℕ)
-    → instructions ≡ length code → SameRuns p f → f ≡ framed p → AreSelected f heap depth a → routines.items ≡ routine_items → IsFrameSize p f.words → frames_bytes f.words depth ≤ max_stack → length words ≡ 8 * length a.words
+    → instructions ≡ length code → SameRuns p f → f ≡ framed p → AreSelected f heap depth a → routines.items ≡ all_routines (heap_of f + heap) → IsFrameSize p f.words → frames_bytes f.words depth ≤ max_stack → length words ≡ 8 * length a.words
     → AreEffective routines.items → AreResolved (a.items ++ routines.items) a.words code marks words → AllValid code
     → length (flat_map spelling code) ≤ max_text_size → length (flat_map spelling code) ≡ shortest_size (a.items ++ routines.items)
     → length (flat_map spelling code) ≤ assembled_bound p → text ≡ flat_map spelling code → zeros ≡ a.zeros → IsProgramImage text words zeros image → IsAssembled p heap depth f.words instructions marks image
 assembled p f heap depth a routines code marks words text zeros image instructions counted same is_framed selected items frame stack long effective resolved valid short size bound text_is zeros_are lies =
     let many : suc (instructions_in a.items) ≤ instructions =
-    subst (λ n. suc (instructions_in a.items) ≤ n) (sym counted) (resolved_many a.items routines.items a.words code marks words items resolved) in
+    subst (λ n. suc (instructions_in a.items) ≤ n) (sym counted) (resolved_many a.items routines.items a.words code marks words (heap_of f + heap) items resolved) in
     let lies' : IsProgramImage (flat_map spelling code) words a.zeros image =
     subst (λ t. IsProgramImage t words a.zeros image) text_is (subst (λ z. IsProgramImage text words z image) zeros_are lies) in
     let run : (runs : List Answer → ℕ → Run) → ((answers : List Answer) (entries : ℕ) → control_run.run p heap depth answers entries ≡ Some (runs answers entries)) → AreRuns f heap depth runs =
     frames_runs p f heap depth same in
+    let front : StandInFront (heap_of f + heap) routines.items = record { others = routine_items; parts = items } in
     record {
       laid_out = record { code = code; valid = valid; short = short; words = words; zeros = a.zeros; lies = lies' };
       counted = counted;
@@ -158,19 +169,19 @@ assembled p f heap depth a routines code marks words text zeros image instructio
       fits = stack;
       follows = λ runs are.
           in_image (λ entry segments. FollowsRuns entry segments runs) (flat_map spelling code) words a.zeros image lies'
-          (selected.follows.follows routines.items code marks words effective a.marked routines.marked resolved valid short runs (run runs are));
+          (selected.follows.follows routines.items code marks words front effective a.marked routines.marked resolved valid short runs (run runs are));
       ends = λ runs are.
           in_image (λ entry segments. EndsWithin entry segments runs (steps_of instructions)) (flat_map spelling code) words a.zeros image lies'
           (ends_later text_address (text_at (flat_map spelling code) ∷ data_at (words ++ replicate a.zeros 0) ∷ []) runs (steps_bound f) (steps_of instructions)
           (λ entries answers charged. steps_fit (steps_size f) (instructions_in a.items) instructions entries answers charged selected.units many)
-          (selected.ends.ends routines.items code marks words effective a.marked routines.marked resolved valid short runs (run runs are)));
+          (selected.ends.ends routines.items code marks words front effective a.marked routines.marked resolved valid short runs (run runs are)));
       stores = stores_resolved (a.items ++ routines.items) resolved.place_of text_address code marks
-          (both_marked None a.items routines.items selected.stores (subst (λ is. IsTrue (stores_marked None is)) (sym items) refl)) resolved.codes;
+          (both_marked None a.items routines.items selected.stores (subst (λ is. IsTrue (stores_marked None is)) (sym items) (routines_stored (heap_of f + heap)))) resolved.codes;
       lazily = λ runs are. record {
         ended = λ g answers m.
             lazy_ways f.bodies selected.followed _
             ((in_image (λ entry segments. TakesWays entry segments (marks_at marks) f.bodies) (flat_map spelling code) words a.zeros image lies'
-            (selected.takes.takes routines.items code marks words effective a.marked routines.marked resolved valid short runs (run runs are) selected.stand)).ways g answers m);
+            (selected.takes.takes routines.items code marks words front effective a.marked routines.marked resolved valid short runs (run runs are) selected.stand)).ways g answers m);
       };
       marked = λ runs are.
           subst (λ g. IsMarked image code marks g heap depth runs) is_framed
@@ -182,19 +193,19 @@ assembled p f heap depth a routines code marks words text zeros image instructio
             );
             frames_run = run runs are;
             passes = in_image (λ entry segments. PassesMarks entry segments (marks_at marks) (marks_passed f heap depth)) (flat_map spelling code) words a.zeros image lies'
-                (selected.passes.passes routines.items code marks words effective a.marked routines.marked resolved valid short);
+                (selected.passes.passes routines.items code marks words front effective a.marked routines.marked resolved valid short);
             enters = in_image (λ entry segments. CountsEntries entry segments (marks_at marks) (entries_of f.bodies) runs) (flat_map spelling code) words a.zeros image lies'
-                (selected.enters.enters routines.items code marks words effective a.marked routines.marked resolved valid short runs (run runs are));
+                (selected.enters.enters routines.items code marks words front effective a.marked routines.marked resolved valid short runs (run runs are));
             takes = in_image (λ entry segments. TakesWays entry segments (marks_at marks) f.bodies) (flat_map spelling code) words a.zeros image lies'
-                (selected.takes.takes routines.items code marks words effective a.marked routines.marked resolved valid short runs (run runs are) selected.stand);
+                (selected.takes.takes routines.items code marks words front effective a.marked routines.marked resolved valid short runs (run runs are) selected.stand);
           });
     }
 
 -- ## What is too large
 
 -- the text of a program's items and of the routines, by the work in its bodies
-pub text_within : (f : frames.Source) (a routines : List Item) (work : ℕ) → text_size a ≤ 2048 + (64 * program_work f + 8 * program_copies f) → 64 * program_work f + 8 * program_copies f ≤ 72 * work
-    → text_size routines ≤ 1024 → shortest_size (a ++ routines) ≤ 65536 + 72 * work
+pub text_within : (f : frames.Source) (a routines : List Item) (work : ℕ) → text_size a ≤ 64 + (64 * program_work f + 8 * program_copies f) → 64 * program_work f + 8 * program_copies f ≤ 72 * work
+    → text_size routines ≤ 2560 → shortest_size (a ++ routines) ≤ 65536 + 72 * work
 text_within f a routines work text fits short = let e = size_append a routines in let m = at_most_sum (a ++ routines) in omega (arith, e, m, text, fits, short)
 
 pub unfit : (p : control.Source) (words depth n : ℕ) (error : AsmError) → IsFrameSize p words → frames_bytes words depth ≤ max_stack → n ≡ framed_size p → n ≤ assembled_bound p → IsTooLarge n error

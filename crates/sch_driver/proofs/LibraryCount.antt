@@ -1,6 +1,7 @@
 -- A library has no more procedures than its text has bytes.
 use Rattle.std.proofs.Common.{◌≡◌, ℕ, suc, ◌+◌, ◌≤◌, Bool, true, false, List, [], ◌∷◌, ◌++◌, length, ap, ◌∙◌, arith, length-append}
 use Rattle.std.specs.Prelude.{◌==◌, ◌||◌, if◌then◌else◌}
+use Rattle.sch_link_program.proofs.FewDefinitions.{kept_shorter}
 use Rattle.sch_lang.specs.Tree as lang
 use Rattle.sch_lang.specs.Tree.{count_lambdas}
 use Rattle.sch_names.specs.Scope.{is_among}
@@ -72,17 +73,6 @@ definitions_counted before none (x ∷ xs) h = absurd h
 definitions_counted before (cons d ds) [] h = absurd h
 definitions_counted before (cons d ds) (x ∷ xs) h = ap suc (definitions_counted (names_by before d) ds xs h.2)
 
-with_within : (b : Bool) (d : Definition) (ds : List Definition) → length (with_definition b d ds) ≤ suc (length ds)
-with_within true d ds = omega arith
-with_within false d ds = omega arith
-
-kept_within : (ds : List Definition) (names : List (List ℕ)) → length (kept ds names) ≤ length ds
-kept_within [] names = omega arith
-kept_within (d ∷ ds) names =
-    let h = kept_within ds names in
-    let k = with_within (is_among (library_global d.name) (names ++ globals_of_each (kept ds names))) d (kept ds names) in
-    omega (arith, h, k)
-
 procedures_counted : (globals symbols : List (List ℕ)) (ds : List Definition) (s l : ℕ) → count_lambdas (procedures globals symbols ds s l) ≡ length ds
 procedures_counted globals symbols [] s l = omega arith
 procedures_counted globals symbols (d ∷ ds) s l = ap suc (procedures_counted globals symbols ds _ _)
@@ -103,5 +93,5 @@ library_within library text p means =
     let own = own_names means.items program.assigned in
     let names = named ds own program.drafts in
     let counted : count_lambdas p.library ≡ length (kept ds names) = ap (λ q. count_lambdas q.library) program.numbered ∙ in_program (kept ds names) own (held ds own) program.drafts in
-    let k = kept_within ds names in
+    let k = kept_shorter ds names in
     omega (arith, i, n, counted, k)

@@ -17,7 +17,8 @@ use Rattle.sch_listing.specs.Lines.{IsListedCycle, IsListedPlace}
 use Rattle.sch_listing.specs.ListingText.{IsPrintable}
 use Rattle.sch_driver.specs.Compiled.{IsCompiled}
 use Rattle.sch_driver.specs.Framed.{framed}
-use Rattle.sch_runtime.specs.Code.{routine_items}
+use Rattle.sch_runtime.specs.Code.{all_routines}
+use Rattle.sch_select_data.specs.Data.{heap_of}
 use Rattle.sch_select.specs.Program.{program_code}
 use Rattle.std.specs.Prelude.{◌++◌}
 
@@ -55,5 +56,5 @@ printable library text heap depth file listing c =
     record {
       cycles = subst (All IsListedCycle) (sym c.listed.cycles)
           (cycles_listed (all_calls c.listed.program.bodies) (all_pass is_named (λ j. refl) refl refl refl c.listed.program.bodies));
-      marks = marks_listed coded.0 (text_address + max_text_size) (omega arith) (program_code (framed c.listed.program) heap depth ++ routine_items) text_address code listing.marks coded.1 (omega (arith, short));
+      marks = marks_listed coded.0 (text_address + max_text_size) (omega arith) (program_code (framed c.listed.program) heap depth ++ all_routines (heap_of (framed c.listed.program) + heap)) text_address code listing.marks coded.1 (omega (arith, short));
     }

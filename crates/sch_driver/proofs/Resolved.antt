@@ -10,7 +10,9 @@ use Rattle.sch_asm.specs.declared.item.Mark as mark
 use Rattle.sch_word.specs.declared.mark.MarkKind.{MarkKind}
 use Rattle.sch_asm.specs.Codes.{AreResolved, Codes, instructions_in}
 use Rattle.sch_asm.proofs.AsMany.{as_many}
-use Rattle.sch_runtime.specs.Code.{routine_items}
+use Rattle.sch_asm.specs.Narrow.{narrowed}
+use Rattle.sch_runtime.specs.Code.{all_routines, routine_items}
+use Rattle.sch_select_memory.specs.ValueCode.{value_code}
 use Rattle.sch_select.specs.Sizes.{kinds_in}
 
 -- ---- instructions
@@ -26,18 +28,19 @@ both_count (LoadLabel r l ∷ is) more = let h = both_count is more in omega (ar
 both_count (LoadWord r l ∷ is) more = let h = both_count is more in omega (arith, h)
 both_count (StoreWord l r ∷ is) more = let h = both_count is more in omega (arith, h)
 
--- the routines have 89
+-- of the routines, those that know nothing of values but fixnums have 89
 routines_count : instructions_in routine_items ≡ 89
 routines_count = refl
 
 -- with the routines there are more than before them
-pub resolved_many : (is routines : List Item) (data_words : List Word) (code : List Insn) (marks : List mark.Mark) (words : List ℕ) → routines ≡ routine_items
+pub resolved_many : (is routines : List Item) (data_words : List Word) (code : List Insn) (marks : List mark.Mark) (words : List ℕ) (heap_end : ℕ) → routines ≡ all_routines heap_end
     → AreResolved (is ++ routines) data_words code marks words → suc (instructions_in is) ≤ length code
-resolved_many is routines data_words code marks words are r =
+resolved_many is routines data_words code marks words heap_end are r =
     let all = as_many r.place_of text_address (is ++ routines) code marks r.codes in
     let both = both_count is routines in
-    let own = ap instructions_in are ∙ routines_count in
-    omega (arith, all, both, own)
+    let own = ap instructions_in are ∙ both_count (narrowed (value_code heap_end)) routine_items in
+    let others = routines_count in
+    omega (arith, all, both, own, others)
 
 -- ---- marks
 
@@ -68,12 +71,12 @@ both_kinds (LoadLabel r l ∷ is) more = both_kinds is more
 both_kinds (LoadWord r l ∷ is) more = both_kinds is more
 both_kinds (StoreWord l r ∷ is) more = both_kinds is more
 
-routines_unmarked : kinds_in routine_items ≡ []
-routines_unmarked = refl
+routines_unmarked : (heap_end : ℕ) → kinds_in (all_routines heap_end) ≡ []
+routines_unmarked heap_end = refl
 
 -- with the routines there are as many as before them
-pub resolved_kinds : (is routines : List Item) (data_words : List Word) (code : List Insn) (marks : List mark.Mark) (words : List ℕ) → routines ≡ routine_items
+pub resolved_kinds : (is routines : List Item) (data_words : List Word) (code : List Insn) (marks : List mark.Mark) (words : List ℕ) (heap_end : ℕ) → routines ≡ all_routines heap_end
     → AreResolved (is ++ routines) data_words code marks words → kinds marks ≡ kinds_in is
-resolved_kinds is routines data_words code marks words are r =
+resolved_kinds is routines data_words code marks words heap_end are r =
     codes_kinds r.place_of text_address (is ++ routines) code marks r.codes
-    ∙ (both_kinds is routines ∙ (ap (λ ks. kinds_in is ++ ks) (ap kinds_in are ∙ routines_unmarked) ∙ append-nil (kinds_in is)))
+    ∙ (both_kinds is routines ∙ (ap (λ ks. kinds_in is ++ ks) (ap kinds_in are ∙ routines_unmarked heap_end) ∙ append-nil (kinds_in is)))

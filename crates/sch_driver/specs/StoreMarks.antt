@@ -1,5 +1,5 @@
 -- Where what writes memory through RBP stands in a text, and under which marks. Words of frames are written so, but for the list
--- of operands that are left over, which a routine of the program's own puts into its slot.
+-- of operands that are left over, which a run-time routine puts into its slot.
 use Rattle.std.specs.Prelude.{◌≡◌, ◌+◌, ◌⊎◌, ℕ, Bool, true, false, List, [], ◌∷◌, length, filter}
 use Rattle.sch_word.specs.declared.mark.MarkKind.{MarkKind}
 use Rattle.sch_word.specs.declared.mark.MarkKind.TheVariants as mark

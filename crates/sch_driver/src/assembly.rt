@@ -1,6 +1,6 @@
 //! From a control program to an image.
 
-ghost use Rattle.std.specs.Prelude.{◌≡◌, ◌<◌, ◌≤◌, map, IfOk, IfErr, IsTrue, OnOk};
+ghost use Rattle.std.specs.Prelude.{◌≡◌, ◌+◌, ◌*◌, ◌<◌, ◌≤◌, map, IfOk, IfErr, IsTrue, OnOk};
 ghost use Rattle.sch_word.specs.declared.limits.TheConstants.{MAX_DEPTH};
 ghost use Rattle.sch_control.specs.Covered.{is_covered_program};
 ghost use Rattle.sch_control.specs.ProgramView.{source};
@@ -8,6 +8,7 @@ ghost use Rattle.sch_registers.specs.MadeFrom.{AreMadeFrom};
 ghost use Rattle.sch_registers.specs.Registers.{all_calls, registers_code, registers_orders};
 ghost use Rattle.sch_frames.specs.Standing.{all_marks_stand};
 ghost use Rattle.sch_frames.specs.Valid.{max_words};
+ghost use Rattle.sch_select_memory.specs.Addresses.{max_heap_end};
 ghost use Rattle.sch_select.specs.Program.{frames_bytes, max_stack};
 ghost use Rattle.sch_select.specs.Sizes.{kinds_of};
 ghost use Rattle.sch_driver.specs.Assembled.{IsAssembled, IsUnfit};
@@ -26,7 +27,7 @@ use sch_listing::Cycle;
 use sch_registers::{FramedProgram, frame_program};
 use sch_runtime::routines;
 use sch_select::select;
-use sch_word::{Bytes, Limits, List};
+use sch_word::{Bytes, DATA_ADDRESS, Limits, List};
 use std::alloc::Global;
 
 /// The most bytes that the frames of calls may take.
@@ -56,6 +57,14 @@ fn check_stack(words: u32, depth: u64) -> Result<(), CompileError>
         return Err(CompileError::StackTooLarge(words as u64));
     }
     Ok(())
+}
+
+/// Where a heap of this size ends, behind words of data.
+fn end_of_heap(words: usize, heap: u64) -> u32
+    requires near { 0x10000000 + 8 * words + heap ≤ max_heap_end }
+    ensures { result ≡ 0x10000000 + 8 * words + heap }
+{
+    (DATA_ADDRESS + 8 * words as u64 + heap) as u32
 }
 
 /// The image of a control program none of whose calls spreads a list, under limits of heap and depth. The
@@ -92,7 +101,8 @@ pub(crate) fn assemble(
     let frame_words = frames.words;
     drop(frames);
     let cycles = cycles_of(alloc, calls)?;
-    let routines = routines(alloc, limits)?;
+    let heap_end = end_of_heap(code.words.len(), limits.heap);
+    let routines = routines(alloc, heap_end)?;
     let resolved = resolve(alloc, &code, &routines)?;
     drop(code);
     let instructions = resolved.code.len() as u64;

@@ -58,14 +58,6 @@ pub struct Walk<'a> {
     scope: Scope,
 }
 
-fn reversed<'a>(parts: List<Sketch<'a>>) -> List<Sketch<'a>>
-    ensures { result ≡ reverse parts.entry }
-{
-    let mut items = parts.into_vec();
-    items.reverse();
-    List::from_vec(items)
-}
-
 /// The draft of a node none of whose parts is left.
 fn finished<'a>(alloc: Global, node: Open<'a>) -> Result<Draft<'a>, Mem>
     ensures { IfOk result (λ e. draft_of e ≡ assembled (kind_of node.entry.kind) (drafts_of node.entry.drafts)) }
@@ -163,7 +155,7 @@ impl<'a> Walk<'a> {
             level: parts_at.level,
             position: parts_at.position,
             depth: self.scope.depth(),
-            left: reversed(parts),
+            left: parts.reversed(),
             drafts: List::from_vec(room),
         })
     }

@@ -34,6 +34,6 @@ pub struct FlatProgram {
     ghost sited: { IsTrue (sited (source_of statics library bodies forms starts sites)) },
     // Symbols, literals and globals are few enough and name what there is.
     ghost ready: { IsTrue (statics_known (source_of statics library bodies forms starts sites)) },
-    // Constants are words, names and texts are bytes, and no literal is nested too deeply.
+    // Constants are words, and names and texts are bytes.
     ghost words: { IsTrue (constants_in_range (source_of statics library bodies forms starts sites)) },
 }

@@ -55,7 +55,7 @@ pub fn row_body<'a>(
     let Some((e, _)) = Datum::split(items) else {
         return Ok(bad(at));
     };
-    if is_definition(scope, e) {
+    if is_definition(alloc, scope, e)? {
         let made = defining_body(alloc, scope, at, items)?;
         return Ok(made);
     }

@@ -270,7 +270,7 @@ fitted formals rest vs s ws t e = by (fit formals rest vs s.store) (fit_length f
     by (stops why u) h e = absurd (let bad = e in cc)
     by (spent u) h e = absurd (let bad = e in cc)
 
-passes_at : (test : Code → Bool) (codes : List Code) (label : ℕ) (c : Code) → list_all test codes ≡ true → slice_get codes label ≡ Some c → test c ≡ true
+pub passes_at : (test : Code → Bool) (codes : List Code) (label : ℕ) (c : Code) → list_all test codes ≡ true → slice_get codes label ≡ Some c → test c ≡ true
 passes_at test [] label c h e = absurd cc
 passes_at test (d ∷ codes) zero c h e = let same : d ≡ c = (let q : Some d ≡ Some c = e in cc) in subst (λ c. test c ≡ true) same (and_parts _ _ h).0
 passes_at test (d ∷ codes) (suc label) c h e = passes_at test codes label c (and_parts (test d) _ h).1 e

@@ -8,6 +8,7 @@ use Rattle.sch_word.specs.values.Registers.{argument_registers}
 use Rattle.sch_word.specs.values.Values.{Value, unspecified, is_true}
 use Rattle.sch_word.specs.runs.Computation.{gives, in_store, procedures_from}
 use Rattle.sch_word.specs.runs.Charges.{charge_each}
+use Rattle.sch_word.specs.values.Places.{same_place}
 use Rattle.sch_control.specs.declared.body.Entry.{Entry}
 use Rattle.sch_control.specs.declared.operation.Member.{Member}
 use Rattle.sch_control.specs.Operations.{operate, and_value, member_bytes, members_made, with_procedures}
@@ -28,11 +29,6 @@ pub record Frame : Type 0 where
   pub outgoing : ℕ → Cell
 
 -- ## Places
-
-abbrev pub same_place : Place → Place → Bool
-same_place (Reg a) (Reg b) = nat_eq a b
-same_place (Slot a) (Slot b) = nat_eq a b
-same_place _ _ = false
 
 abbrev pub is_slot : Place → Bool
 is_slot (Reg r) = false

@@ -10,14 +10,15 @@ use Rattle.sch_control.specs.Tree.{Expression}
 use Rattle.sch_control.specs.flow.Apart as flow
 use Rattle.sch_control.specs.flow.Live.{Live, nothing_later}
 use Rattle.sch_control.specs.flow.Places.{arrival, closure_place, link_place, place_of, stays}
-use Rattle.sch_frames.specs.Meaning.{is_slot, same_place}
+use Rattle.sch_frames.specs.Meaning.{is_slot}
+use Rattle.sch_word.specs.values.Places.{same_place}
 use Rattle.sch_frames.specs.Valid.{formals_of}
 use Rattle.sch_frames.proofs.FramePlaces.{same_self}
 use Rattle.sch_layout.specs.BodyLayout.{arrived}
 use Rattle.sch_layout.specs.BodyLayout as layout
 use Rattle.sch_layout.specs.Laws.{EntersSlots}
 use Rattle.sch_layout.specs.SharedPlaces.{Alone, Arrives}
-use Rattle.sch_layout.proofs.does.MovesDo.{places_same}
+use Rattle.sch_word.proofs.facts.Places.{places_same}
 use Rattle.sch_homes.specs.Homes.{homes_plan, lives_in, place}
 
 -- ## The places of a body

@@ -15,13 +15,13 @@ use Rattle.sch_control.specs.declared.operation.Atom.TheVariants.{Constant, Lite
 use Rattle.sch_control.specs.declared.operation.Operand.{Operand}
 use Rattle.sch_control.specs.declared.operation.Operand.TheVariants as operand
 use Rattle.sch_control.specs.AtomsAndSites.{application_atoms, operand_atoms, operands_atoms}
-use Rattle.sch_frames.specs.Meaning.{same_place}
+use Rattle.sch_word.specs.values.Places.{same_place}
 use Rattle.sch_frames.proofs.FramePlaces.{same_self}
 use Rattle.sch_layout.specs.BodyLayout.{arguments_at, atoms_at, operand_at, operands_at, target}
 use Rattle.sch_layout.specs.Laws.{AtomsHave}
 use Rattle.sch_layout.proofs.Targets.{targets_apart}
 use Rattle.sch_layout.proofs.does.OperationsFollow.{have_left, have_right}
-use Rattle.sch_shuffle.specs.Assignment.{AreDistinct, AreSpare, IsAmong, IsSpare, place_at}
+use Rattle.sch_shuffle.specs.Assignment.{AreDistinct, AreSpare, IsSpare, place_at}
 use Rattle.sch_shuffle.specs.Assignment as shuffle
 use Rattle.sch_shuffle.specs.Greedy.{all_choices, uses_target}
 use Rattle.sch_shuffle.specs.Tree.{Tree, trees, uses, uses_one}

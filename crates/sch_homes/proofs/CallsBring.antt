@@ -19,7 +19,8 @@ use Rattle.sch_control.specs.declared.operation.Operand.{Operand}
 use Rattle.sch_control.specs.declared.operation.Operand.TheVariants as operand
 use Rattle.sch_control.specs.AtomsAndSites.{application_atoms, operand_atoms, operands_atoms}
 use Rattle.sch_control.specs.Tree.{Expression}
-use Rattle.sch_frames.specs.Meaning.{is_slot, link_register, same_place}
+use Rattle.sch_frames.specs.Meaning.{is_slot, link_register}
+use Rattle.sch_word.specs.values.Places.{same_place}
 use Rattle.sch_frames.specs.Valid.{max_words}
 use Rattle.sch_layout.specs.BodyLayout.{arguments_at, atoms_at, operand_at, operands_at, target}
 use Rattle.sch_layout.specs.Laws.{AtomsHave}

@@ -15,7 +15,7 @@ use Rattle.sch_control.specs.Tree.{Expression}
 use Rattle.sch_control.specs.Work.{operands_work}
 use Rattle.sch_frames.specs.declared.instruction.Instruction.{Instruction}
 use Rattle.sch_frames.specs.declared.instruction.Instruction.TheVariants.{Do, Copy}
-use Rattle.sch_frames.specs.Meaning.{same_place}
+use Rattle.sch_word.specs.values.Places.{same_place}
 use Rattle.sch_frames.specs.Sizes.{copies_of, grouped, instructions_size}
 use Rattle.sch_layout.specs.BodyLayout.{arguments_at, is_direct, move_all, move_into, move_mark, operand_at, operands_at, under, writing}
 use Rattle.sch_layout.specs.FewCopies.{MovesFew, work_in}

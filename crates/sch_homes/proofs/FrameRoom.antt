@@ -13,6 +13,7 @@ use Rattle.sch_control.specs.Tree.{Expression, perform, bind, sequence, branch, 
 use Rattle.sch_control.specs.Valid.{entry_shaped, first_bound}
 use Rattle.sch_control.specs.flow.Bare.{erased}
 use Rattle.sch_control.specs.flow.Places.{arrival, count_slots, in_slot, is_usual, link_place, place_of, stays}
+use Rattle.sch_control.proofs.SlotCounts.{slots_within}
 use Rattle.sch_frames.specs.Valid.{formals_of, max_words}
 use Rattle.sch_layout.specs.Laws.{Uses}
 use Rattle.sch_layout.proofs.EachCall.{EachCall, call_erased, each_call, operands_few}
@@ -173,16 +174,9 @@ module _ (c : control.Code) (e : Expression) (places : List Place) (p : IsPlaced
   -- the return address lives in a register
   one_more : suc (count_slots places) ≤ length places
   one_more = by places p.link first_there where
-    all_slots : (ps : List Place) → count_slots ps ≤ length ps
-    all_slots [] = omega arith
-    all_slots (q ∷ ps) = one (in_slot q) (all_slots ps) where
-      one : (t : Bool) → count_slots ps ≤ length ps → cond t (suc (count_slots ps)) (count_slots ps) ≤ suc (length ps)
-      one true h = omega (arith, h)
-      one false h = omega (arith, h)
-
     by : (ps : List Place) → place_of ps 0 ≡ link_place → 2 + formals_of c.entry ≤ length ps → suc (count_slots ps) ≤ length ps
     by [] h le = absurd (omega (arith, le))
-    by (Reg r ∷ ps) h le = let all = all_slots ps in omega (arith, all)
+    by (Reg r ∷ ps) h le = let all = slots_within ps in omega (arith, all)
     by (Slot j ∷ ps) h le = absurd (cc)
 
   slots_few : first_home c.entry e places ≤ max_operands + count_slots places

@@ -19,7 +19,8 @@ use Rattle.sch_control.specs.Tree.{Expression}
 use Rattle.sch_control.specs.Valid.{entry_shaped, is_bare, last_position, positioned, shaped as expression_shaped, without_repeats}
 use Rattle.sch_control.specs.flow.Places.{count_slots, is_usual, place_of}
 use Rattle.sch_frames.specs.declared.instruction.Instruction.TheVariants.{Copy}
-use Rattle.sch_frames.specs.Meaning.{is_slot, same_place}
+use Rattle.sch_frames.specs.Meaning.{is_slot}
+use Rattle.sch_word.specs.values.Places.{same_place}
 use Rattle.sch_frames.specs.Standing.{code_marks_stand}
 use Rattle.sch_frames.specs.Valid.{formals_of, forward, instruction_placed, instruction_shaped, is_atom, is_place, jumps_ahead, labels_in, placed, shaped}
 use Rattle.sch_layout.specs.BodyLayout.{Plan, arguments_at, arrived, labels, lay, operands_at, under}

@@ -2,10 +2,11 @@
 use Rattle.std.proofs.Common.{◌≡◌, ℕ, ◌+◌, List, [], ◌∷◌, Option, None, Bool, true, false, cond, refl, ap, ◌∙◌}
 use Rattle.std.specs.Prelude.{filter, nat_eq, ◌||◌}
 use Rattle.std.specs.List.{list_all}
-use Rattle.std.proofs.lemmas.Bool.{and_from, and_parts, eq-eqb, eqb-true}
+use Rattle.std.proofs.lemmas.Bool.{and_from, and_parts, eqb-true}
 use Rattle.sch_word.proofs.facts.Booleans.{or_left, or_right}
 use Rattle.sch_word.specs.declared.mark.MarkKind.TheVariants as mark
 use Rattle.sch_word.specs.trees.NumberSets.{has, unless}
+use Rattle.sch_word.proofs.facts.NumberTests.{same}
 use Rattle.sch_control.specs.Meaning.{binds, heads, with_region}
 use Rattle.sch_control.specs.Tree.{Expression, perform, bind, sequence, branch, fix, call, tail_call, return, end, save}
 use Rattle.sch_control.specs.Valid.{member_variables}
@@ -36,9 +37,7 @@ all_from test kept f (x ∷ xs) h = let parts = and_parts (test x) _ h in and_fr
 
 all_in : (kept : ℕ → Bool) (xs : List ℕ) → ((x : ℕ) → has x xs ≡ true → kept x ≡ true) → list_all kept xs ≡ true
 all_in kept [] f = refl
-all_in kept (x ∷ xs) f = and_from _ _ (f x (or_left (nat_eq x x) _ (self x))) (all_in kept xs (λ y h. f y (or_right (nat_eq y x) _ h))) where
-  self : (x : ℕ) → nat_eq x x ≡ true
-  self x = eq-eqb x x refl
+all_in kept (x ∷ xs) f = and_from _ _ (f x (or_left (nat_eq x x) _ (same x))) (all_in kept xs (λ y h. f y (or_right (nat_eq y x) _ h)))
 
 -- where what the regions of an expression save is kept, and what regions round it save
 pub kept_in : (kept : ℕ → Bool) (e : Expression) (inside : ℕ → Bool) → ((x : ℕ) → is_saved e x ≡ true → kept x ≡ true) → ((x : ℕ) → inside x ≡ true → kept x ≡ true) → restores_saved e inside ≡ true → KeptIn kept e

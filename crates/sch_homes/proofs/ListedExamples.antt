@@ -1,7 +1,7 @@
 -- Worked rows: what is listed of the moves of calls.
 use Rattle.std.proofs.Common.{◌≡◌, ℕ, refl, false, true, Bool, cond, List, [], ◌∷◌}
 use Rattle.sch_word.specs.declared.place.Place.{Place}
-use Rattle.sch_word.specs.declared.place.Place.TheVariants.{Reg, Slot}
+use Rattle.sch_word.specs.declared.place.Place.TheVariants.{Reg}
 use Rattle.sch_control.specs.declared.operation.Application.{Application}
 use Rattle.sch_control.specs.Tree.{Expression, branch, call, tail_call}
 use Rattle.sch_control.proofs.Examples.{applied, held_in}

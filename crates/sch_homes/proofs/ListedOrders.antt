@@ -1,5 +1,5 @@
 -- What is listed of a call: in which order it moves its arguments first.
-use Rattle.std.proofs.Common.{◌≡◌, ℕ, zero, suc, ◌+◌, ◌<◌, ◌≤◌, Bool, true, false, List, [], ◌∷◌, ◌++◌, length, map, take, refl, sym, ap, ◌∙◌, subst, arith, append_assoc}
+use Rattle.std.proofs.Common.{◌≡◌, ℕ, zero, suc, ◌<◌, ◌≤◌, Bool, true, false, List, [], ◌∷◌, length, map, take, refl, sym, ap, ◌∙◌, subst, arith}
 use Rattle.std.specs.Prelude.{nat_eq, ◌||◌}
 use Rattle.std.proofs.lemmas.Bool.{eqb-true}
 use Rattle.sch_word.specs.declared.place.Place.{Place}
@@ -16,7 +16,7 @@ use Rattle.sch_shuffle.specs.Tree.{Tree}
 use Rattle.sch_shuffle.proofs.ArgumentOrder.{ordered}
 use Rattle.sch_orders.specs.declared.listed_call.ListedCall.{ListedCall}
 use Rattle.sch_orders.proofs.EachOnce.{each_once}
-use Rattle.sch_homes.specs.CallMoves.{call_arguments, call_free, call_moves, call_targets, move_of, targets}
+use Rattle.sch_homes.specs.CallMoves.{call_arguments, call_free, call_targets, move_of, targets}
 use Rattle.sch_homes.specs.ListedMoves.{first_moves, listed_call}
 use Rattle.sch_homes.proofs.CallLists.{trees_length}
 

@@ -19,7 +19,8 @@ use Rattle.sch_shuffle.specs.Assignment as shuffle
 use Rattle.sch_shuffle.specs.Greedy.{acts, all_choices, made}
 use Rattle.sch_shuffle.specs.Plans.{Act, IsAct, direct, aside, across, onward, transfer, transfers}
 use Rattle.sch_shuffle.specs.Tree.{Tree, trees, uses, uses_one}
-use Rattle.sch_shuffle.proofs.MovesAssign.{acts_bring, place_same}
+use Rattle.sch_shuffle.proofs.MovesAssign.{acts_bring}
+use Rattle.sch_word.proofs.facts.Places.{place_same}
 use Rattle.sch_homes.specs.CallMoves.{argument_of, atom_tree, move_of, operand_tree, taken}
 
 -- ## Arguments

@@ -9,7 +9,8 @@ use Rattle.sch_word.specs.declared.place.Place.{Place}
 use Rattle.sch_word.specs.declared.place.Place.TheVariants.{Reg, Slot}
 use Rattle.sch_control.specs.declared.body.Entry.{Entry}
 use Rattle.sch_control.specs.Tree.{Expression}
-use Rattle.sch_frames.specs.Meaning.{is_slot, link_register, same_place}
+use Rattle.sch_frames.specs.Meaning.{is_slot, link_register}
+use Rattle.sch_word.specs.values.Places.{same_place}
 use Rattle.sch_frames.specs.Valid.{max_words}
 use Rattle.sch_layout.specs.SharedPlaces.{HomeApart, Homes}
 use Rattle.sch_homes.specs.CallMoves.{next_frame}

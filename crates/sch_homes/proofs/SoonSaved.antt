@@ -1,40 +1,25 @@
 -- Where each call restores what is live after it and wanted before the next one, and restores what a region round it saves, what is
 -- live after each call is saved there.
-use Rattle.std.proofs.Common.{◌≡◌, ℕ, Bool, true, false, List, [], ◌∷◌, Option, Some, None, refl, sym, ap, ◌∙◌, ◌⊎◌, inl, inr}
+use Rattle.std.proofs.Common.{◌≡◌, ℕ, Bool, true, false, [], Option, Some, None, refl, sym, ap, ◌∙◌, ◌⊎◌, inl, inr}
 use Rattle.std.specs.Bool.{MatchBool}
 use Rattle.std.specs.List.{list_all}
-use Rattle.std.specs.Prelude.{nat_eq, ◌||◌}
-use Rattle.std.proofs.lemmas.Bool.{and_parts, eqb-true}
-use Rattle.sch_word.proofs.facts.Booleans.{false_true, neither, or_left, or_right}
-use Rattle.sch_word.specs.trees.NumberSets.{has, unless}
+use Rattle.std.specs.Prelude.{◌||◌}
+use Rattle.std.proofs.lemmas.Bool.{and_parts}
+use Rattle.sch_word.proofs.facts.Booleans.{false_true, neither, or_left}
+use Rattle.sch_word.specs.trees.NumberSets.{has}
 use Rattle.sch_control.specs.declared.operation.Operation.{Operation}
 use Rattle.sch_control.specs.Meaning.{binds, heads, no_region, with_region}
 use Rattle.sch_control.specs.Tree.{Expression, perform, bind, sequence, branch, fix, call, tail_call, return, end, save}
 use Rattle.sch_control.specs.flow.Live.{known, ByResult, AfterValue, Across, Later, Live, MayGive, Perhaps, Soon, nothing_later}
 use Rattle.sch_control.specs.flow.Regions.{restores_saved}
+use Rattle.sch_control.proofs.VariableLists.{heads_has, each_passes}
 use Rattle.sch_paths.specs.Conditions.{Fresh, Restored, Saved}
 use Rattle.sch_paths.specs.EachSoonRestored.{EachSoonRestored}
+use Rattle.sch_paths.proofs.saves.SavedAndRestored.{restored_kept}
 
 -- behind an expression, what is live is wanted soon, as far as a path comes there
 abbrev SoonWhereLive : ℕ → Expression → (L S : Bool → Type 0) → Type 0
 SoonWhereLive x e L S = (t : Bool) → MayGive e t → L t → S t
-
--- what is saved and not bound is saved at the head
-heads_have : (e : Expression) (xs : List ℕ) (z : ℕ) → has z xs ≡ true → binds z e ≡ false → has z (heads e xs) ≡ true
-heads_have e [] z h n = absurd (cc)
-heads_have e (x ∷ xs) z h n = by (nat_eq z x) refl (binds x e) refl h (λ h. heads_have e xs z h n) where
-  by : (t : Bool) → nat_eq z x ≡ t → (b : Bool) → binds x e ≡ b → (t || has z xs) ≡ true → (has z xs ≡ true → has z (heads e xs) ≡ true) → has z (unless b x (heads e xs)) ≡ true
-  by true i true b h more = absurd (false_true b (ap (λ y. binds y e) (sym (eqb-true z x i)) ∙ n))
-  by true i false b h more = or_left (nat_eq z x) _ i
-  by false i true b h more = more h
-  by false i false b h more = or_right (nat_eq z x) _ (more h)
-
-listed : (test : ℕ → Bool) (xs : List ℕ) (x : ℕ) → list_all test xs ≡ true → has x xs ≡ true → test x ≡ true
-listed test [] x h m = absurd (cc)
-listed test (y ∷ ys) x h m = let parts = and_parts (test y) _ h in by (nat_eq x y) refl m (λ m. listed test ys x parts.1 m) parts.0 where
-  by : (t : Bool) → nat_eq x y ≡ t → (t || has x ys) ≡ true → (has x ys ≡ true → test x ≡ true) → test y ≡ true → test x ≡ true
-  by true i m more p = ap test (eqb-true x y i) ∙ p
-  by false i m more p = more m
 
 after_value : (o : Operation ℕ) (L S : Bool → Type 0) → ((t : Bool) → AfterValue o (λ r. r ≡ t) → L t → S t) → AfterValue o L → AfterValue o S
 after_value o L S f l = by (known o) f l where
@@ -71,7 +56,7 @@ outside_soon (fix members e) Met met inside L S saved r fresh x out behind (o, i
 outside_soon (call a restores) Met met inside L S saved r fresh x out behind (inl m) = m
 outside_soon (call a restores) Met met inside L S saved r fresh x out behind (inr l) =
     let parts = and_parts _ (list_all inside restores) saved in
-    absurd (false_true (listed inside restores x parts.1 (r x met l (by l) refl)) out) where
+    absurd (false_true (each_passes inside restores parts.1 x (r x met l (by l) refl)) out) where
       by : Perhaps (L x) → Perhaps (S x)
       by (inl l) = inl (behind true tt l)
       by (inr l) = inr (behind false tt l)
@@ -84,7 +69,7 @@ outside_soon (save saves e) Met met inside L S saved r fresh x out behind l =
     by (has x saves) refl (binds x e) refl (λ o. outside_soon e Met met (with_region saves inside) L S saved r fresh.1 x o behind l) where
       by : (t : Bool) → has x saves ≡ t → (b : Bool) → binds x e ≡ b → (with_region saves inside x ≡ false → Soon x e (S x)) → (has x (heads e saves) ≡ true) ⊎ Soon x e (S x)
       by true h true b more = absurd (fresh.0 x h b l)
-      by true h false b more = inl (heads_have e saves x h b)
+      by true h false b more = inl (heads_has e saves x h b)
       by false h b eb more = inr (more (neither (has x saves) _ h out))
 
 -- so what is live after a call is inside a region
@@ -127,7 +112,7 @@ saved_where_live keeps (call a restores) Met inside L S saved r fresh behind = �
 
   by : (x : ℕ) → Met → Perhaps (L x) → (t : Bool) → inside x ≡ t → inside x ≡ true
   by x met l true i = i
-  by x met l false i = let parts = and_parts _ (list_all inside restores) saved in listed inside restores x parts.1 (r x met l (soon x met i l) refl)
+  by x met l false i = let parts = and_parts _ (list_all inside restores) saved in each_passes inside restores parts.1 x (r x met l (soon x met i l) refl)
 saved_where_live keeps (tail_call a) Met inside L S saved r fresh behind = tt
 saved_where_live keeps (return e) Met inside L S saved r fresh behind = saved_where_live keeps e Met inside (λ x t. x ≡ 0) (λ x t. x ≡ 0) saved r fresh (λ x o met t g i. i)
 saved_where_live keeps (end e) Met inside L S saved r fresh behind = saved_where_live keeps e Met inside (λ x t. ⊥) (λ x t. ⊥) saved r fresh (λ x o met t g i. i)
@@ -140,19 +125,6 @@ saved_where_live keeps (save saves e) Met inside L S saved r fresh behind =
 -- whatever a call keeps
 pub soon_saved : (keeps : ℕ → Bool) (e : Expression) → restores_saved e no_region ≡ true → EachSoonRestored e → Fresh e nothing_later → Saved keeps e (Unit {0}) no_region nothing_later
 soon_saved keeps e saved r fresh = saved_where_live keeps e (Unit {0}) no_region nothing_later nothing_later saved r fresh (λ x o met t g l. l)
-
--- what is kept need not be restored
-restored_kept : (keeps : ℕ → Bool) (e : Expression) (Met : Type 0) (L S : Later) → Restored (λ x. false) e Met L S → Restored keeps e Met L S
-restored_kept keeps (perform o) Met L S r = tt
-restored_kept keeps (bind y a b) Met L S r = (restored_kept keeps a Met _ _ r.0, restored_kept keeps b Met L S r.1)
-restored_kept keeps (sequence a b) Met L S r = (restored_kept keeps a Met _ _ r.0, restored_kept keeps b Met L S r.1)
-restored_kept keeps (branch a b c) Met L S r = (restored_kept keeps a Met _ _ r.0, (restored_kept keeps b _ L S r.1.0, restored_kept keeps c _ L S r.1.1))
-restored_kept keeps (fix members e) Met L S r = restored_kept keeps e Met L S r
-restored_kept keeps (call a restores) Met L S r = λ x met l s k. r x met l s refl
-restored_kept keeps (tail_call a) Met L S r = tt
-restored_kept keeps (return e) Met L S r = restored_kept keeps e Met _ _ r
-restored_kept keeps (end e) Met L S r = restored_kept keeps e Met _ _ r
-restored_kept keeps (save saves e) Met L S r = restored_kept keeps e Met L S r
 
 pub soon_restored : (keeps : ℕ → Bool) (e : Expression) → EachSoonRestored e → Restored keeps e (Unit {0}) nothing_later nothing_later
 soon_restored keeps e r = restored_kept keeps e (Unit {0}) nothing_later nothing_later r

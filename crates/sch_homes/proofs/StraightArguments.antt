@@ -1,5 +1,5 @@
 -- Where no argument uses the target of another, all go straight to their targets, in their order, and no targets are a cycle.
-use Rattle.std.proofs.Common.{◌≡◌, ◌≢◌, ℕ, suc, ◌<◌, Bool, true, false, cond, List, [], ◌∷◌, ◌++◌, length, map, refl, ap, sym, ◌∙◌, arith, inl, inr, ◌⊎◌, get_or}
+use Rattle.std.proofs.Common.{◌≡◌, ◌≢◌, ℕ, ◌<◌, Bool, true, false, cond, List, [], ◌∷◌, ◌++◌, length, map, refl, ap, sym, ◌∙◌, arith, inl, inr, ◌⊎◌, get_or}
 use Rattle.std.specs.Prelude.{nat_eq}
 use Rattle.std.proofs.lemmas.Bool.{cases_Bool, cases_eq, eq-eqb, ne_eqb}
 use Rattle.std.proofs.Math.Bool.{or-true}
@@ -15,7 +15,7 @@ use Rattle.sch_shuffle.specs.Greedy.{acts, all_choices, choices, chosen, evaluat
 use Rattle.sch_shuffle.specs.Cycles.{IsRing}
 use Rattle.sch_shuffle.specs.CycleSearch.{cycles, is_ring, places_at, ring, rings, successor}
 use Rattle.sch_shuffle.proofs.WaitingArguments.{below_in, below_numbers}
-use Rattle.sch_shuffle.proofs.MovesAssign.{place_same}
+use Rattle.sch_word.proofs.facts.Places.{place_same}
 use Rattle.sch_shuffle.proofs.ExactCycles.{ring_is}
 
 -- ## The order

@@ -1,6 +1,6 @@
 -- Of a call of which no argument uses the target of another one the moves of a shuffle are those from each argument to its target.
-use Rattle.std.proofs.Common.{◌≡◌, ◌≢◌, ℕ, zero, suc, ◌+◌, ◌-◌, ◌<◌, ◌≤◌, Bool, true, false, List, [], ◌∷◌, length, map, take, max, refl, ap, sym, ◌∙◌, subst, arith, inl, inr, ◌⊎◌}
-use Rattle.std.specs.Prelude.{nat_eq, not, ◌&&◌, ◌||◌}
+use Rattle.std.proofs.Common.{◌≡◌, ◌≢◌, ℕ, zero, suc, ◌+◌, ◌-◌, ◌<◌, ◌≤◌, Bool, true, false, List, [], ◌∷◌, length, map, take, refl, ap, sym, ◌∙◌, subst, arith, inl, inr, ◌⊎◌}
+use Rattle.std.specs.Prelude.{not, ◌||◌}
 use Rattle.std.specs.List.{list_all, list_any}
 use Rattle.std.proofs.lemmas.Bool.{and_parts, cases_Bool, cases_eq, ne_eqb}
 use Rattle.sch_word.specs.declared.place.Place.{Place}
@@ -16,7 +16,7 @@ use Rattle.sch_shuffle.specs.Greedy.{uses_target}
 use Rattle.sch_shuffle.specs.Plans.{direct}
 use Rattle.sch_shuffle.specs.Tree.{Tree, trees, uses, uses_one}
 use Rattle.sch_shuffle.proofs.WaitingArguments.{numbers_next}
-use Rattle.sch_homes.specs.CallMoves.{aside_end, argument_of, atom_tree, call_arguments, call_end, call_free, call_moves, call_targets, first_temporary, move_of, next_frame, operand_tree, targets}
+use Rattle.sch_homes.specs.CallMoves.{aside_end, argument_of, atom_tree, call_arguments, call_end, call_free, call_moves, call_targets, first_temporary, move_of, next_frame, operand_tree}
 use Rattle.sch_homes.specs.ListedMoves.{first_moves, listed_call, straight_call}
 use Rattle.sch_homes.specs.StraightCalls.{are_apart, keeps_off, straight_move, straight_moves, uses_other}
 use Rattle.sch_homes.proofs.CallLists.{trees_length}

@@ -15,7 +15,8 @@ use Rattle.sch_layout.specs.BodyLayout.{arguments_at, target}
 use Rattle.sch_layout.specs.Moves.{Move}
 use Rattle.sch_shuffle.specs.Assignment.{Transfer}
 use Rattle.sch_shuffle.specs.Greedy.{made}
-use Rattle.sch_shuffle.specs.Tree.{Tree, fixed, literal, place, read, same_place, trees, uses}
+use Rattle.sch_shuffle.specs.Tree.{Tree, fixed, literal, place, read, trees, uses}
+use Rattle.sch_word.specs.values.Places.{same_place}
 
 -- From this slot on a place is one of the frame that a call opens: more than a frame has words.
 abbrev pub next_frame : ℕ

@@ -15,19 +15,9 @@ use crate::straight_calls::{are_apart, straight_moves};
 use crate::temporaries::{first_temporary, larger, spare_registers, targets, temporaries};
 use sch_control::{Application, Atom, Operand};
 use sch_shuffle::{Move as Step, Operand as Argument, make_moves};
-use sch_word::{Const, List, Mem, Place, add_numbers};
+use sch_word::{Const, List, Mem, Place, add_numbers, number_of_count};
 use sch_writer::{Move, operand_at};
 use std::alloc::Global;
-
-/// A number of 32 bits; one past them is out of memory.
-pub(crate) fn short(n: usize) -> Result<u32, Mem>
-    ensures { IfOk result (λ m. m ≡ n) }
-{
-    match u32::try_from(n) {
-        Ok(m) => Ok(m),
-        Err(_) => Err(Mem),
-    }
-}
 
 /// An argument of a call by its number. Past the last one there is nothing.
 pub(crate) fn argument_of(
@@ -109,7 +99,7 @@ fn shuffled_moves(
     ensures { IfOk result (λ moves. moves_of moves ≡ calls.call_moves end (place_in lives.now.places.now) tail a.now) }
 {
     let args = arguments(alloc, lives, a)?;
-    let operands = short(a.operands.len())?;
+    let operands = number_of_count(a.operands.len())?;
     let count = add_numbers(operands, 1)?;
     let targets = targets(alloc, tail, count)?;
     let spare = spare_registers(alloc, args.as_slice(), targets.as_slice())?;
@@ -174,7 +164,7 @@ pub(crate) fn call_end(
 ) -> Result<u32, Mem>
     ensures { IfOk result (λ n. n ≡ calls.call_end end (place_in lives.now.places.now) tail a.now) }
 {
-    let first = first_temporary(end, short(a.operands.len())?);
+    let first = first_temporary(end, number_of_count(a.operands.len())?);
     if are_apart(lives, tail, a)? {
         return Ok(first);
     }

@@ -7,14 +7,13 @@ ghost use Rattle.sch_homes.specs.HomeTable.{place_in};
 ghost use Rattle.sch_homes.specs.ListedMoves as listed;
 
 use crate::call_arguments::arguments;
-use crate::call_moves::short;
 use crate::frame_places::FramePlaces;
 use crate::straight_calls::{are_apart, argument_count, straight_order};
 use crate::temporaries::targets;
 use sch_control::{Application, Exp, PlacedBody, Restoring};
 use sch_orders::ListedCall;
 use sch_shuffle::{cycles, evaluation_order};
-use sch_word::{List, Mem, add_numbers};
+use sch_word::{List, Mem, add_numbers, number_of_count};
 use std::alloc::Global;
 
 /// What is listed of the moves of a call by a shuffle, wherever it sets something aside.
@@ -28,7 +27,7 @@ fn shuffled_call(
         → c ≡ listed.listed_call end (place_in lives.now.places.now) tail a.now) }
 {
     let args = arguments(alloc, lives, a)?;
-    let operands = short(a.operands.len())?;
+    let operands = number_of_count(a.operands.len())?;
     let count = add_numbers(operands, 1)?;
     let targets = targets(alloc, tail, count)?;
     let order = evaluation_order(alloc, args.as_slice(), targets.as_slice())?;

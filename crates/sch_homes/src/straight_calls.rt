@@ -12,11 +12,11 @@ ghost use Rattle.sch_homes.specs.CallMoves as calls;
 ghost use Rattle.sch_homes.specs.HomeTable.{place_in};
 ghost use Rattle.sch_homes.specs.StraightCalls as straight;
 
-use crate::call_moves::{argument_of, short};
+use crate::call_moves::argument_of;
 use crate::frame_places::{FramePlaces, NEXT_FRAME};
 use sch_control::{Application, Atom, Operand};
 use sch_shuffle::is_same;
-use sch_word::{List, Mem, Place, add_numbers};
+use sch_word::{List, Mem, Place, add_numbers, number_of_count};
 use sch_writer::{Move, target};
 use std::alloc::Global;
 
@@ -105,7 +105,7 @@ fn argument_keeps_off(
 pub(crate) fn argument_count(a: &Application<u32>) -> Result<u32, Mem>
     ensures { IfOk result (λ n. n ≡ suc (length a.now.operands)) }
 {
-    add_numbers(short(a.operands.len())?, 1)
+    add_numbers(number_of_count(a.operands.len())?, 1)
 }
 
 /// Whether no argument of a call uses the target of another one.

@@ -3,7 +3,7 @@
 ghost use Rattle.std.specs.Prelude.{◌≡◌, ◌++◌, ◌∷◌, [], filter, map, max, IfOk, OnOk};
 ghost use Rattle.std.specs.List.{list_any};
 ghost use Rattle.sch_shuffle.specs.Tree as shuffle;
-ghost use Rattle.sch_shuffle.specs.Tree.{same_place};
+ghost use Rattle.sch_word.specs.values.Places.{same_place};
 ghost use Rattle.sch_shuffle.specs.View.{tree};
 ghost use Rattle.sch_homes.specs.CallMoves as calls;
 

@@ -1,7 +1,7 @@
 -- What holds of an answer, where there is one: lemmas that follow a definition made of `cond` and
 -- `when_some`, branch by branch.
 use Rattle.std.proofs.Common.{◌≡◌, Bool, true, false, cond, Option, Some, None, refl, subst}
-use Rattle.sch_insn.specs.Decode.{when_some}
+use Rattle.sch_word.specs.values.Options.{when_some}
 
 pub record OnAnswer {A : Type 0} (P : A → Type 0) (o : Option A) : Type 0 where
   pub by : (v : A) → o ≡ Some v → P v

@@ -13,11 +13,12 @@ use Rattle.sch_insn.specs.declared.insn.Arg.TheVariants.{Reg, Base, Base8, Base3
 use Rattle.sch_insn.specs.declared.insn.Insn.{Insn}
 use Rattle.sch_insn.specs.declared.insn.Insn.TheVariants.{MovTo, MovFrom, MovNumber, MovWord, StoreByte, LoadByte, Lea, AddTo, OrTo, AndTo, SubTo, XorTo, CmpTo, AddFrom, OrFrom, AndFrom, SubFrom, XorFrom, CmpFrom, AddNumber, OrNumber, AndNumber, SubNumber, XorNumber, CmpNumber, AddNumber8, OrNumber8, AndNumber8, SubNumber8, XorNumber8, CmpNumber8, TestTo, Imul, Neg, Idiv, Cqo, Shl, Shr, Sar, Jump, Jump8, JumpTo, JumpIf, JumpIf8, Syscall}
 use Rattle.sch_insn.specs.Spelling.{one_byte, four_bytes, eight_bytes, high_bit, modrm, sib, operand, wide, spelling, IsArg, in_memory, IsCondition, IsValid}
-use Rattle.sch_insn.specs.Decode.{when_some, number_of_1, number_of_4, number_of_8, sib_size, arg_of, operand_of, count_of, wide_of, narrow_of, long_of, whole_word_of, full_of, rexed_of, is_jump_if, escaped_of, decode}
+use Rattle.sch_insn.specs.Decode.{number_of_1, number_of_4, number_of_8, sib_size, arg_of, operand_of, count_of, wide_of, narrow_of, long_of, whole_word_of, full_of, rexed_of, is_jump_if, escaped_of, decode}
+use Rattle.sch_word.specs.values.Options.{when_some}
 use Rattle.sch_insn.proofs.Lists.{drop_1}
 
 -- Tests of numbers, as `decode` makes them.
-not_below : (a b : ℕ) → b ≤ a → nat_lt a b ≡ false
+pub not_below : (a b : ℕ) → b ≤ a → nat_lt a b ≡ false
 not_below a b h = grind (arith, nat_tests)
 
 some_bytes : (x : ℕ) (bs : List ℕ) → nat_lt (length (x ∷ bs)) 1 ≡ false

@@ -15,7 +15,8 @@ use Rattle.sch_insn.specs.declared.insn.Arg.TheVariants.{Reg, Base, Base8, Base3
 use Rattle.sch_insn.specs.declared.insn.Insn.{Insn}
 use Rattle.sch_insn.specs.declared.insn.Insn.TheVariants.{MovTo, MovFrom, MovNumber, MovWord, StoreByte, LoadByte, Lea, AddTo, OrTo, AndTo, SubTo, XorTo, CmpTo, AddFrom, OrFrom, AndFrom, SubFrom, XorFrom, CmpFrom, AddNumber, OrNumber, AndNumber, SubNumber, XorNumber, CmpNumber, AddNumber8, OrNumber8, AndNumber8, SubNumber8, XorNumber8, CmpNumber8, TestTo, Imul, Neg, Idiv, Cqo, Shl, Shr, Sar, Jump, Jump8, JumpTo, JumpIf, JumpIf8, Syscall}
 use Rattle.sch_insn.specs.Spelling.{one_byte, four_bytes, eight_bytes, high_bit, rex, wide, modrm, sib, operand, IsArg, in_memory, spelling, IsCondition, IsValid}
-use Rattle.sch_insn.specs.Decode.{when_some, number_of_1, number_of_4, number_of_8, sib_size, arg_of, operand_of, with_count, wide_of, narrow_of, long_of, full_of, rexed_of, is_jump_if, escaped_of, decode}
+use Rattle.sch_insn.specs.Decode.{number_of_1, number_of_4, number_of_8, sib_size, arg_of, operand_of, with_count, wide_of, narrow_of, long_of, full_of, rexed_of, is_jump_if, escaped_of, decode}
+use Rattle.sch_word.specs.values.Options.{when_some}
 use Rattle.sch_insn.proofs.Lists.{take_1, take_2, take_3, drop_1, take-add}
 use Rattle.sch_insn.proofs.OnAnswer.{OnAnswer, nothing, gives, branch, sequence}
 

@@ -2,6 +2,7 @@
 -- takes. The laws of `spelling` say that this is its inverse.
 use Rattle.std.specs.Prelude.{Bool, ℕ, ◌+◌, ◌*◌, ◌/◌, ◌%◌, List, length, drop, ◌&&◌, not, nat_lt, ◌==◌, Option, Some, None, ℤ, if◌then◌else◌, slice_index}
 use Rattle.std.specs.Int.{w8, w32, w64, cast_signed, from_le_bytes}
+use Rattle.sch_word.specs.values.Options.{when_some}
 use Rattle.sch_insn.specs.declared.insn.Arg.{Arg}
 use Rattle.sch_insn.specs.declared.insn.Arg.TheVariants.{Reg, Base, Base8, Base32, Rip}
 use Rattle.sch_insn.specs.declared.insn.Insn.{Insn}
@@ -10,11 +11,6 @@ use Rattle.sch_insn.specs.declared.insn.Insn.TheVariants.{AddFrom, OrFrom, AndFr
 use Rattle.sch_insn.specs.declared.insn.Insn.TheVariants.{XorNumber, CmpNumber, AddNumber8, OrNumber8, AndNumber8, SubNumber8, XorNumber8, CmpNumber8}
 use Rattle.sch_insn.specs.declared.insn.Insn.TheVariants.{TestTo, Imul, Neg, Idiv, Cqo, Shl, Shr, Sar, Jump, Jump8, JumpTo, JumpIf, JumpIf8, Syscall}
 use Rattle.sch_insn.specs.Spelling.{in_memory}
-
--- What follows from a value, where there is one.
-abbrev pub when_some : {A B : Type 0} → Option A → (A → Option B) → Option B
-when_some None f = None
-when_some (Some x) f = f x
 
 abbrev pub number_of_1 : List ℕ → Option ℤ
 number_of_1 bs = if nat_lt (length bs) 1 then None else Some (cast_signed w8 (slice_index bs 0))

@@ -1,4 +1,5 @@
 pub mod Spelling
+pub mod Propositions
 pub mod Decode
 pub mod Machine
 pub mod Step

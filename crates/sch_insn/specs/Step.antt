@@ -15,7 +15,8 @@ use Rattle.sch_insn.specs.declared.insn.Insn.TheVariants.{TestTo, Imul, Neg, Idi
 use Rattle.sch_insn.specs.declared.state.StuckCause.{StuckCause}
 use Rattle.sch_insn.specs.declared.register.TheConstants.{RAX, RCX, RDX, RSI, RDI, R11}
 use Rattle.sch_insn.specs.declared.state.StuckCause.TheVariants.{Fetch, Flag, Divide, Kernel}
-use Rattle.sch_insn.specs.Decode.{decode, when_some}
+use Rattle.sch_insn.specs.Decode.{decode}
+use Rattle.sch_word.specs.values.Options.{when_some}
 use Rattle.sch_insn.specs.Machine.{Core, State, Computed, when_ok, with_register, with_flags, with_place, word, add64, is_negative, magnitude, differ, signed}
 use Rattle.sch_insn.specs.Machine.{bytes_from, byte_at, write_bytes, address_of, load, store, unknown_flags, sum_of, difference_of, bits_of, product_of}
 use Rattle.sch_insn.specs.Machine.{shifted, shift_right_signed, condition, set_register, head_or_0}

@@ -4,7 +4,7 @@ use Rattle.std.specs.Prelude.{slice_get, nat_eq}
 use Rattle.std.specs.List.{list_all, count_by, fold}
 use Rattle.std.proofs.lemmas.Bool.{eqb-true, eqb-false}
 use Rattle.sch_word.specs.runs.Computation.{numbers_from}
-use Rattle.sch_word.proofs.facts.Booleans.{and_of}
+use Rattle.sch_word.proofs.facts.Booleans.{and_of, never_true}
 use Rattle.sch_lang.specs.Tree.{Source}
 use Rattle.sch_lang.specs.Measures.{sites_of}
 use Rattle.sch_word.specs.trees.Shape.{is_width}
@@ -15,10 +15,6 @@ abbrev pub numbered : ℕ → List ℕ → List (ℕ × ℕ)
 numbered n [] = []
 numbered n (width ∷ widths) = (n, width) ∷ numbered (suc n) widths
 
-false_of : (b : Bool) → (b ≡ true → ⊥) → b ≡ false
-false_of true h = absurd (h refl)
-false_of false h = refl
-
 -- how often a site is counted, behind what was counted before
 abbrev counted : (s : ℕ) → ℕ → List (ℕ × ℕ) → ℕ
 counted s before sites = fold (λ a at. a + cond (nat_eq at.0 s) 1 0) before sites
@@ -27,7 +23,7 @@ counted s before sites = fold (λ a at. a + cond (nat_eq at.0 s) 1 0) before sit
 counted_never : (s n : ℕ) (widths : List ℕ) (before : ℕ) → s < n → counted s before (numbered n widths) ≡ before
 counted_never s n [] before h = refl
 counted_never s n (width ∷ widths) before h =
-    let differs : nat_eq n s ≡ false = false_of (nat_eq n s) (λ e. omega (arith, h, eqb-true n s e)) in
+    let differs : nat_eq n s ≡ false = never_true (nat_eq n s) (λ e. omega (arith, h, eqb-true n s e)) in
     let same : before + cond (nat_eq n s) 1 0 ≡ before = ap (λ b. before + cond b 1 0) differs ∙ omega arith in
     counted_never s (suc n) widths (before + cond (nat_eq n s) 1 0) (omega arith) ∙ same
 

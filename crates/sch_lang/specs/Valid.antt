@@ -24,8 +24,7 @@ in_range p =
 
 -- ## Constants
 
--- fixnums are in range, characters are bytes, and so are those of texts and of symbols' names; literals
--- are not nested too deeply
+-- fixnums are in range, characters are bytes, and so are those of texts and of symbols' names
 abbrev pub constants_in_range : Source → Bool
 constants_in_range p =
     over_source true (λ a b. a && b) (λ e. constant_in_range (shape e)) p && statics_in_range p.statics

@@ -21,8 +21,7 @@ pub struct Program {
     pub sites: List<u32>,
     // Every number of a variable, a symbol, a literal and a global is one that there is.
     ghost numbered: { IsTrue (in_range (source_of symbols literals globals library forms sites)) },
-    // Fixnums are in range, characters and the bytes of texts and names are bytes, and literals are not
-    // nested too deeply.
+    // Fixnums are in range, and characters and the bytes of texts and names are bytes.
     ghost words: { IsTrue (constants_in_range (source_of symbols literals globals library forms sites)) },
     // Each primitive has its count of operands, no sequence is empty, no variable of a Fix is assigned.
     ghost formed: { IsTrue (shaped (source_of symbols literals globals library forms sites)) },

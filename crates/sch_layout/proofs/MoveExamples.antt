@@ -20,7 +20,8 @@ use Rattle.sch_control.specs.Tree.{tail_call}
 use Rattle.sch_frames.specs.declared.instruction.Instruction.{Instruction}
 use Rattle.sch_frames.specs.declared.instruction.Instruction.TheVariants.{Do, Store as Put, Copy, Pass, Return, Mark}
 use Rattle.sch_frames.specs.Does.{world}
-use Rattle.sch_frames.specs.Meaning.{Is, Link, Junk, Frame, execute_each, same_place}
+use Rattle.sch_frames.specs.Meaning.{Is, Link, Junk, Frame, execute_each}
+use Rattle.sch_word.specs.values.Places.{same_place}
 use Rattle.sch_layout.specs.BodyLayout.{arguments_at, lay, move_all, target, Plan}
 use Rattle.sch_layout.specs.Moves.{Contents, Move, Shuffled, moved}
 use Rattle.sch_layout.specs.PathMarks.{move_marks}

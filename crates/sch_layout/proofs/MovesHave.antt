@@ -16,7 +16,8 @@ use Rattle.sch_control.specs.declared.operation.Operation.TheVariants as operati
 use Rattle.sch_control.specs.AtomsAndSites.{operand_atoms}
 use Rattle.sch_frames.specs.declared.instruction.Instruction.{Instruction}
 use Rattle.sch_frames.specs.declared.instruction.Instruction.TheVariants.{Do, Store, Copy, Pass, Mark}
-use Rattle.sch_frames.specs.Meaning.{is_slot, same_place}
+use Rattle.sch_frames.specs.Meaning.{is_slot}
+use Rattle.sch_word.specs.values.Places.{same_place}
 use Rattle.sch_frames.specs.Valid.{instruction_placed, is_atom, is_place, is_register}
 use Rattle.sch_layout.specs.BodyLayout.{under, move_mark, writing, is_direct, move_into, move_all}
 use Rattle.sch_layout.specs.Moves.{EachMove, Move}

@@ -25,13 +25,15 @@ use Rattle.sch_control.specs.Tree.{Expression, perform, bind, call, return, save
 use Rattle.sch_control.proofs.Examples.{applied, held_in}
 use Rattle.sch_frames.specs.declared.instruction.Instruction.TheVariants.{Do, Store, Copy, Call, Return, Mark}
 use Rattle.sch_frames.specs.Does.{EndsAs, CalleesFollow, world}
-use Rattle.sch_frames.specs.Meaning.{is_slot, same_place, execute_each, beginning}
+use Rattle.sch_frames.specs.Meaning.{is_slot, execute_each, beginning}
+use Rattle.sch_word.specs.values.Places.{same_place}
 use Rattle.sch_layout.specs.BodyLayout.{Plan, arguments_at, entering, lay, target, unmarked_reading}
 use Rattle.sch_layout.specs.Moves.{Contents, Move, is_own, moved}
 use Rattle.sch_control.specs.flow.Live.{Live, nothing_later}
+use Rattle.sch_control.proofs.VariableLists.{each_at}
 use Rattle.sch_layout.specs.SharedPlaces.{Arrives, Brings, FreeInCall, HomeApart, PlacedBody}
 use Rattle.sch_layout.proofs.MoveExamples.{given_by}
-use Rattle.sch_layout.proofs.SharedExamples.{each_at, two_formals}
+use Rattle.sch_layout.proofs.SharedExamples.{two_formals}
 use Rattle.sch_layout.proofs.does.PlacedBodies.{body_does}
 
 abbrev place : ℕ → Place

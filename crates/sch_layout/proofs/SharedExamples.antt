@@ -1,7 +1,7 @@
 -- Worked rows: variables that share a place, and formals that stay where they arrive.
-use Rattle.std.proofs.Common.{◌≡◌, ◌≢◌, refl, ap, arith, ℕ, zero, suc, ◌+◌, ◌<◌, ◌≤◌, true, false, List, [], ◌∷◌, Option, Some, None, pos, ◌⊎◌, inl, inr, subst, sym}
-use Rattle.std.specs.Prelude.{Bool, ◌||◌, cond, nat_eq, slice_get}
-use Rattle.std.proofs.lemmas.Bool.{eqb-true, lt-ltb, ne_eqb}
+use Rattle.std.proofs.Common.{◌≡◌, ◌≢◌, refl, ap, arith, ℕ, zero, suc, ◌+◌, ◌<◌, ◌≤◌, true, false, List, [], ◌∷◌, Option, Some, None, pos, ◌⊎◌, inl, inr}
+use Rattle.std.specs.Prelude.{cond, nat_eq, slice_get}
+use Rattle.std.proofs.lemmas.Bool.{lt-ltb, ne_eqb}
 use Rattle.sch_word.proofs.facts.Booleans.{false_true}
 use Rattle.sch_word.specs.declared.constant.Const.TheVariants.{Fixnum}
 use Rattle.sch_word.specs.declared.place.Place.{Place}
@@ -10,7 +10,6 @@ use Rattle.sch_word.specs.declared.primitive.Primitive.TheVariants.{Subtract}
 use Rattle.sch_word.specs.values.Values.{Value, constant_value}
 use Rattle.sch_word.specs.runs.Computation.{State}
 use Rattle.sch_word.specs.runs.Store.{Store as Memory}
-use Rattle.sch_control.specs.flow.Apart.{EachHas}
 use Rattle.sch_control.specs.declared.body.Entry.{Entry}
 use Rattle.sch_word.specs.declared.mark.MarkKind.{MarkKind}
 use Rattle.sch_word.specs.declared.mark.MarkKind.TheVariants as mark
@@ -26,24 +25,18 @@ use Rattle.sch_control.specs.Tree.{Expression, perform, bind, fix, call, return,
 use Rattle.sch_control.proofs.Examples.{applied, held_in, number}
 use Rattle.sch_frames.specs.declared.instruction.Instruction.TheVariants.{Do, Store, Copy, Call, Return, Mark}
 use Rattle.sch_frames.specs.Does.{EndsAs, CalleesFollow, world}
-use Rattle.sch_frames.specs.Meaning.{Frame, is_slot, same_place, execute_each}
+use Rattle.sch_frames.specs.Meaning.{Frame, is_slot, execute_each}
+use Rattle.sch_word.specs.values.Places.{same_place}
 use Rattle.sch_layout.specs.BodyLayout.{Plan, arguments_at, entering, lay, target, unmarked_reading}
 use Rattle.sch_layout.specs.Moves.{Contents, is_own, moved}
 use Rattle.sch_control.specs.flow.Live.{Live, Mentions, nothing_later}
+use Rattle.sch_control.proofs.VariableLists.{each_at}
 use Rattle.sch_layout.specs.SharedPlaces.{Arrives, Brings, FreeInCall, HomeApart, Homes, Placed}
 use Rattle.sch_layout.proofs.does.LayoutDoes.{Kept, same}
 use Rattle.sch_layout.proofs.does.PlacesAgree.{Agrees}
 use Rattle.sch_layout.proofs.LayoutExamples.{begun, given, gives_first, holding, variables}
 use Rattle.sch_layout.proofs.MoveExamples.{given_by}
 use Rattle.sch_layout.proofs.SlotPlan.{aside_moves}
-
--- what is so of each number of a list is so of one that is in it
-pub each_at : (P : ℕ → Type 0) (xs : List ℕ) → EachHas P xs → (x : ℕ) → has x xs ≡ true → P x
-each_at P [] h x i = absurd (cc)
-each_at P (y ∷ ys) h x i = by (nat_eq x y) refl i (λ k. each_at P ys h.1 x k) where
-  by : (t : Bool) → nat_eq x y ≡ t → (t || has x ys) ≡ true → (has x ys ≡ true → P x) → P x
-  by true j k more = subst P (sym (eqb-true x y j)) h.0
-  by false j k more = more k
 
 -- ## Variables 2 and 3 live in one register, RBX
 

@@ -6,7 +6,8 @@ use Rattle.std.proofs.lemmas.Bool.{ne_eqb, ltb-true, ltb-false}
 use Rattle.sch_word.specs.declared.place.Place.{Place}
 use Rattle.sch_word.specs.declared.place.Place.TheVariants.{Reg, Slot}
 use Rattle.sch_control.specs.declared.operation.Application.{Application}
-use Rattle.sch_frames.specs.Meaning.{is_slot, link_register, same_place}
+use Rattle.sch_frames.specs.Meaning.{is_slot, link_register}
+use Rattle.sch_word.specs.values.Places.{same_place}
 use Rattle.sch_layout.specs.BodyLayout.{Plan}
 use Rattle.sch_layout.specs.Moves.{Move, is_own}
 use Rattle.sch_layout.specs.SharedPlaces.{HomeApart, Homes}

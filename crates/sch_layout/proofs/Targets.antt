@@ -3,7 +3,8 @@ use Rattle.std.proofs.Common.{◌≡◌, ◌≢◌, ℕ, zero, suc, ◌+◌, Opt
 use Rattle.std.specs.Prelude.{nat_eq}
 use Rattle.std.proofs.lemmas.Bool.{ne_eqb}
 use Rattle.sch_word.specs.declared.place.Place.TheVariants.{Reg}
-use Rattle.sch_frames.specs.Meaning.{argument_register, argument_slot, same_place}
+use Rattle.sch_frames.specs.Meaning.{argument_register, argument_slot}
+use Rattle.sch_word.specs.values.Places.{same_place}
 use Rattle.sch_frames.proofs.FramePlaces.{slot_of}
 use Rattle.sch_layout.specs.BodyLayout.{in_either, target}
 

@@ -24,7 +24,8 @@ use Rattle.sch_control.specs.Valid.{member_variables}
 use Rattle.sch_frames.specs.declared.instruction.Instruction.{Instruction}
 use Rattle.sch_frames.specs.declared.instruction.Instruction.TheVariants.{Do, Store, Copy, Pass, Fix, Call, Tail, Return, End, IfFalse, Jump, Label, Mark}
 use Rattle.sch_layout.specs.Moves.{Move}
-use Rattle.sch_frames.specs.Meaning.{argument_register, argument_slot, closure_register, link_register, is_slot, same_place}
+use Rattle.sch_frames.specs.Meaning.{argument_register, argument_slot, closure_register, link_register, is_slot}
+use Rattle.sch_word.specs.values.Places.{same_place}
 
 -- ## Labels
 

@@ -10,7 +10,8 @@ use Rattle.sch_control.specs.AtomsAndSites.{application_atoms}
 use Rattle.sch_control.specs.Meaning.{binds, no_region, with_region}
 use Rattle.sch_control.specs.Tree.{Expression, perform, bind, sequence, branch, fix, call, tail_call, return, end, save}
 use Rattle.sch_control.specs.Valid.{member_variables}
-use Rattle.sch_frames.specs.Meaning.{is_slot, link_register, same_place}
+use Rattle.sch_frames.specs.Meaning.{is_slot, link_register}
+use Rattle.sch_word.specs.values.Places.{same_place}
 use Rattle.sch_layout.specs.BodyLayout.{Plan, arguments_at, arrived, target}
 use Rattle.sch_layout.specs.Moves.{EachMove, Shuffled, is_own, reads_own}
 use Rattle.sch_control.specs.flow.Apart.{Around, EachHas}

@@ -20,12 +20,12 @@ ghost use Rattle.sch_link_drafts.specs.Numbering.{expression_with, expressions_w
 use sch_lang::Exp;
 use sch_link_tables::{
     Output, bind, branch, call, call_site, constant, grouped, is_group, new_site, number_in,
-    number_of_32, operation, procedure, quote, site_unless, write_global,
+    operation, procedure, quote, site_unless, write_global,
 };
 use sch_names::{Name, Names};
 use sch_read::Datum;
 use sch_sketch::Draft;
-use sch_word::{Const, List, Mem};
+use sch_word::{Const, List, Mem, number_of_count};
 use std::alloc::Global;
 
 /// The tables by which numbers are given: the globals of the text's own, and all globals and symbols of the
@@ -65,7 +65,7 @@ fn new_literal(alloc: Global, tables: &Numbers<'_>, d: &Datum, out: &mut Output)
     ensures sites { OnOk result (out.new.sites ≡ out.old.sites) }
     ensures literals { OnOk result (map literal out.new.literals ≡ literals_with tables.now out.old (tree_of d.now ∷ [])) }
 {
-    let n = number_of_32(out.literals.len())?;
+    let n = number_of_count(out.literals.len())?;
     let l = quote(alloc, tables.symbols, d)?;
     out.literals.push(l)?;
     Ok(Exp::Literal(n))

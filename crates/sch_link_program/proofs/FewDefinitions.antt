@@ -17,7 +17,7 @@ with_shorter : (b : Bool) (d : Definition) (ds ks : List Definition) → length 
 with_shorter true d ds ks l = omega (arith, l)
 with_shorter false d ds ks l = omega (arith, l)
 
-kept_shorter : (ds : List Definition) (named : List (List ℕ)) → length (kept ds named) ≤ length ds
+pub kept_shorter : (ds : List Definition) (named : List (List ℕ)) → length (kept ds named) ≤ length ds
 kept_shorter [] named = omega arith
 kept_shorter (d ∷ ds) named =
     with_shorter (is_among (library_global d.name) (named ++ globals_of_each (kept ds named))) d ds (kept ds named) (kept_shorter ds named)

@@ -7,7 +7,7 @@ use Rattle.std.specs.Str.{bytes_eq}
 use Rattle.sch_names.specs.Scope.{is_among}
 use Rattle.sch_names.specs.NamesView.{with_name, number_of}
 use Rattle.sch_link_tables.specs.Named.{firsts, library_global, globals_in}
-use Rattle.sch_word.proofs.facts.Lists.{next_left}
+use Rattle.sch_word.proofs.facts.Lists.{next_left, map_reverse}
 use Rattle.sch_link_tables.specs.Programs.{Definition, kept, with_definition, globals_of_each, seen, is_hidden, held, names_of_each, starts, starts_with}
 use Rattle.sch_sketch.specs.DraftView.{draft_of}
 use Rattle.sch_link_program.specs.declared.definition.Definition as code
@@ -101,11 +101,6 @@ pub still_whole : (ds left others : List code.Definition) (d : code.Definition) 
 still_whole ds left others d whole is =
     ap (λ l. others ++ l) (definition_before ds left others d whole is) ∙ sym (append_assoc others (d ∷ []) (drop (length left) ds)) ∙ ap (λ l. l ++ drop (length left) ds) (sym is) ∙ whole
 
-reversed : {A B : Type 0} (f : A → B) (xs : List A) → map f (reverse xs) ≡ reverse (map f xs)
-reversed f [] = refl
-reversed f (x ∷ xs) =
-    ap (map f) (reverse-append (x ∷ []) xs) ∙ map-append f (reverse xs) (x ∷ []) ∙ ap (λ l. l ++ f x ∷ []) (reversed f xs) ∙ sym (reverse-append (f x ∷ []) (map f xs))
-
 -- what is kept is listed from its last definition on
 abbrev from_last : List KeptDefinition → List Definition
 from_last all = reverse (kept_definitions all)
@@ -166,7 +161,7 @@ begin_list first hs ds all h = rw (none_looked ds, h) refl
 
 pub all_looked : (first hs : List (List ℕ)) (ds left : List code.Definition) (all result : List KeptDefinition) → left ≡ [] → from_last all ≡ kept (definitions_of (drop (length left) ds)) (first ++ map library_global hs) → result ≡ reverse all →
     kept_definitions result ≡ kept (definitions_of ds) (first ++ map library_global hs)
-all_looked first hs ds left all result z k h = ap kept_definitions h ∙ reversed kept_of all ∙ k ∙ rw z refl
+all_looked first hs ds left all result z k h = ap kept_definitions h ∙ map_reverse kept_of all ∙ k ∙ rw z refl
 
 -- ## The number of a procedure
 

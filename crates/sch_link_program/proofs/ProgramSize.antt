@@ -16,13 +16,13 @@ use Rattle.sch_link_tables.specs.Programs.{Definition, kept, held, named, with_d
 use Rattle.sch_sketch.specs.DraftMeasures.{size, size_each}
 use Rattle.sch_link_program.specs.Size.{size_of_definitions}
 
-abbrev nodes : Expression → ℕ
+abbrev pub nodes : Expression → ℕ
 nodes = over 0 (λ a b. a + b) node_and_bound
 
-abbrev nodes_each : Expressions → ℕ
+abbrev pub nodes_each : Expressions → ℕ
 nodes_each = over_each 0 (λ a b. a + b) node_and_bound
 
-abbrev nodes_in_lambdas : Lambdas → ℕ
+abbrev pub nodes_in_lambdas : Lambdas → ℕ
 nodes_in_lambdas = over_lambdas 0 (λ a b. a + b) node_and_bound
 
 -- the nodes of a group with its variables

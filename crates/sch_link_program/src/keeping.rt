@@ -115,7 +115,5 @@ pub fn kept<'a, 'b>(
         keep(alloc, d, asked, &mut wanted, &mut all)?;
         left = before;
     }
-    let mut items = all.into_vec();
-    items.reverse();
-    Ok(List::from_vec(items))
+    Ok(all.reversed())
 }

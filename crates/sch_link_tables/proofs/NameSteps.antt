@@ -1,13 +1,10 @@
 -- The steps of the walks that name globals and symbols, over plain values.
 use Rattle.std.proofs.Common.{◌≡◌, ℕ, Bool, suc, ◌+◌, ◌<◌, List, [], ◌∷◌, ◌++◌, length, drop, get_or, refl, sym, ap, ◌∙◌, add-one}
 use Rattle.sch_names.specs.NamesView.{with_name}
-use Rattle.sch_read.specs.declared.datum.Datum as text
-use Rattle.sch_read.specs.Views.{tree_of, data_of}
 use Rattle.sch_sketch.specs.declared.draft.Draft as code
 use Rattle.sch_sketch.specs.Draft.{Names, Draft, Drafts, set_global, define, branch, bind, letrec, call}
 use Rattle.sch_sketch.specs.DraftView.{draft_of, drafts_of}
-use Rattle.sch_link_tables.specs.Named.{firsts, global_of, globals_in, globals_in_each, symbols_in, symbols_in_each, symbols_of_datum, symbols_of_data}
-use Rattle.sch_link_tables.proofs.DraftLists.{next_datum}
+use Rattle.sch_link_tables.specs.Named.{firsts, global_of, globals_in, globals_in_each, symbols_in, symbols_in_each}
 
 pub firsts_append : (seen xs ys : List (List ℕ)) → firsts seen (xs ++ ys) ≡ firsts (firsts seen xs) ys
 firsts_append seen [] ys = refl
@@ -27,12 +24,6 @@ module _ (F : Draft → List (List ℕ)) (G : Drafts → List (List ℕ)) (seen 
       seen' ≡ firsts seen (F (draft_of e)) → firsts seen (G (drafts_of (drop i es))) ≡ r → firsts seen' (G (drafts_of (drop (i + 1) es))) ≡ r
   next_named es i e l is g h k =
       rw (add-one, h) (sym (firsts_append seen (F (draft_of e)) (G (drafts_of (drop (suc i) es)))) ∙ ap (firsts seen) (sym g) ∙ k)
-
-pub next_symbols : (xs : List text.Datum) (i : ℕ) (d : text.Datum) (seen seen' r : List (List ℕ)) → i < length xs → d ≡ get_or xs i d → seen' ≡ firsts seen (symbols_of_datum (tree_of d)) →
-    firsts seen (symbols_of_data (data_of (drop i xs))) ≡ r → firsts seen' (symbols_of_data (data_of (drop (i + 1) xs))) ≡ r
-next_symbols xs i d seen seen' r l is h k =
-    let k' = rw (next_datum xs i d l is) at k in
-    rw (add-one, h) (sym (firsts_append seen (symbols_of_datum (tree_of d)) (symbols_of_data (data_of (drop (suc i) xs)))) ∙ k')
 
 -- ## Each kind of draft
 

@@ -1,44 +1,59 @@
 -- The steps of the walk that makes literals, over plain values.
-use Rattle.std.proofs.Common.{◌≡◌, ℕ, ◌+◌, ◌<◌, ◌≤◌, List, [], ◌∷◌, ◌++◌, length, drop, get_or, map, refl, sym, ap, ◌∙◌, add-one, arith}
-use Rattle.std.proofs.lemmas.List.{map-append}
+use Rattle.std.proofs.Common.{◌≡◌, ℕ, ◌≤◌, List, [], ◌∷◌, ◌++◌, length, take, drop, map, refl, sym, ap, ◌∙◌, arith, length-append}
+use Rattle.std.proofs.lemmas.List.{map-append, append_assoc}
+use Rattle.std.proofs.Math.Seq.{take-append_seam, drop-append_seam}
 use Rattle.sch_word.specs.declared.literal.Lit.{Lit}
 use Rattle.sch_word.specs.declared.constant.Const.TheVariants.{Nil}
 use Rattle.sch_word.specs.values.Literals as words
-use Rattle.sch_word.specs.values.Literals.{Literal, Literals, literals, no_literals, and_literal}
+use Rattle.sch_word.specs.values.Literals.{Literal, literals, and_literal}
+use Rattle.sch_word.specs.values.LiteralParts.{plain}
 use Rattle.sch_word.specs.values.LiteralView.{literal, literals_of}
+use Rattle.sch_word.proofs.facts.Lists.{map_length}
 use Rattle.sch_word.proofs.worked.LiteralRows.{literals_of_list}
+use Rattle.sch_read.specs.Grammar.{Datum, Data, dotted, vector, none, cons}
+use Rattle.sch_read.specs.DatumParts.{each_of, parts, trees_of}
 use Rattle.sch_read.specs.declared.datum.Datum as text
-use Rattle.sch_read.specs.Views.{tree_of, data_of}
-use Rattle.sch_link_tables.specs.Quoted.{list_of, literal_of, literals_of_data}
-use Rattle.sch_link_tables.proofs.DraftLists.{next_datum, no_datum}
-
--- literals that were made, and then others
-abbrev pub onto : List Literal → Literals → Literals
-onto [] rest = rest
-onto (l ∷ ls) rest = and_literal l (onto ls rest)
-
-onto_none : (ls : List Literal) → onto ls no_literals ≡ literals ls
-onto_none [] = refl
-onto_none (l ∷ ls) = ap (and_literal l) (onto_none ls)
-
-onto_more : (ls : List Literal) (l : Literal) (rest : Literals) → onto (ls ++ l ∷ []) rest ≡ onto ls (and_literal l rest)
-onto_more [] l rest = refl
-onto_more (a ∷ ls) l rest = ap (and_literal a) (onto_more ls l rest)
+use Rattle.sch_read.specs.Views.{gather, tree_of, data_of}
+use Rattle.sch_read.proofs.DatumSteps.{each_gathered}
+use Rattle.sch_link_tables.specs.Quoted.{list_of, literal_of, literals_of_data, literals_of_parts, ArePartsReady}
 
 module _ (symbols : List (List ℕ)) where
-  pub next_quote : (xs : List text.Datum) (i : ℕ) (d : text.Datum) (all : List Lit) (q : Lit) (r : Literals) → i < length xs → d ≡ get_or xs i d → literal q ≡ literal_of symbols (tree_of d) →
-      onto (map literal all) (literals_of_data symbols (data_of (drop i xs))) ≡ r → onto (map literal (all ++ q ∷ [])) (literals_of_data symbols (data_of (drop (i + 1) xs))) ≡ r
-  next_quote xs i d all q r l is h k =
-      let k' = rw (next_datum xs i d l is) at k in
-      rw (add-one, map-append, onto_more, h) k'
+  abbrev pub quoted : List Datum → List Literal
+  quoted ds = map (literal_of symbols) ds
 
-  pub end_quote : (xs : List text.Datum) (i : ℕ) (all : List Lit) (r : Literals) → length xs ≤ i → onto (map literal all) (literals_of_data symbols (data_of (drop i xs))) ≡ r → literals_of all ≡ r
-  end_quote xs i all r l k =
-      let k' = rw (no_datum xs i l) at k in
-      literals_of_list all ∙ sym (onto_none (map literal all)) ∙ k'
+  quoted_literals : (ds : List Datum) → literals (quoted ds) ≡ literals_of_data symbols (gather ds)
+  quoted_literals [] = refl
+  quoted_literals (d ∷ ds) = ap (and_literal (literal_of symbols d)) (quoted_literals ds)
 
-pub start_quote : (all : List Lit) (rest r : Literals) → all ≡ [] → rest ≡ r → onto (map literal all) rest ≡ r
-start_quote all rest r e h = rw e h
+  -- literals that are those of data
+  pub same_quoted : (ls : List Lit) (items : List text.Datum) → plain ls ≡ quoted (trees_of items) → literals_of ls ≡ literals_of_data symbols (data_of items)
+  same_quoted ls items h = literals_of_list ls ∙ ap literals h ∙ quoted_literals (trees_of items)
+
+  -- where the literals of the data of a list come first
+  module _ (items : List text.Datum) (all more : List Literal) (h : all ≡ quoted (each_of (data_of items)) ++ more) where
+    at_front : all ≡ quoted (trees_of items) ++ more
+    at_front = h ∙ ap (λ ds. quoted ds ++ more) (each_gathered (trees_of items))
+
+    count_quoted : length (quoted (trees_of items)) ≡ length items
+    count_quoted = map_length (literal_of symbols) (trees_of items) ∙ map_length tree_of items
+
+    pub enough : length items ≤ length all
+    enough = let n = ap length at_front in omega (arith, n, length-append (quoted (trees_of items)) more, count_quoted)
+
+    pub front : take (length items) all ≡ quoted (trees_of items)
+    front = ap (λ k. take k all) (sym count_quoted) ∙ ap (take (length (quoted (trees_of items)))) at_front ∙ take-append_seam (quoted (trees_of items)) more
+
+    pub behind : drop (length items) all ≡ more
+    behind = ap (λ k. drop k all) (sym count_quoted) ∙ ap (drop (length (quoted (trees_of items)))) at_front ∙ drop-append_seam (quoted (trees_of items)) more
+
+  -- what is ready for a datum is ready for this one
+  pub ready_as : {d e : Datum} {all : List Literal} → d ≡ e → (ready : ArePartsReady symbols d all) → all ≡ quoted (parts e) ++ ready.0
+  ready_as same ready = ready.1 ∙ ap (λ d. literals_of_parts symbols d ++ ready.0) same
+
+  -- those of a dotted list, and then others
+  pub dotted_front : (ds : Data) (last : Datum) (all more : List Literal) → all ≡ quoted (each_of ds ++ last ∷ []) ++ more → all ≡ quoted (each_of ds) ++ literal_of symbols last ∷ more
+  dotted_front ds last all more h =
+      h ∙ ap (λ l. l ++ more) (map-append (literal_of symbols) (each_of ds) (last ∷ [])) ∙ append_assoc (quoted (each_of ds)) (literal_of symbols last ∷ []) more
 
 -- ## Lists without a dot
 
@@ -55,3 +70,12 @@ some_list items h = rw (literals_of_list items) (go items h)
     go : (items : List Lit) → (length items ≡ 0 → ⊥) → words.list (literals (map literal items)) (words.constant Nil) ≡ list_of (literals (map literal items))
     go [] h = absurd (h refl)
     go (l ∷ ls) h = refl
+
+-- ## Rows: the literals of parts, the one after a dot last
+
+module _ (symbols : List (List ℕ)) (a b c : Datum) where
+  dotted_literals : literals_of_parts symbols (dotted 1 (cons a (cons b none)) c) ≡ literal_of symbols a ∷ literal_of symbols b ∷ literal_of symbols c ∷ []
+  dotted_literals = refl
+
+  vector_literals : literals_of_parts symbols (vector 1 (cons a (cons b none))) ≡ literal_of symbols a ∷ literal_of symbols b ∷ []
+  vector_literals = refl

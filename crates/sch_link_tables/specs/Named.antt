@@ -40,6 +40,11 @@ abbrev pub symbols_of_atom : Atom → List (List ℕ)
 symbols_of_atom (symbol_atom x) = x ∷ []
 symbols_of_atom _ = []
 
+-- the symbol that a datum is itself, if it is one
+abbrev pub symbols_at : Datum → List (List ℕ)
+symbols_at (atom at a) = symbols_of_atom a
+symbols_at _ = []
+
 abbrev mutual
   pub symbols_of_datum : Datum → List (List ℕ)
   symbols_of_datum (atom at a) = symbols_of_atom a

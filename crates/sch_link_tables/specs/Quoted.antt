@@ -1,9 +1,10 @@
 -- The literals of a draft (R5RS 4.1.2): each quotation and each string is an object of its own.
-use Rattle.std.specs.Prelude.{ℕ, List, [], ◌∷◌, ◌++◌}
+use Rattle.std.specs.Prelude.{◌≡◌, ℕ, List, [], ◌∷◌, ◌++◌, map}
 use Rattle.sch_word.specs.declared.constant.Const.TheVariants.{Fixnum, Character, Boolean, Nil, Symbol}
 use Rattle.sch_word.specs.values.Literals as words
 use Rattle.sch_word.specs.values.Literals.{Literal, Literals, no_literals, and_literal, elements}
 use Rattle.sch_read.specs.Grammar.{Atom, boolean, integer, character, text, symbol as symbol_atom, Datum, Data, atom, list, dotted, vector, none, cons}
+use Rattle.sch_read.specs.DatumParts.{parts}
 use Rattle.sch_names.specs.NamesView.{number_of}
 use Rattle.sch_sketch.specs.Draft.{Draft, Drafts, literal}
 use Rattle.sch_sketch.specs.DraftMeasures.{over, over_each}
@@ -31,6 +32,13 @@ module _ (symbols : List (List ℕ)) where
     pub literals_of_data : Data → Literals
     literals_of_data none = no_literals
     literals_of_data (cons x xs) = and_literal (literal_of x) (literals_of_data xs)
+
+  abbrev pub literals_of_parts : Datum → List Literal
+  literals_of_parts d = map literal_of (parts d)
+
+  -- the literals of a datum's parts come first
+  abbrev pub ArePartsReady : Datum → List Literal → Type 0
+  ArePartsReady d ls = (others : List Literal) × (ls ≡ literals_of_parts d ++ others)
 
 -- the datum that a node quotes
 abbrev pub quote_here : Draft → List Datum

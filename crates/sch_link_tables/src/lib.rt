@@ -14,4 +14,4 @@ pub use nodes::{
     bind, branch, call, call_site, constant, grouped, new_site, operation, procedure, site_unless,
 };
 pub use quoting::quote;
-pub use tables::{Output, Table, Tables, global_key, number_in, number_of_32, write_global};
+pub use tables::{Output, Table, Tables, global_key, number_in, write_global};

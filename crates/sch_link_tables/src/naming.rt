@@ -1,47 +1,40 @@
 //! The globals and the symbols that drafts name.
 
 ghost use Rattle.std.specs.Prelude.{◌≡◌, OnOk};
-ghost use Rattle.sch_read.specs.Views.{tree_of, data_of};
+ghost use Rattle.sch_read.specs.Views.{tree_of};
 ghost use Rattle.sch_names.specs.NamesView.{names_of, with_name};
 ghost use Rattle.sch_sketch.specs.DraftView.{draft_of, drafts_of};
 ghost use Rattle.sch_link_tables.specs.Listed.{IsListed, AreListed};
-ghost use Rattle.sch_link_tables.specs.Named.{firsts, global_of, globals_in, globals_in_each, symbols_in, symbols_in_each, symbols_of_datum, symbols_of_data};
+ghost use Rattle.sch_link_tables.specs.Named.{firsts, global_of, globals_in, globals_in_each, symbols_in, symbols_in_each, symbols_at, symbols_of_datum};
 
 use crate::tables::{Table, Tables, write_global};
 use sch_names::Names;
-use sch_read::{Atom, Datum, Node};
+use sch_read::{Datum, data_in_order};
 use sch_sketch::Draft;
 use sch_word::Mem;
 use std::alloc::Global;
+use std::slice;
 
-/// Adds the symbols in a datum.
-#[cycle(spelling)]
-#[tactic(auto, using(crate::proofs::NameSteps::then_named))]
+/// Adds the symbol that a datum is, if it is one.
+fn name_node(alloc: Global, d: &Datum, symbols: &mut Table) -> Result<(), Mem>
+    ensures names { OnOk result (names_of symbols.new.names ≡ firsts (names_of symbols.old.names) (symbols_at (tree_of d.now))) }
+    ensures listed { OnOk result (IsListed symbols.old → IsListed symbols.new) }
+{
+    match d.name() {
+        Some(x) => symbols.insert(alloc, x),
+        None => Ok(()),
+    }
+}
+
+/// Adds the symbols in a datum. The order in which it comes to them lies in memory, so levels take no part of the
+/// machine's stack.
 fn name_datum(alloc: Global, d: &Datum, symbols: &mut Table) -> Result<(), Mem>
     ensures names { OnOk result (names_of symbols.new.names ≡ firsts (names_of symbols.old.names) (symbols_of_datum (tree_of d.now))) }
     ensures listed { OnOk result (IsListed symbols.old → IsListed symbols.new) }
 {
-    match &d.node {
-        Node::Atom(Atom::Symbol(x)) => symbols.insert(alloc, x.as_slice()),
-        Node::Atom(_) => Ok(()),
-        Node::List(items, None) => name_data(alloc, items.as_slice(), symbols),
-        Node::List(items, Some(last)) => {
-            name_data(alloc, items.as_slice(), symbols)?;
-            name_datum(alloc, last, symbols)?;
-            Ok(())
-        }
-        Node::Vector(items) => name_data(alloc, items.as_slice(), symbols),
-    }
-}
-
-/// Adds the symbols in data.
-#[cycle(spelling)]
-fn name_data(alloc: Global, items: &[Datum], symbols: &mut Table) -> Result<(), Mem>
-    ensures names { OnOk result (names_of symbols.new.names ≡ firsts (names_of symbols.old.names) (symbols_of_data (data_of items.now))) }
-    ensures listed { OnOk result (IsListed symbols.old → IsListed symbols.new) }
-{
-    for d in items {
-        name_datum(alloc, d, symbols)?;
+    let order = data_in_order(alloc, slice::from_ref(d))?;
+    for node in order.as_slice() {
+        name_node(alloc, node, symbols)?;
     }
     Ok(())
 }

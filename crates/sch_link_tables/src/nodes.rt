@@ -8,10 +8,10 @@ ghost use Rattle.sch_names.specs.ScopeView.{one_name};
 ghost use Rattle.sch_link_tables.specs.Numbered.{body_name, procedures_of, grouped};
 ghost use Rattle.sch_link_tables.specs.Sites.{unless_group};
 
-use crate::tables::{Output, number_of_32};
+use crate::tables::Output;
 use sch_lang::{Exp, Lambda};
 use sch_names::Name;
-use sch_word::{Bytes, Const, List, Mem, Primitive, add_counts};
+use sch_word::{Bytes, Const, List, Mem, Primitive, add_counts, number_of_count};
 use std::alloc::Global;
 
 /// The number of one more site, which has `width` parts.
@@ -20,8 +20,8 @@ pub fn new_site(out: &mut Output, width: usize) -> Result<u32, Mem>
     ensures sites { OnOk result (out.new.sites ≡ out.old.sites ++ width ∷ []) }
     ensures literals { OnOk result (out.new.literals ≡ out.old.literals) }
 {
-    let site = number_of_32(out.sites.len())?;
-    let width = number_of_32(width)?;
+    let site = number_of_count(out.sites.len())?;
+    let width = number_of_count(width)?;
     out.sites.push(width)?;
     Ok(site)
 }
@@ -43,7 +43,7 @@ pub fn site_unless(group: bool, out: &mut Output, width: usize) -> Result<u32, M
     ensures literals { OnOk result (out.new.literals ≡ out.old.literals) }
 {
     if group {
-        return number_of_32(out.sites.len());
+        return number_of_count(out.sites.len());
     }
     new_site(out, width)
 }
@@ -112,7 +112,7 @@ pub fn procedure(
     ensures { IfOk result (λ q. expression q ≡ tree.lambda (body_name (one_name v.entry)) formals rest (expression body)) }
 {
     let name = body_name(alloc, v)?;
-    let formals = number_of_32(formals)?;
+    let formals = number_of_count(formals)?;
     let l = Box::new(
         alloc,
         Lambda {
@@ -145,9 +145,7 @@ fn procedure_of(alloc: Global, e: Exp) -> Lambda
 fn procedures_of(alloc: Global, es: List<Exp>) -> Result<List<Lambda>, Mem>
     ensures { IfOk result (λ ls. lambdas_of ls ≡ procedures_of (expressions_of es)) }
 {
-    let mut items = es.into_vec();
-    items.reverse();
-    let mut left = List::from_vec(items);
+    let mut left = es.reversed();
     let mut all = List::new(alloc);
     while let Some(e) = left.pop() {
         let l = procedure_of(alloc, e);

@@ -6,7 +6,7 @@ ghost use Rattle.sch_link_tables.specs.Listed.{IsListed, AreListed};
 ghost use Rattle.sch_link_tables.specs.Named.{global_of};
 
 use sch_names::Names;
-use sch_word::{Bytes, List, Lit, Mem};
+use sch_word::{Bytes, List, Lit, Mem, number_of_count};
 use std::alloc::Global;
 
 /// Names in the order of their first occurrences: a table to find their numbers in, and a list of them.
@@ -115,15 +115,5 @@ pub fn global_key(alloc: Global, own: &Names, x: &[u8]) -> Result<Vec<u8>, Mem>
 pub fn number_in(table: &Names, x: &[u8]) -> Result<u32, Mem>
     ensures { IfOk result (λ n. n ≡ number_of x.now (names_of table.now)) }
 {
-    number_of_32(table.number(x))
-}
-
-/// A number as one of 32 bits. A larger one is out of memory.
-pub fn number_of_32(n: usize) -> Result<u32, Mem>
-    ensures { IfOk result (λ m. m ≡ n) }
-{
-    match u32::try_from(n) {
-        Ok(n) => Ok(n),
-        Err(_) => Err(Mem),
-    }
+    number_of_count(table.number(x))
 }

@@ -8,4 +8,5 @@ mod places;
 mod printing;
 
 pub use listing::{Cycle, Listing};
+pub use numbers::{address_digits, write_number_line};
 pub use printing::print_listing;

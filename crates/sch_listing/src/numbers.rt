@@ -29,7 +29,7 @@ pub(crate) fn write_numbers(out: &mut Bytes, numbers: &[u32]) -> Result<(), Mem>
 
 /// Writes a line of a word and a number.
 #[tactic(auto, unfolding(crate::specs::Lines::number_line))]
-pub(crate) fn write_number_line(out: &mut Bytes, word: &[u8], number: u64) -> Result<(), Mem>
+pub fn write_number_line(out: &mut Bytes, word: &[u8], number: u64) -> Result<(), Mem>
     ensures { OnOk result (out.new ≡ out.old ++ number_line word.now number) }
 {
     out.extend_from_slice(word)?;
@@ -46,7 +46,8 @@ pub(crate) fn write_address(out: &mut Bytes, address: u32) -> Result<(), Mem>
     out.extend_from_slice(&digits)
 }
 
-fn address_digits(address: u32) -> [u8; 8]
+/// An address in 8 hexadecimal digits in lower case.
+pub fn address_digits(address: u32) -> [u8; 8]
     ensures { result ≡ address_text address }
 {
     let mut digits = [0; 8];

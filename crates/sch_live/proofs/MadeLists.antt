@@ -9,7 +9,7 @@ use Rattle.sch_control.specs.flow.Bare.{unlisted}
 use Rattle.sch_control.specs.flow.Live.{Perhaps, MayGive, Live, Later, nothing_later}
 use Rattle.sch_control.specs.flow.LiveSets.{HasLiveSets, LiveSets}
 use Rattle.sch_control.specs.flow.LiveTests.{is_live, Behind}
-use Rattle.sch_paths.proofs.paths.LiveByPaths.{then_is, both_same}
+use Rattle.sch_paths.proofs.paths.LiveByPaths.{then_is, both_same, flip}
 use Rattle.sch_paths.proofs.paths.LiveTested.{and_is, differ_is, equal_is, false_is, live_test, match_is, perhaps_is}
 use Rattle.sch_paths.proofs.paths.UnlistedTrees.{live_unlisted, may_give_unlisted}
 use Rattle.sch_live.specs.LiveListed.{in_order, listing_live, lists_in_order, live_behind, live_listed}
@@ -29,9 +29,6 @@ same_test true c f = sym (f.0 refl)
 same_test false true f = f.1 refl
 same_test false false f = refl
 
-swap : {A B : Type 0} → A ↔ B → B ↔ A
-swap f = (f.1, f.0)
-
 -- ## The lists
 
 module _ (n : ℕ) where
@@ -39,7 +36,7 @@ module _ (n : ℕ) where
       → (listed : List ℕ) → ((x : ℕ) → (has x listed ≡ true) ↔ (Met × Perhaps (L x))) → in_order n listed ≡ live_behind n m l
   at_call m Met g l L f listed h =
       ap (λ test. filter test (numbers 0 n))
-      (fun_ext (λ x. same_test _ _ (then_is (h x) (swap (then_is (and_is m _) (both_same g (perhaps_is (l x) (L x) (f x))))))))
+      (fun_ext (λ x. same_test _ _ (then_is (h x) (flip (then_is (and_is m _) (both_same g (perhaps_is (l x) (L x) (f x))))))))
 
   made : (e : Expression) (m : Bool) (Met : Type 0) → (m ≡ true) ↔ Met → (l : Behind) (L : Later) → ((x : ℕ) (t : Bool) → (l x t ≡ true) ↔ L x t)
       → LiveSets e Met L → lists_in_order n e ≡ listing_live n m (unlisted e) l

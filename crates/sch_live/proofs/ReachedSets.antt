@@ -10,7 +10,7 @@ use Rattle.sch_control.specs.flow.Live.{Perhaps, known, ByResult, Across, MayGiv
 use Rattle.sch_control.specs.flow.LiveSets.{LiveSets}
 use Rattle.sch_paths.proofs.paths.LiveByPaths.{then_is, either_same, both_same}
 use Rattle.sch_paths.proofs.paths.LiveTested.{and_is, or_is}
-use Rattle.sch_paths.proofs.paths.UnlistedTrees.{live_unlisted, may_give_unlisted}
+use Rattle.sch_paths.proofs.paths.UnlistedTrees.{live_unlisted, may_give_unlisted, LiveBefore}
 use Rattle.sch_live.specs.BackwardSets.{ListsAllLive}
 use Rattle.sch_live.specs.Reached.{may_be, gives, where_reached}
 
@@ -52,10 +52,7 @@ reached_unlisted m (return e) = rw (reached_unlisted m e) refl
 reached_unlisted m (end e) = rw (reached_unlisted m e) refl
 reached_unlisted m (save saves e) = rw (reached_unlisted m e) refl
 
-abbrev Behind : Expression → Later → ℕ → Type 0
-Behind e L x = Live x e (L x)
-
-behind_reached : (m : Bool) (e : Expression) (L : Later) → Behind (where_reached m e) L ≡ Behind e L
+behind_reached : (m : Bool) (e : Expression) (L : Later) → LiveBefore (where_reached m e) L ≡ LiveBefore e L
 behind_reached m e L =
     fun_ext (λ x. sym (live_unlisted x (where_reached m e) (L x)) ∙ (ap (λ z. Live x z (L x)) (reached_unlisted m e) ∙ live_unlisted x e (L x)))
 

@@ -11,10 +11,10 @@ use Rattle.sch_control.specs.AtomsAndSites.{operands_sites}
 use Rattle.sch_control.specs.flow.Bare.{erased}
 use Rattle.sch_control.specs.Tree.{Code, Expression, perform, bind, sequence, branch, fix, call, tail_call, return, end, save, Source}
 use Rattle.sch_control.specs.Valid.{sites_of, sites_of_each, sites_once}
+use Rattle.sch_control.proofs.NumberRows.{permutation_length}
 use Rattle.sch_orders.specs.declared.listed_call.ListedCall.{ListedCall}
 use Rattle.sch_orders.specs.ListedCalls.{listed_calls}
 use Rattle.sch_orders.specs.ListedTable.{call_fits, calls_fit}
-use Rattle.sch_orders.proofs.EachOnce.{permutation_length}
 
 -- what calls save and restore has no sites
 pub sites_erased : (e : Expression) → sites_of (erased e) ≡ sites_of e

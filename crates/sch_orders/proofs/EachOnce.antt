@@ -1,16 +1,17 @@
 -- Lists in which each number below their length stands once; and what is bound and then the others.
 use Rattle.std.proofs.Common.{◌≡◌, ℕ, zero, suc, ◌+◌, ◌<◌, ◌≤◌, Bool, true, false, cond, List, [], ◌∷◌, ◌++◌, length, refl, sym, ap, ◌∙◌, arith, length-append}
 use Rattle.std.specs.Prelude.{nat_eq, nat_lt}
-use Rattle.std.specs.List.{count_by, list_all}
-use Rattle.std.proofs.lemmas.Bool.{eq-eqb, eqb-true, eqb-false}
+use Rattle.std.specs.List.{count_by}
+use Rattle.std.proofs.lemmas.Bool.{eqb-true, eqb-false}
 use Rattle.std.proofs.lemmas.Bool.Decides.{nat_tests}
 use Rattle.std.proofs.lemmas.List.Sums.{count_by-le-length, sum_by-append, sum_by-cons}
 use Rattle.sch_word.specs.trees.Bindings.{numbers}
 use Rattle.sch_word.specs.trees.NumberSets.{has, unless}
 use Rattle.sch_word.specs.runs.Orders.{is_permutation}
-use Rattle.sch_word.proofs.facts.Booleans.{and_of, and_parts}
-use Rattle.sch_word.proofs.facts.Occurrences.{one, one_other, times, times_append, times_cons, times_none}
+use Rattle.sch_word.proofs.facts.Occurrences.{one, times, times_append, times_cons, times_none}
 use Rattle.sch_control.specs.OrderTable.{given_order, others}
+use Rattle.sch_control.proofs.FittingTable.{times_others}
+use Rattle.sch_control.proofs.NumberRows.{permuted, permutation_times, permutation_length}
 use Rattle.sch_orders.specs.ListedTable.{evaluated}
 
 -- ## How many of some numbers are below another one
@@ -63,34 +64,6 @@ more_below (suc n) xs h k l = by (nat_eq k n) refl (λ m. more_below n xs (λ j 
 
 -- ## Permutations
 
-each_of : (f : ℕ → Bool) (x n : ℕ) → ((k : ℕ) → k < x + n → f k ≡ true) → list_all f (numbers x n) ≡ true
-each_of f x zero h = refl
-each_of f x (suc n) h = and_of (f x) (list_all f (numbers (suc x) n)) (h x (omega arith)) (each_of f (suc x) n (λ k l. h k (omega (arith, l))))
-
-one_of : (f : ℕ → Bool) (x n k : ℕ) → list_all f (numbers x n) ≡ true → x ≤ k → k < x + n → f k ≡ true
-one_of f x zero k h from to = absurd (omega (arith, from, to))
-one_of f x (suc n) k h from to = by (nat_eq k x) refl (λ m. one_of f (suc x) n k parts.1 m (omega (arith, to)))
-  where
-    parts : (f x ≡ true) × (list_all f (numbers (suc x) n) ≡ true)
-    parts = and_parts (f x) (list_all f (numbers (suc x) n)) h
-
-    by : (b : Bool) → nat_eq k x ≡ b → (suc x ≤ k → f k ≡ true) → f k ≡ true
-    by true e later = ap f (eqb-true k x e) ∙ parts.0
-    by false e later = later (omega (arith, from, eqb-false k x e))
-
-permuted : (n : ℕ) (xs : List ℕ) → length xs ≡ n → ((k : ℕ) → k < n → times k xs ≡ 1) → is_permutation n xs ≡ true
-permuted n xs whole once =
-    and_of (nat_eq (length xs) n) (list_all (λ k. nat_eq (times k xs) 1) (numbers 0 n)) (eq-eqb (length xs) n whole)
-    (each_of (λ k. nat_eq (times k xs) 1) 0 n (λ k l. eq-eqb (times k xs) 1 (once k (omega (arith, l)))))
-
-pub permutation_length : (n : ℕ) (xs : List ℕ) → is_permutation n xs ≡ true → length xs ≡ n
-permutation_length n xs h = eqb-true (length xs) n (and_parts (nat_eq (length xs) n) (list_all (λ k. nat_eq (times k xs) 1) (numbers 0 n)) h).0
-
-permutation_times : (n : ℕ) (xs : List ℕ) → is_permutation n xs ≡ true → (k : ℕ) → k < n → times k xs ≡ 1
-permutation_times n xs h k l =
-    eqb-true (times k xs) 1
-    (one_of (λ k. nat_eq (times k xs) 1) 0 n k (and_parts (nat_eq (length xs) n) (list_all (λ k. nat_eq (times k xs) 1) (numbers 0 n)) h).1 (omega arith) (omega (arith, l)))
-
 -- as many numbers as there are below their number, among which each of those stands
 pub each_once : (n : ℕ) (xs : List ℕ) → length xs ≡ n → ((k : ℕ) → k < n → 1 ≤ times k xs) → is_permutation n xs ≡ true
 each_once n xs whole there =
@@ -100,26 +73,6 @@ each_once n xs whole there =
     let few = count_by-le-length (λ x. nat_lt x n) xs in omega (arith, more, t, few, whole))
 
 -- ## What is not among some numbers
-
-times_others : (k : ℕ) (parts ks : List ℕ) → times k (others parts ks) ≡ cond (has k parts) 0 (times k ks)
-times_others k parts [] = by (has k parts)
-  where
-    by : (b : Bool) → 0 ≡ cond {A = ℕ} b 0 0
-    by true = refl
-    by false = refl
-times_others k parts (x ∷ ks) = by (nat_eq x k) refl (has x parts) refl (times_others k parts ks)
-  where
-    by : (b : Bool) → nat_eq x k ≡ b → (c : Bool) → has x parts ≡ c → times k (others parts ks) ≡ cond (has k parts) 0 (times k ks)
-        → times k (unless c x (others parts ks)) ≡ cond (has k parts) 0 (times k (x ∷ ks))
-    by true e true i h = let m = eqb-true x k e in let j : has k parts ≡ true = ap (λ z. has z parts) (sym m) ∙ i in rw j (h ∙ rw j refl)
-    by true e false i h =
-        let m = eqb-true x k e in
-        let j : has k parts ≡ false = ap (λ z. has z parts) (sym m) ∙ i in
-        rw j (times_cons k x (others parts ks) ∙ (ap (λ n. one k x + n) (h ∙ rw j refl) ∙ sym (times_cons k x ks)))
-    by false e true i h = h ∙ ap (λ n. cond (has k parts) 0 n) (let o = one_other k x (eqb-false x k e) in omega (arith, o, times_cons k x ks))
-    by false e false i h =
-        let o = one_other k x (eqb-false x k e) in
-        omega (arith, o, times_cons k x (others parts ks)) ∙ (h ∙ ap (λ n. cond (has k parts) 0 n) (omega (arith, o, times_cons k x ks)))
 
 -- all of them are below n where all of the list are
 others_below : (n : ℕ) (parts ks : List ℕ) → below n ks ≡ length ks → below n (others parts ks) ≡ length (others parts ks)

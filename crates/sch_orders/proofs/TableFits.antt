@@ -1,8 +1,8 @@
 -- The order table that is listed fits.
-use Rattle.std.proofs.Common.{◌≡◌, ℕ, zero, suc, ◌<◌, Bool, true, List, [], ◌∷◌, ◌++◌, length, get_or, Option, Some, None, refl, sym, ap, ◌∙◌, subst, arith}
-use Rattle.std.specs.Prelude.{nat_eq, ◌&&◌, slice_get, slice_set}
+use Rattle.std.proofs.Common.{◌≡◌, ℕ, zero, suc, ◌<◌, Bool, true, List, [], ◌∷◌, length, get_or, Option, Some, None, refl, sym, ap, ◌∙◌, subst, arith}
+use Rattle.std.specs.Prelude.{◌&&◌, slice_get, slice_set}
 use Rattle.std.specs.List.{list_all}
-use Rattle.std.proofs.lemmas.Bool.{eq-eqb, eqb-true}
+use Rattle.std.proofs.lemmas.Bool.{eqb-true}
 use Rattle.sch_word.specs.runs.Orders.{is_permutation, order_at}
 use Rattle.sch_word.specs.trees.Shape.{is_width}
 use Rattle.sch_word.proofs.facts.Booleans.{and_of, and_parts}
@@ -10,14 +10,10 @@ use Rattle.sch_control.specs.Fits.{begins_with, fits, table_fits}
 use Rattle.sch_control.specs.OrderTable.{given_order, given_orders, given_table}
 use Rattle.sch_control.specs.Tree.{Source}
 use Rattle.sch_control.specs.Valid.{bound_known}
-use Rattle.sch_control.proofs.FittingTable.{given_table_fits}
+use Rattle.sch_control.proofs.FittingTable.{given_table_fits, begins_itself}
 use Rattle.sch_orders.specs.declared.listed_call.ListedCall.{ListedCall}
 use Rattle.sch_orders.specs.ListedTable.{call_fits, calls_fit, evaluated, listed_table, with_call, with_calls}
 use Rattle.sch_orders.proofs.EachOnce.{evaluated_once}
-
-begins_itself : (xs ys : List ℕ) → begins_with xs (xs ++ ys) ≡ true
-begins_itself [] ys = refl
-begins_itself (x ∷ xs) ys = and_of (nat_eq x x) (begins_with xs (xs ++ ys)) (eq-eqb x x refl) (begins_itself xs ys)
 
 width_is : (o : Option ℕ) (width : ℕ) → is_width o width ≡ true → o ≡ Some width
 width_is (Some listed) width h = ap Some (eqb-true listed width h)

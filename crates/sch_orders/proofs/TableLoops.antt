@@ -1,15 +1,12 @@
 -- The turns of the loops that make the order table.
-use Rattle.std.proofs.Common.{◌≡◌, ℕ, suc, ◌+◌, ◌<◌, ◌≤◌, Bool, true, false, List, [], ◌∷◌, ◌++◌, length, drop, get_or, refl, sym, ap, ◌∙◌, subst, add-one, append_assoc, append-nil}
+use Rattle.std.proofs.Common.{◌≡◌, ℕ, suc, ◌+◌, ◌<◌, ◌≤◌, List, [], ◌∷◌, ◌++◌, length, drop, get_or, sym, ap, ◌∙◌, subst, add-one, append_assoc, append-nil}
 use Rattle.std.proofs.lemmas.List.{drop_all, get_or_default}
 use Rattle.sch_word.specs.trees.NumberSets.{has, unless}
 use Rattle.sch_word.proofs.Walking.{next_is}
 use Rattle.sch_control.specs.OrderTable.{others}
+use Rattle.sch_control.proofs.OrderLists.{unless_append}
 use Rattle.sch_orders.specs.declared.listed_call.ListedCall.{ListedCall}
 use Rattle.sch_orders.specs.ListedTable.{with_call, with_calls}
-
-unless_append : (b : Bool) (k : ℕ) (xs : List ℕ) → unless b k [] ++ xs ≡ unless b k xs
-unless_append true k xs = refl
-unless_append false k xs = refl
 
 pub evaluated_turn : (bound order all all' whole : List ℕ) (i : ℕ) → i < length order → all' ≡ all ++ unless (has (get_or order i 0) bound) (get_or order i 0) []
     → all ++ others bound (drop i order) ≡ whole → all' ++ others bound (drop (i + 1) order) ≡ whole

@@ -3,6 +3,7 @@ pub mod Runs
 pub mod FirstFault
 pub mod Longest
 pub mod DataLists
+pub mod DatumSteps
 pub mod FrameStack
 pub mod CappedNumbers
 pub mod Weights

@@ -5,6 +5,7 @@ pub mod ErrorFault
 pub mod Text
 pub mod Parser
 pub mod Views
+pub mod DatumParts
 pub mod Parts
 pub mod Answer
 pub mod Valid

@@ -1,5 +1,5 @@
 -- What is left to do while data are let go, in numbers.
-use Rattle.std.specs.Prelude.{ℕ, ◌+◌, ◌*◌, Option, Some, None}
+use Rattle.std.specs.Prelude.{ℕ, Option, Some, None}
 use Rattle.std.specs.Global.{Box}
 use Rattle.sch_read.specs.Valid.{weight}
 use Rattle.sch_read.specs.Views.{tree_of}
@@ -14,8 +14,3 @@ weight_next (Some d) = weight (tree_of d)
 abbrev pub weight_last : Option (Box Datum) → ℕ
 weight_last None = 0
 weight_last (Some d) = weight (tree_of d.value)
-
--- It falls with each step: either all data together weigh less, or they weigh the same and the next
--- one less.
-abbrev pub effort : (next rest : ℕ) → ℕ
-effort next rest = (next + rest) * (next + rest) + next

@@ -2,6 +2,7 @@
 #![tactic(auto)]
 
 mod datum;
+mod datum_order;
 mod error;
 mod identifier;
 mod integer_token;
@@ -18,6 +19,7 @@ mod token;
 mod trees;
 
 pub use datum::{Atom, Datum, Node};
+pub use datum_order::data_in_order;
 pub use error::ReadError;
 pub use laws::{
     a_text_has_one_fault, a_text_spells_data_or_has_a_fault, a_text_spells_one_list_of_data,

@@ -6,7 +6,7 @@ ghost use Rattle.sch_read.specs.Text.{max_nesting};
 use crate::datum::Datum;
 use crate::error::{ReadError, flawed};
 use crate::token::{Flaw, Opener, Placed, Token};
-use crate::trees::{append_reversed, elements, listed, plain, quote, tailed, turned};
+use crate::trees::{append_reversed, elements, listed, plain, quote, tailed};
 use sch_word::{List, Mem};
 use std::alloc::Global;
 
@@ -72,7 +72,7 @@ impl Parser {
                     return Ok(());
                 }
                 Frame::AfterDot(at, items) => {
-                    self.frames.push(Frame::Tail(at, turned(items), d))?;
+                    self.frames.push(Frame::Tail(at, items.reversed(), d))?;
                     return Ok(());
                 }
                 Frame::Tail(at, items, last) => {
@@ -254,11 +254,11 @@ impl Parser {
             }
             Some(frame) => {
                 self.frames.push(frame)?;
-                let whole = tailed(self.alloc, place, turned(items), last)?;
+                let whole = tailed(self.alloc, place, items.reversed(), last)?;
                 self.put(whole)
             }
             None => {
-                let whole = tailed(self.alloc, place, turned(items), last)?;
+                let whole = tailed(self.alloc, place, items.reversed(), last)?;
                 self.put(whole)
             }
         }

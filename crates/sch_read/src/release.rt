@@ -1,7 +1,8 @@
 //! The end of data, however deep: a loop that takes no memory.
 
 ghost use Rattle.std.specs.Prelude.{◌≡◌, ◌+◌, ◌<◌, [], length, IfNone, IsSome};
-ghost use Rattle.sch_read.specs.ReleaseEffort.{effort, weight_next, weight_last};
+ghost use Rattle.sch_read.specs.ReleaseEffort.{weight_next, weight_last};
+ghost use Rattle.sch_word.specs.values.Effort.{effort};
 ghost use Rattle.sch_read.specs.Valid.{weight, weights};
 ghost use Rattle.sch_read.specs.Views.{tree_of, data_of};
 

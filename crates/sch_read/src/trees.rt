@@ -69,15 +69,6 @@ pub(crate) fn tailed(alloc: Global, at: u32, items: List<Datum>, last: Datum) ->
     }
 }
 
-/// The data in reverse.
-pub(crate) fn turned(items: List<Datum>) -> List<Datum>
-    ensures { result ≡ reverse items }
-{
-    let mut items = items.into_vec();
-    items.reverse();
-    List::from_vec(items)
-}
-
 /// The data of `before`, the last first, behind those of `onto`.
 pub(crate) fn append_reversed(before: List<Datum>, onto: List<Datum>) -> Result<List<Datum>, Mem>
     ensures { IfOk result (λ items. items ≡ onto ++ reverse before) }

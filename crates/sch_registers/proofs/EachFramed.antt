@@ -8,6 +8,7 @@ use Rattle.std.proofs.lemmas.List.{append-nil, append_assoc, take_all, take_more
 use Rattle.std.proofs.lemmas.List.Concat.{flat_map-append}
 use Rattle.sch_orders.specs.declared.listed_call.ListedCall.{ListedCall}
 use Rattle.sch_word.specs.trees.Shape.{max_operands}
+use Rattle.sch_word.proofs.facts.Lists.{some_same}
 use Rattle.sch_control.specs.declared.body.Body.{Body}
 use Rattle.sch_control.specs.Covered as control_covered
 use Rattle.sch_control.specs.Sizes.{most_variables}
@@ -134,9 +135,7 @@ covered_within cs fs h all = subst (λ n. n ≤ max_operands + most_variables cs
 -- the body of each way is one of them
 one_called : (cs : List tree.Code) (fs : List Code) → AreFramedBodies cs fs → (i : ℕ) (f : Code) → slice_get fs i ≡ Some f → CallsItsSaves f
 one_called [] [] h i f e = absurd (cc)
-one_called (c ∷ cs) (g ∷ fs) h zero f e = subst CallsItsSaves (some_same e) h.0.called where
-  some_same : {A : Type 0} {a b : A} → Some a ≡ Some b → a ≡ b
-  some_same e = cc
+one_called (c ∷ cs) (g ∷ fs) h zero f e = subst CallsItsSaves (some_same e) h.0.called
 one_called (c ∷ cs) (g ∷ fs) h (suc i) f e = one_called cs fs h.1 i f e
 one_called [] (g ∷ fs) h i f e = absurd h
 one_called (c ∷ cs) [] h i f e = absurd h

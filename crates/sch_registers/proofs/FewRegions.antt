@@ -3,7 +3,6 @@ use Rattle.std.proofs.Common.{◌≡◌, ℕ, ◌≤◌, Bool, true, false, List
 use Rattle.std.specs.Prelude.{nat_lt, ◌||◌, ◌&&◌, not, filter}
 use Rattle.std.specs.Bool.{MatchBool}
 use Rattle.std.specs.List.{list_all}
-use Rattle.std.proofs.Math.Path.{fun_ext}
 use Rattle.sch_word.specs.declared.place.Place.{Place}
 use Rattle.sch_word.specs.trees.Bindings.{numbers}
 use Rattle.sch_word.specs.trees.NumberSets.{has, unless}
@@ -21,17 +20,16 @@ use Rattle.sch_control.specs.flow.LiveTests.{Behind}
 use Rattle.sch_control.specs.flow.Paths.{Event, References, Saves, IsPath, binding, calls, grouping}
 use Rattle.sch_control.specs.flow.Regions.{regions_apart}
 use Rattle.sch_control.proofs.NumberLists.{has_filter}
+use Rattle.sch_control.proofs.VariableLists.{each_of}
 use Rattle.sch_layout.specs.BodyLayout.{Plan}
 use Rattle.sch_layout.specs.FewCopies.{MayStand, in_registers}
 use Rattle.sch_paths.specs.Exact.{ArmsSave, SavesNeeds}
 use Rattle.sch_paths.specs.Regions.{HeadsLive, regions_stand}
 use Rattle.sch_paths.proofs.paths.MeetsByCases.{has_path}
 use Rattle.sch_paths.proofs.paths.UnlistedPaths.{heads_unlisted}
-use Rattle.sch_paths.proofs.paths.UnlistedTrees.{live_unlisted, may_give_unlisted}
-use Rattle.sch_paths.proofs.saves.LiveHeads.{head_is}
-use Rattle.sch_paths.proofs.saves.SavedAndRestored.{calls_append}
-use Rattle.sch_paths.proofs.saves.TwoSets.{binding_calls, either, grouping_calls, references_call, saves_call}
-use Rattle.sch_regs.proofs.ApartAtPoints.{each_of}
+use Rattle.sch_paths.proofs.paths.UnlistedTrees.{may_give_unlisted, both_are, behind_unlisted}
+use Rattle.sch_paths.proofs.saves.LiveHeads.{head_is, call_in, call_behind}
+use Rattle.sch_paths.proofs.saves.TwoSets.{binding_calls, grouping_calls, references_call, saves_call}
 use Rattle.sch_homes.specs.FewKept.{KeepsFew}
 use Rattle.sch_restores.specs.Restores.{eager}
 use Rattle.sch_restores.proofs.EagerSteps.{once_first}
@@ -39,14 +37,8 @@ use Rattle.sch_restores.proofs.EagerTrees.{unlisted_eager}
 
 -- ## A path with a call that lists something comes from where a path comes
 
-in_both : (x : ℕ) (es xs ys : List Event) → es ≡ xs ++ ys → calls x es ≡ true → (calls x xs ≡ true) ⊎ (calls x ys ≡ true)
-in_both x es xs ys e h = either (calls x xs) (calls x ys) (sym (calls_append x xs ys) ∙ (sym (ap (calls x) e) ∙ h))
-
-in_rest : (x : ℕ) (es xs ys : List Event) → es ≡ xs ++ ys → calls x xs ≡ false → calls x es ≡ true → calls x ys ≡ true
-in_rest x es xs ys e n h = elim (in_both x es xs ys e h) [ inl f ↦ absurd (false_true f n) | inr s ↦ s ]
-
 in_front : (x : ℕ) (es xs ys : List Event) → es ≡ xs ++ ys → calls x ys ≡ false → calls x es ≡ true → calls x xs ≡ true
-in_front x es xs ys e n h = elim (in_both x es xs ys e h) [ inl f ↦ f | inr s ↦ absurd (false_true s n) ]
+in_front x es xs ys e n h = elim (call_in x es xs ys e h) [ inl f ↦ f | inr s ↦ absurd (false_true s n) ]
 
 listed_there : (b : Bool) → (b || false) ≡ true → b ≡ true
 listed_there true h = refl
@@ -54,15 +46,15 @@ listed_there false h = absurd (cc)
 
 met_called : (x : ℕ) (inside : ℕ → Bool) (e : Expression) (Met : Type 0) (L : Later) → LiveSets e Met L → (es : List Event) (r : Bool) → IsPath inside e es r → calls x es ≡ true → Met
 met_called x inside (perform o) Met L sets es r path h = absurd (false_true h (ap (calls x) path.0 ∙ references_call x (named (operation_atoms o))))
-met_called x inside (bind y a b) Met L sets es r path h = elim (in_both x es path.0 _ path.5 h) [
+met_called x inside (bind y a b) Met L sets es r path h = elim (call_in x es path.0 _ path.5 h) [
   | inl f ↦ met_called x inside a Met _ sets.0 path.0 path.2 path.3 f
-  | inr s ↦ met_called x inside b Met L sets.1 path.1 r path.4 (in_rest x _ (binding inside y) path.1 refl (binding_calls x inside y) s)
+  | inr s ↦ met_called x inside b Met L sets.1 path.1 r path.4 (call_behind x _ (binding inside y) path.1 refl (binding_calls x inside y) s)
 ]
-met_called x inside (sequence a b) Met L sets es r path h = elim (in_both x es path.0 _ path.5 h) [
+met_called x inside (sequence a b) Met L sets es r path h = elim (call_in x es path.0 _ path.5 h) [
   | inl f ↦ met_called x inside a Met _ sets.0 path.0 path.2 path.3 f
   | inr s ↦ met_called x inside b Met L sets.1 path.1 r path.4 s
 ]
-met_called x inside (branch a b c) Met L sets es r path h = elim (in_both x es path.0 _ path.5 h) [
+met_called x inside (branch a b c) Met L sets es r path h = elim (call_in x es path.0 _ path.5 h) [
   | inl f ↦ met_called x inside a Met _ sets.0 path.0 path.2 path.3 f
   | inr s ↦ by path.2 path.4 (λ arm. (met_called x inside b (Met × MayGive a true) L sets.1.0 path.1 r arm s).0)
       (λ arm. (met_called x inside c (Met × MayGive a false) L sets.1.1 path.1 r arm s).0)
@@ -71,15 +63,15 @@ met_called x inside (branch a b c) Met L sets es r path h = elim (in_both x es p
   by true arm f g = f arm
   by false arm f g = g arm
 met_called x inside (fix members e) Met L sets es r path h =
-    met_called x inside e Met L sets path.0 r path.1 (in_rest x es (grouping inside members) path.0 path.2 (grouping_calls x inside members) h)
+    met_called x inside e Met L sets path.0 r path.1 (call_behind x es (grouping inside members) path.0 path.2 (grouping_calls x inside members) h)
 met_called x inside (call a listed) Met L sets es r path h =
-    ((sets x).0 (listed_there (has x listed) (in_rest x es (map References (named (application_atoms a))) _ path (references_call x (named (application_atoms a))) h))).0
+    ((sets x).0 (listed_there (has x listed) (call_behind x es (map References (named (application_atoms a))) _ path (references_call x (named (application_atoms a))) h))).0
 met_called x inside (tail_call a) Met L sets es r path h =
-    absurd (false_true (in_rest x es (map References (named (application_atoms a))) _ path (references_call x (named (application_atoms a))) h) refl)
+    absurd (false_true (call_behind x es (map References (named (application_atoms a))) _ path (references_call x (named (application_atoms a))) h) refl)
 met_called x inside (return e) Met L sets es r path h = met_called x inside e Met _ sets path.0 path.1 path.2 (in_front x es path.0 _ path.3 refl h)
 met_called x inside (end e) Met L sets es r path h = met_called x inside e Met _ sets path.0 path.1 path.2 (in_front x es path.0 _ path.3 refl h)
 met_called x inside (save saves e) Met L sets es r path h =
-    met_called x (with_region saves inside) e Met L sets path.0 r path.1 (in_rest x es (map Saves (heads e saves)) path.0 path.2 (saves_call x (heads e saves)) h)
+    met_called x (with_region saves inside) e Met L sets path.0 r path.1 (call_behind x es (map Saves (heads e saves)) path.0 path.2 (saves_call x (heads e saves)) h)
 
 -- ## Points
 
@@ -97,33 +89,24 @@ module _ (place : ℕ → Place) where
   start_apart (end e) Met L p met = start_apart e Met _ p met
   start_apart (save saves e) Met L p met = start_apart e Met L p met
 
-  abbrev Begins : Expression → Later → ℕ → Type 0
-  Begins e L x = Live x e (L x)
-
-  begins_unlisted : (e : Expression) (L : Later) → Begins (unlisted e) L ≡ Begins e L
-  begins_unlisted e L = fun_ext (λ x. live_unlisted x e (L x))
-
-  both_are : {A B C D : Type 0} → A ≡ C → B ≡ D → (A × B) ≡ (C × D)
-  both_are {B = B} {C = C} e f = ap (λ A. A × B) e ∙ ap (λ B. C × B) f
-
   points_unlisted : (e : Expression) (Met : Type 0) (L : Later) → PointsApart place (unlisted e) Met L ≡ PointsApart place e Met L
   points_unlisted (perform o) Met L = refl
   points_unlisted (bind y a b) Met L =
-      both_are (ap (λ P. PointsApart place (unlisted a) Met (λ x t. Across y x (P x))) (begins_unlisted b L) ∙ points_unlisted a Met (λ x t. Across y x (Live x b (L x))))
+      both_are (ap (λ P. PointsApart place (unlisted a) Met (λ x t. Across y x (P x))) (behind_unlisted b L) ∙ points_unlisted a Met (λ x t. Across y x (Live x b (L x))))
       (points_unlisted b Met L)
   points_unlisted (sequence a b) Met L =
-      both_are (ap (λ P. PointsApart place (unlisted a) Met (λ x t. P x)) (begins_unlisted b L) ∙ points_unlisted a Met (λ x t. Live x b (L x))) (points_unlisted b Met L)
+      both_are (ap (λ P. PointsApart place (unlisted a) Met (λ x t. P x)) (behind_unlisted b L) ∙ points_unlisted a Met (λ x t. Live x b (L x))) (points_unlisted b Met L)
   points_unlisted (branch a b c) Met L =
       both_are
-      (ap (λ P. PointsApart place (unlisted a) Met (λ x t. MatchBool t (P x) (Live x (unlisted c) (L x)))) (begins_unlisted b L)
-      ∙ (ap (λ P. PointsApart place (unlisted a) Met (λ x t. MatchBool t (Live x b (L x)) (P x))) (begins_unlisted c L)
+      (ap (λ P. PointsApart place (unlisted a) Met (λ x t. MatchBool t (P x) (Live x (unlisted c) (L x)))) (behind_unlisted b L)
+      ∙ (ap (λ P. PointsApart place (unlisted a) Met (λ x t. MatchBool t (Live x b (L x)) (P x))) (behind_unlisted c L)
       ∙ points_unlisted a Met (λ x t. MatchBool t (Live x b (L x)) (Live x c (L x)))))
       (both_are
       (ap (λ M. PointsApart place (unlisted b) (Met × M) L) (may_give_unlisted a true) ∙ points_unlisted b (Met × MayGive a true) L)
       (ap (λ M. PointsApart place (unlisted c) (Met × M) L) (may_give_unlisted a false) ∙ points_unlisted c (Met × MayGive a false) L))
   points_unlisted (fix members e) Met L =
-      both_are (ap (λ P. Met → Apart place (λ x. (has x (member_variables members) ≡ false) × ((has x (named (member_atoms members)) ≡ true) ⊎ P x))) (begins_unlisted e L))
-      (both_are (ap (λ P. Met → Apart place (λ x. (has x (named (member_atoms members)) ≡ true) ⊎ P x)) (begins_unlisted e L)) (points_unlisted e Met L))
+      both_are (ap (λ P. Met → Apart place (λ x. (has x (member_variables members) ≡ false) × ((has x (named (member_atoms members)) ≡ true) ⊎ P x))) (behind_unlisted e L))
+      (both_are (ap (λ P. Met → Apart place (λ x. (has x (named (member_atoms members)) ≡ true) ⊎ P x)) (behind_unlisted e L)) (points_unlisted e Met L))
   points_unlisted (call a restores) Met L = refl
   points_unlisted (tail_call a) Met L = refl
   points_unlisted (return e) Met L = points_unlisted e Met (λ x t. x ≡ 0)

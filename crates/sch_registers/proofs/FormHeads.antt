@@ -1,37 +1,22 @@
 -- A form has nothing to save as it begins: nothing is bound before it, and it does not return.
-use Rattle.std.proofs.Common.{◌≡◌, ℕ, Bool, true, false, List, [], ◌∷◌, Option, Some, None, refl, ap, sym, ◌∙◌, inl, inr}
+use Rattle.std.proofs.Common.{◌≡◌, ℕ, Bool, true, false, List, [], ◌∷◌, refl, ap, sym, ◌∙◌, inl, inr}
 use Rattle.std.specs.Prelude.{nat_eq, ◌||◌}
 use Rattle.std.specs.Bool.{MatchBool}
-use Rattle.std.proofs.lemmas.Bool.{eqb-true, eq-eqb, ne_eqb}
+use Rattle.std.proofs.lemmas.Bool.{eq-eqb, ne_eqb}
 use Rattle.sch_word.specs.trees.NumberSets.{has}
 use Rattle.sch_word.proofs.facts.Booleans.{and_left, and_right, false_true, or_left, or_right}
-use Rattle.sch_control.specs.declared.operation.Atom.{Atom}
-use Rattle.sch_control.specs.declared.operation.Atom.TheVariants.{Constant, Literal, Variable}
 use Rattle.sch_control.specs.AtomsAndSites.{application_atoms, member_atoms, operation_atoms}
 use Rattle.sch_control.specs.Tree.{Expression, perform, bind, sequence, branch, fix, call, tail_call, return, end, save}
 use Rattle.sch_control.specs.Valid.{Position, value, no_call, form_end, ends_form, ends_procedure, in_scope, in_scope_atoms, positioned, with_members, with_variable}
-use Rattle.sch_control.specs.flow.Live.{ByResult, Across, Live, Mentions, known, named}
-use Rattle.sch_paths.proofs.saves.LiveInScope.{outer_scope}
-
-mentioned_scope : (scope : ℕ → Bool) (atoms : List (Atom ℕ)) → in_scope_atoms scope atoms ≡ true → (x : ℕ) → Mentions x atoms → scope x ≡ true
-mentioned_scope scope [] i x m = absurd (cc)
-mentioned_scope scope (Constant c ∷ atoms) i x m = mentioned_scope scope atoms i x m
-mentioned_scope scope (Literal n ∷ atoms) i x m = mentioned_scope scope atoms i x m
-mentioned_scope scope (Variable y ∷ atoms) i x m = by (nat_eq x y) refl (mentioned_scope scope atoms (and_right (scope y) _ i) x) m where
-  by : (t : Bool) → nat_eq x y ≡ t → (Mentions x atoms → scope x ≡ true) → (t || has x (named atoms)) ≡ true → scope x ≡ true
-  by true e f h = ap scope (eqb-true x y e) ∙ and_left (scope y) _ i
-  by false e f h = f h
-
-of_result : (k : Option Bool) (L : Bool → Type 0) (A : Type 0) → ((t : Bool) → L t → A) → ByResult k L → A
-of_result (Some t) L A f l = f t l
-of_result None L A f (inl l) = f true l
-of_result None L A f (inr l) = f false l
+use Rattle.sch_control.specs.flow.Live.{Across, Live, known}
+use Rattle.sch_control.proofs.Results.{after_result}
+use Rattle.sch_paths.proofs.saves.LiveInScope.{outer_scope, mentioned}
 
 -- what is live where no procedure ends is in scope
 form_scope : (e : Expression) (at : Position) → positioned e at ≡ true → ends_procedure at ≡ false → (scope : ℕ → Bool) → in_scope e scope ≡ true
     → (x : ℕ) (L : Bool → Type 0) → ((t : Bool) → L t → scope x ≡ true) → Live x e L → scope x ≡ true
-form_scope (perform o) at p q scope i x L f (inl m) = mentioned_scope scope (operation_atoms o) i x m
-form_scope (perform o) at p q scope i x L f (inr l) = of_result (known o) L (scope x ≡ true) f l
+form_scope (perform o) at p q scope i x L f (inl m) = mentioned scope (operation_atoms o) i x m
+form_scope (perform o) at p q scope i x L f (inr l) = after_result (known o) L (scope x ≡ true) f l
 form_scope (bind y a b) at p q scope i x L f l =
     form_scope a value (and_left (positioned a value) _ p) refl scope (and_left (in_scope a scope) _ i) x (λ t. Across y x (Live x b L))
     (λ t w.
@@ -52,11 +37,11 @@ form_scope (fix members e) at p q scope i x L f l =
     let inner : Bool = in_scope_atoms (with_members members scope) (member_atoms members) in
     let read : with_members members scope x ≡ true
     = elim l.1 [
-      | inl m ↦ mentioned_scope (with_members members scope) (member_atoms members) (and_left inner _ i) x m
+      | inl m ↦ mentioned (with_members members scope) (member_atoms members) (and_left inner _ i) x m
       | inr at_e ↦ form_scope e at p q (with_members members scope) (and_right inner _ i) x L (λ t w. outer_scope members scope x l.0 ∙ f t w) at_e
     ] in
     sym (outer_scope members scope x l.0) ∙ read
-form_scope (call a listed) at p q scope i x L f (inl m) = mentioned_scope scope (application_atoms a) i x m
+form_scope (call a listed) at p q scope i x L f (inl m) = mentioned scope (application_atoms a) i x m
 form_scope (call a listed) at p q scope i x L f (inr (inl l)) = f true l
 form_scope (call a listed) at p q scope i x L f (inr (inr l)) = f false l
 form_scope (tail_call a) at p q scope i x L f l = absurd (false_true p q)

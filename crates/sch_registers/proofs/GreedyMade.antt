@@ -1,5 +1,5 @@
 -- The moves of each call of a body with places are those of a greedy shuffle.
-use Rattle.std.proofs.Common.{◌≡◌, ℕ, suc, ◌+◌, ◌<◌, ◌≤◌, List, length, Bool, refl, arith}
+use Rattle.std.proofs.Common.{ℕ, suc, ◌<◌, ◌≤◌, List, length, Bool, refl, arith}
 use Rattle.sch_word.specs.trees.Shape.{max_operands}
 use Rattle.sch_word.specs.declared.place.Place.{Place}
 use Rattle.sch_control.specs.declared.operation.Application.{Application}
@@ -11,9 +11,8 @@ use Rattle.sch_layout.specs.Laws.{AtomsHave}
 use Rattle.sch_layout.proofs.EachCall.{each_call}
 use Rattle.sch_shuffle.specs.CycleSearch as search
 use Rattle.sch_shuffle.specs.Greedy.{made}
-use Rattle.sch_shuffle.specs.Tree.{Tree}
 use Rattle.sch_shuffle.proofs.Promises.{are_cycles, are_planned, as_few, go_on_in_order, is_greedy, is_ordered, needs}
-use Rattle.sch_homes.specs.CallMoves.{call_arguments, call_free, call_targets, first_temporary, next_frame}
+use Rattle.sch_homes.specs.CallMoves.{call_arguments, call_free, call_targets}
 use Rattle.sch_homes.specs.Homes.{first_home, homes_end, homes_plan, place}
 use Rattle.sch_homes.specs.Laws.{IsPlaced}
 use Rattle.sch_homes.proofs.CallSpare as spare

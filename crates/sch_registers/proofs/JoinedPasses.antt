@@ -8,7 +8,6 @@ use Rattle.sch_control.specs.SourceView.{code_of}
 use Rattle.sch_control.specs.Tree.{Code, Expression}
 use Rattle.sch_control.specs.View.{expression}
 use Rattle.sch_control.specs.flow.Bare.{erased, unlisted, unsaved}
-use Rattle.sch_control.specs.flow.Live.{nothing_later}
 use Rattle.sch_control.specs.flow.Middle.{code_with, listed}
 use Rattle.sch_control.specs.flow.Places.{arrival, formals_of, place_of}
 use Rattle.sch_control.specs.flow.Regions.{regions_apart}

@@ -1,7 +1,7 @@
 -- What is listed of the calls of a program: the order table by it fits the program, and the places that go round are targets.
 use Rattle.std.proofs.Common.{◌≡◌, ℕ, zero, suc, ◌+◌, Bool, true, false, List, [], ◌∷◌, length, map, Option, Some, None, refl, sym, ap, ◌∙◌, subst}
 use Rattle.std.specs.Prelude.{slice_get, cond, ◌&&◌, ◌++◌}
-use Rattle.std.specs.List.{flat_map, list_all}
+use Rattle.std.specs.List.{list_all}
 use Rattle.std.proofs.lemmas.List.Folds.{list_all-append}
 use Rattle.sch_word.specs.declared.place.Place.{Place}
 use Rattle.sch_word.specs.declared.place.Place.TheVariants.{Reg, Slot}
@@ -20,7 +20,6 @@ use Rattle.sch_frames.specs.Meaning.{argument_register, argument_slot}
 use Rattle.sch_layout.specs.BodyLayout.{in_either, target}
 use Rattle.sch_shuffle.specs.Assignment.{place_at}
 use Rattle.sch_shuffle.specs.CycleSearch.{all_rings, cycles, places_at}
-use Rattle.sch_shuffle.specs.Tree.{Tree}
 use Rattle.sch_orders.specs.declared.listed_call.ListedCall.{ListedCall}
 use Rattle.sch_orders.specs.ListedCalls.{listed_calls}
 use Rattle.sch_orders.specs.ListedTable.{call_fits, calls_fit}
@@ -32,7 +31,7 @@ use Rattle.sch_saves.specs.LazyRegions.{lazily_saved}
 use Rattle.sch_saves.proofs.LazyTrees.{erased_is, unsaved_lazily}
 use Rattle.sch_restores.proofs.EagerTrees.{erased_eager}
 use Rattle.sch_regs.specs.PlaceChoice.{places}
-use Rattle.sch_homes.specs.CallMoves.{call_arguments, call_targets, next_frame, targets}
+use Rattle.sch_homes.specs.CallMoves.{call_arguments, call_targets, next_frame}
 use Rattle.sch_homes.specs.Homes.{homes_end}
 use Rattle.sch_homes.specs.HomeTable.{place_in}
 use Rattle.sch_homes.specs.ListedMoves.{listed_call}

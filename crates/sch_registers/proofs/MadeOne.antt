@@ -1,28 +1,28 @@
 -- A frame body that is laid out from a body with lazy saves, eager restores and places is made from it.
-use Rattle.std.proofs.Common.{◌≡◌, ◌≢◌, ℕ, zero, suc, ◌+◌, ◌<◌, Bool, true, false, List, [], ◌∷◌, length, Option, None, Some, refl, ap, sym, ◌∙◌, subst, arith}
+use Rattle.std.proofs.Common.{◌≡◌, ◌≢◌, ℕ, zero, suc, ◌+◌, ◌<◌, Bool, true, false, List, [], ◌∷◌, Option, None, Some, refl, ap, sym, ◌∙◌, subst, arith}
 use Rattle.std.specs.Prelude.{slice_get}
 use Rattle.sch_word.specs.declared.place.Place.{Place}
 use Rattle.sch_word.specs.declared.place.Place.TheVariants.{Reg, Slot}
-use Rattle.sch_word.specs.trees.NumberSets.{has}
 use Rattle.sch_word.specs.values.Registers.{argument_registers}
 use Rattle.sch_word.proofs.facts.Booleans.{false_true}
 use Rattle.sch_control.specs.Tree as control
 use Rattle.sch_control.specs.Tree.{Expression}
-use Rattle.sch_control.specs.flow.Apart.{EachHas}
-use Rattle.sch_control.specs.flow.Bare.{erased, unlisted}
+use Rattle.sch_control.specs.flow.Bare.{unlisted}
 use Rattle.sch_control.specs.flow.Live.{nothing_later}
-use Rattle.sch_control.specs.flow.Places.{arrival, closure_place, count_slots, formals_of, in_slot, is_usual, link_place, place_of}
-use Rattle.sch_frames.specs.Meaning.{is_slot, same_place}
+use Rattle.sch_control.specs.flow.Places.{arrival, count_slots, formals_of, in_slot, is_usual, place_of}
+use Rattle.sch_control.proofs.VariableLists.{each_more}
+use Rattle.sch_frames.specs.Meaning.{is_slot}
+use Rattle.sch_word.specs.values.Places.{same_place}
 use Rattle.sch_frames.specs.Tree as frames
-use Rattle.sch_layout.specs.BodyLayout.{Plan, arrived}
+use Rattle.sch_layout.specs.BodyLayout.{Plan}
 use Rattle.sch_layout.specs.BodyLayout as layout
 use Rattle.sch_layout.specs.Laws.{Laid}
-use Rattle.sch_layout.proofs.does.MovesDo.{places_same}
+use Rattle.sch_word.proofs.facts.Places.{places_same}
 use Rattle.sch_paths.specs.Exact.{EagerRestores}
 use Rattle.sch_paths.specs.Laws.{IsSaved}
 use Rattle.sch_paths.proofs.paths.CallEvents.{lists_live}
 use Rattle.sch_paths.proofs.paths.EagerByPaths.{by_paths}
-use Rattle.sch_regs.specs.Spills.{Full, InSlotWhenFull, SlotsWhenFull}
+use Rattle.sch_regs.specs.Spills.{InSlotWhenFull, SlotsWhenFull}
 use Rattle.sch_regs.proofs.ApartAtPoints.{each_binding}
 use Rattle.sch_saves.specs.Promises.{EachSaveFollowed}
 use Rattle.sch_homes.specs.Homes.{homes_plan, lives_in}
@@ -31,7 +31,7 @@ use Rattle.sch_homes.proofs.BodyPlaces.{arrival_same, from_register}
 use Rattle.sch_homes.proofs.FrameRoom.{first_there}
 use Rattle.sch_homes.proofs.HomesPlaced.{homes_placed}
 use Rattle.sch_registers.proofs.GreedyMade.{greedy_calls}
-use Rattle.sch_registers.specs.MadeFrom.{HasFewSlots, HasLazySaves, IsMadeFrom}
+use Rattle.sch_registers.specs.MadeFrom.{HasFewSlots, IsMadeFrom}
 
 -- ## Registers stay as variables come into a frame, and slots stay slots
 
@@ -60,10 +60,6 @@ module _ (lives : Option Place → Place) (stays : (r : ℕ) → lives (Some (Re
 is_register : (p : Place) → is_slot p ≡ false → (r : ℕ) × (p ≡ Reg r)
 is_register (Reg r) s = (r, refl)
 is_register (Slot j) s = absurd (false_true refl s)
-
-each_more : (P Q : ℕ → Type 0) → ((x : ℕ) → P x → Q x) → (xs : List ℕ) → EachHas P xs → EachHas Q xs
-each_more P Q f [] h = tt
-each_more P Q f (x ∷ xs) h = (f x h.0, each_more P Q f xs h.1)
 
 -- a register holds another variable that is live
 abbrev HeldBy : (place : ℕ → Place) → (live : ℕ → Type 0) → ℕ → ℕ → Type 0

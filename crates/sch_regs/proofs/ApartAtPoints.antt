@@ -1,11 +1,11 @@
 -- Places apart at bindings are apart at each point to which some path comes.
-use Rattle.std.proofs.Common.{◌≡◌, ◌≢◌, ℕ, Bool, true, false, List, [], ◌∷◌, refl, ap, sym, ◌∙◌, subst, inl, inr}
-use Rattle.std.specs.Prelude.{nat_eq, ◌||◌}
+use Rattle.std.proofs.Common.{◌≡◌, ◌≢◌, ℕ, Bool, true, false, List, [], ◌∷◌, refl, ap, sym, ◌∙◌, inl, inr}
+use Rattle.std.specs.Prelude.{nat_eq}
 use Rattle.std.specs.Bool.{MatchBool}
-use Rattle.std.proofs.lemmas.Bool.{eqb-true, eqb-false, eq-eqb}
+use Rattle.std.proofs.lemmas.Bool.{eqb-true, eqb-false}
 use Rattle.sch_word.specs.trees.NumberSets.{has}
 use Rattle.sch_word.specs.declared.place.Place.{Place}
-use Rattle.sch_word.proofs.facts.Booleans.{and_left, and_right, or_right}
+use Rattle.sch_word.proofs.facts.Booleans.{and_left, and_right}
 use Rattle.sch_control.specs.Meaning.{binds, no_region}
 use Rattle.sch_control.specs.Tree.{Expression, perform, bind, sequence, branch, fix, call, tail_call, return, end, save}
 use Rattle.sch_control.specs.Valid.{Position, value, no_call, positioned, is_value, ends_procedure, ends_form, with_variable, member_variables}
@@ -14,18 +14,8 @@ use Rattle.sch_paths.proofs.saves.LiveHeads.{through}
 use Rattle.sch_paths.proofs.paths.MeetsByCases.{has_path}
 use Rattle.sch_paths.proofs.paths.PathResults.{may_give_path}
 use Rattle.sch_control.specs.flow.Apart.{EachHas, EachBinding, Around, Alone, BoundAlone, Apart, PointsApart}
+use Rattle.sch_control.proofs.VariableLists.{each_at}
 use Rattle.sch_regs.proofs.InScope.{Sits, Back, not_binds, reads, bind_first, bind_second, back_more, before_it, back_bind, seq_first, seq_second, branch_first, branch_second, branch_third, back_branch, fix_inner, back_fix, as_return, as_end, as_save}
-
-pub each_at : (P : ℕ → Type 0) (ys : List ℕ) → EachHas P ys → (x : ℕ) → has x ys ≡ true → P x
-each_at P [] h x m = absurd (cc)
-each_at P (y ∷ ys) h x m = by (nat_eq x y) refl (each_at P ys h.1 x) m where
-  by : (t : Bool) → nat_eq x y ≡ t → (has x ys ≡ true → P x) → (t || has x ys) ≡ true → P x
-  by true e f m = subst P (sym (eqb-true x y e)) h.0
-  by false e f m = f m
-
-pub each_of : (P : ℕ → Type 0) (ys : List ℕ) → ((x : ℕ) → has x ys ≡ true → P x) → EachHas P ys
-each_of P [] f = tt
-each_of P (y ∷ ys) f = (f y (ap (λ t. t || has y ys) (eq-eqb y y refl)), each_of P ys (λ x h. f x (or_right (nat_eq x y) (has x ys) h)))
 
 -- what has one property at each binding has another that follows
 pub each_binding : (P Q : (ℕ → Type 0) → ℕ → Type 0) → ((live : ℕ → Type 0) (y : ℕ) → P live y → Q live y) → (e : Expression) (L : Later)

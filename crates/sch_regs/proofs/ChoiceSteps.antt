@@ -5,14 +5,14 @@ use Rattle.std.specs.List.{list_all}
 use Rattle.std.proofs.lemmas.Bool.Decides.{nat_tests}
 use Rattle.std.specs.FinSet as set
 use Rattle.std.proofs.lemmas.Bool.{eqb-true, eq-eqb, ne_eqb}
+use Rattle.std.proofs.Math.Bool.{and-false}
 use Rattle.sch_sets.specs.Members.{NumberSet, HasMember}
 use Rattle.sch_sets.proofs.Membership.{contains-empty, contains-insert, contains-intersection}
 use Rattle.sch_word.specs.trees.Bindings.{numbers}
 use Rattle.sch_word.specs.declared.place.Place.{Place}
 use Rattle.sch_word.specs.declared.place.Place.TheVariants.{Reg, Slot}
 use Rattle.sch_word.specs.values.Registers.{argument_registers}
-use Rattle.sch_word.proofs.facts.Booleans.{and_left, and_right, and_of, or_left, or_right, false_true}
-use Rattle.sch_paths.proofs.saves.LiveInScope.{not_both}
+use Rattle.sch_word.proofs.facts.Booleans.{and_left, and_right, and_of, or_left, or_right, false_true, never_true, and_true}
 use Rattle.sch_control.specs.declared.operation.Member.{Member}
 use Rattle.sch_control.specs.Tree.{Expression, bind, sequence, branch, fix}
 use Rattle.sch_control.specs.Valid.{member_variables}
@@ -46,7 +46,7 @@ holder live (w ∷ t) r x l h = by (nat_eq x w.0 && in_register r w.1) refl (hol
 pub free_register : (t : Table) (r : ℕ) (s live m : NumberSet) (otherwise : Place) → IsHeld t r s → m ≡ set.intersection s live → m ≡ set.empty
     → Reg r ≡ cond (held (set.contains live) t r) otherwise (Reg r)
 free_register t r s live m otherwise h meets none =
-    sym (ap (λ b. cond b otherwise (Reg r)) (not_both (held (set.contains live) t r) (λ e.
+    sym (ap (λ b. cond b otherwise (Reg r)) (never_true (held (set.contains live) t r) (λ e.
     let w = held_by (set.contains live) t r e in
     false_true (sym (ap (λ q. set.contains q w.0) (sym meets ∙ none)) ∙ (contains-intersection s live w.0 ∙ and_of (set.contains s w.0) _ (h w.0 ∙ w.1.1) w.1.0))
     (contains-empty w.0))))
@@ -70,16 +70,10 @@ chain live t n p0 p1 p2 p3 p4 p5 p6 e e0 e1 e2 e3 e4 e5 e6 =
 
 pub into_register : (t : Table) (r y : ℕ) (p : Place) (s s' : NumberSet) → in_register r p ≡ true → s' ≡ set.insert s y → IsHeld t r s → IsHeld ((y, p) ∷ t) r s'
 into_register t r y p s s' here put h x =
-    ap (λ q. set.contains q x) put ∙ (contains-insert s y x ∙ (ap (λ b. nat_eq x y || b) (h x) ∙ ap (λ b. b || holds t r x) (sym (ap (λ b. nat_eq x y && b) here ∙ and_true (nat_eq x y))))) where
-      and_true : (b : Bool) → (b && true) ≡ b
-      and_true true = refl
-      and_true false = refl
+    ap (λ q. set.contains q x) put ∙ (contains-insert s y x ∙ (ap (λ b. nat_eq x y || b) (h x) ∙ ap (λ b. b || holds t r x) (sym (ap (λ b. nat_eq x y && b) here ∙ and_true (nat_eq x y)))))
 
 pub elsewhere : (t : Table) (r y : ℕ) (p : Place) (s : NumberSet) → in_register r p ≡ false → IsHeld t r s → IsHeld ((y, p) ∷ t) r s
-elsewhere t r y p s there h x = h x ∙ ap (λ b. b || holds t r x) (sym (ap (λ b. nat_eq x y && b) there ∙ and_false (nat_eq x y))) where
-  and_false : (b : Bool) → (b && false) ≡ false
-  and_false true = refl
-  and_false false = refl
+elsewhere t r y p s there h x = h x ∙ ap (λ b. b || holds t r x) (sym (ap (λ b. nat_eq x y && b) there ∙ and-false (nat_eq x y)))
 
 -- the list of places with one more
 set_listed : (f : ℕ → Place) (p : Place) (k n y : ℕ) → slice_set (map f (numbers k n)) y p ≡ map (λ x. cond (nat_eq x (k + y)) p (f x)) (numbers k n)

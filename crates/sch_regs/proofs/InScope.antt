@@ -1,21 +1,19 @@
 -- An expression with what is in scope before it, and its parts.
-use Rattle.std.proofs.Common.{◌≡◌, ◌≢◌, ℕ, Bool, true, false, List, [], ◌∷◌, ◌++◌, refl, ap, sym, ◌∙◌, inl, inr}
+use Rattle.std.proofs.Common.{◌≡◌, ◌≢◌, ℕ, Bool, true, false, List, [], ◌++◌, ap, sym, ◌∙◌, inl, inr}
 use Rattle.std.specs.Prelude.{nat_eq, ◌||◌, not}
 use Rattle.std.specs.Bool.{MatchBool}
-use Rattle.std.proofs.lemmas.Bool.{eqb-true, ne_eqb}
+use Rattle.std.proofs.lemmas.Bool.{ne_eqb}
 use Rattle.sch_word.specs.trees.NumberSets.{has}
-use Rattle.sch_word.proofs.facts.Booleans.{and_left, and_right, or_left, or_right, not_right, not_true}
+use Rattle.sch_word.proofs.facts.Booleans.{and_left, and_right, or_left, or_right, not_right, not_true, never_true}
 use Rattle.sch_word.proofs.facts.NumberSets.{has_append}
 use Rattle.sch_control.specs.declared.operation.Member.{Member}
 use Rattle.sch_control.specs.AtomsAndSites.{member_atoms}
 use Rattle.sch_control.specs.Meaning.{binds}
 use Rattle.sch_control.specs.Tree.{Expression, bind, sequence, branch, fix, return, end, save}
 use Rattle.sch_control.specs.Valid.{with_variable, with_members, in_scope_atoms, in_scope, member_variables, bound_in, without_repeats}
-use Rattle.sch_control.specs.declared.operation.Atom.{Atom}
-use Rattle.sch_control.specs.declared.operation.Atom.TheVariants.{Constant, Literal, Variable}
 use Rattle.sch_control.specs.flow.Apart.{Around}
-use Rattle.sch_control.specs.flow.Live.{named, Mentions, Across, Live, Later}
-use Rattle.sch_paths.proofs.saves.LiveInScope.{Readable, Unbound, live_scope, repeats_left, repeats_right, repeats_apart, one_more, more_scope, outer_scope, not_both, binds_is}
+use Rattle.sch_control.specs.flow.Live.{Across, Live, Later}
+use Rattle.sch_paths.proofs.saves.LiveInScope.{Readable, Unbound, live_scope, repeats_left, repeats_right, repeats_apart, one_more, more_scope, outer_scope, binds_is, mentioned}
 
 -- what is read is in scope, and what is bound is bound once and is not in scope before
 pub record Sits (e : Expression) (scope : ℕ → Bool) : Type 0 where
@@ -28,7 +26,7 @@ abbrev pub Back : (scope : ℕ → Bool) → Later → Type 0
 Back scope L = (x : ℕ) (t : Bool) → L x t → Readable scope x
 
 pub not_bound : {e : Expression} {scope : ℕ → Bool} → Sits e scope → (x : ℕ) → Readable scope x → has x (bound_in e) ≡ false
-not_bound {e} s x r = not_both (has x (bound_in e)) (λ h. s.unbound x h r)
+not_bound {e} s x r = never_true (has x (bound_in e)) (λ h. s.unbound x h r)
 
 pub not_binds : {e : Expression} {scope : ℕ → Bool} → Sits e scope → (x : ℕ) → Readable scope x → binds x e ≡ false
 not_binds {e} s x r = binds_is x e ∙ not_bound s x r
@@ -59,7 +57,7 @@ module _ (y : ℕ) (a b : Expression) (scope : ℕ → Bool) (s : Sits (bind y a
 
   -- what the second binds is not bound in the first
   pub bind_apart : (x : ℕ) → has x (bound_in a) ≡ true → has x (bound_in b) ≡ false
-  bind_apart x h = not_both (has x (bound_in b)) (repeats_apart (bound_in a) (bound_in b) (and_right (not (has y (bound_in a ++ bound_in b))) _ s.once) x h)
+  bind_apart x h = never_true (has x (bound_in b)) (repeats_apart (bound_in a) (bound_in b) (and_right (not (has y (bound_in a ++ bound_in b))) _ s.once) x h)
 
 pub back_more : (scope : ℕ → Bool) (y : ℕ) (L : Later) → Back scope L → Back (with_variable y scope) L
 back_more scope y L f x t l = elim (f x t l) [ inl e ↦ inl e | inr s ↦ inr (or_right (nat_eq x y) _ s) ]
@@ -90,7 +88,7 @@ module _ (a b : Expression) (scope : ℕ → Bool) (s : Sits (sequence a b) scop
   }
 
   pub seq_apart : (x : ℕ) → has x (bound_in a) ≡ true → has x (bound_in b) ≡ false
-  seq_apart x h = not_both (has x (bound_in b)) (repeats_apart (bound_in a) (bound_in b) s.once x h)
+  seq_apart x h = never_true (has x (bound_in b)) (repeats_apart (bound_in a) (bound_in b) s.once x h)
 
 -- ## Branches
 
@@ -119,7 +117,7 @@ module _ (a b c : Expression) (scope : ℕ → Bool) (s : Sits (branch a b c) sc
   arms_apart = seq_apart b c scope arms
 
   pub branch_apart : (x : ℕ) → has x (bound_in a) ≡ true → has x (bound_in b ++ bound_in c) ≡ false
-  branch_apart x h = not_both (has x (bound_in b ++ bound_in c)) (repeats_apart (bound_in a) (bound_in b ++ bound_in c) s.once x h)
+  branch_apart x h = never_true (has x (bound_in b ++ bound_in c)) (repeats_apart (bound_in a) (bound_in b ++ bound_in c) s.once x h)
 
   pub back_branch : (L : Later) → Back scope L → Back scope (λ x t. MatchBool t (Live x b (L x)) (Live x c (L x)))
   back_branch L f x t = elim t as (λ t. MatchBool t (Live x b (L x)) (Live x c (L x)) → Readable scope x) [
@@ -129,21 +127,12 @@ module _ (a b c : Expression) (scope : ℕ → Bool) (s : Sits (branch a b c) sc
 
 -- ## Groups
 
-atoms_scope : (scope : ℕ → Bool) (atoms : List (Atom ℕ)) → in_scope_atoms scope atoms ≡ true → (x : ℕ) → Mentions x atoms → scope x ≡ true
-atoms_scope scope [] i x m = absurd (cc)
-atoms_scope scope (Constant c ∷ atoms) i x m = atoms_scope scope atoms i x m
-atoms_scope scope (Literal n ∷ atoms) i x m = atoms_scope scope atoms i x m
-atoms_scope scope (Variable y ∷ atoms) i x m = by (nat_eq x y) refl (atoms_scope scope atoms (and_right (scope y) _ i) x) m where
-  by : (t : Bool) → nat_eq x y ≡ t → (Mentions x atoms → scope x ≡ true) → (t || has x (named atoms)) ≡ true → scope x ≡ true
-  by true e f h = ap scope (eqb-true x y e) ∙ and_left (scope y) _ i
-  by false e f h = f h
-
 module _ (members : List (Member ℕ)) (e : Expression) (scope : ℕ → Bool) (s : Sits (fix members e) scope) where
   pub fix_apart : (x : ℕ) → has x (member_variables members) ≡ true → has x (bound_in e) ≡ false
-  fix_apart x m = not_both (has x (bound_in e)) (repeats_apart (member_variables members) (bound_in e) s.once x m)
+  fix_apart x m = never_true (has x (bound_in e)) (repeats_apart (member_variables members) (bound_in e) s.once x m)
 
   fix_outer : (x : ℕ) → has x (bound_in e) ≡ true → has x (member_variables members) ≡ false
-  fix_outer x h = not_both (has x (member_variables members)) (λ m. repeats_apart (member_variables members) (bound_in e) s.once x m h)
+  fix_outer x h = never_true (has x (member_variables members)) (λ m. repeats_apart (member_variables members) (bound_in e) s.once x m h)
 
   pub members_once : without_repeats (member_variables members) ≡ true
   members_once = repeats_left (member_variables members) (bound_in e) s.once
@@ -165,7 +154,7 @@ module _ (members : List (Member ℕ)) (e : Expression) (scope : ℕ → Bool) (
   -- what is live as the members are in their places is in scope there
   pub members_read : (L : Later) → Back scope L → (x : ℕ) → Around members (λ x. Live x e (L x)) x → Readable (with_members members scope) x
   members_read L f x (inl m) =
-      inr (atoms_scope (with_members members scope) (member_atoms members) (and_left (in_scope_atoms (with_members members scope) (member_atoms members)) _ s.scoped) x m)
+      inr (mentioned (with_members members scope) (member_atoms members) (and_left (in_scope_atoms (with_members members scope) (member_atoms members)) _ s.scoped) x m)
   members_read L f x (inr l) = reads fix_inner L (back_fix L f) x l
 
 -- ## The rest

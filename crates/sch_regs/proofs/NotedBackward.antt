@@ -3,11 +3,11 @@ use Rattle.std.proofs.Common.{◌≡◌, ℕ, Bool, true, false, List, [], ◌�
 use Rattle.std.specs.Prelude.{not, nat_eq, ◌&&◌, ◌||◌, cond}
 use Rattle.std.proofs.lemmas.Bool.{eqb-true, eq-eqb}
 use Rattle.sch_word.specs.trees.NumberSets.{has}
-use Rattle.sch_word.proofs.facts.Booleans.{and_left, and_right, or_left, or_right, not_left, not_right, not_true, false_true}
+use Rattle.sch_word.proofs.facts.Booleans.{and_left, and_right, or_left, or_right, not_left, not_right, not_true, false_true, never_true}
 use Rattle.sch_word.proofs.facts.NumberSets.{has_append}
 use Rattle.sch_control.specs.Tree.{Expression, perform, bind, sequence, branch, fix, call, tail_call, return, end, save}
 use Rattle.sch_control.specs.Valid.{member_variables, bound_in, without_repeats}
-use Rattle.sch_paths.proofs.saves.LiveInScope.{not_both, repeats_left, repeats_right, repeats_apart}
+use Rattle.sch_paths.proofs.saves.LiveInScope.{repeats_left, repeats_right, repeats_apart}
 use Rattle.sch_control.specs.flow.LiveTests.{is_live, Behind}
 use Rattle.sch_regs.specs.PlaceChoice.{around}
 use Rattle.sch_regs.specs.NotedSets.{Noted, IsNoted, put, put_group, note}
@@ -73,7 +73,7 @@ noted_same (end e) l n n' s w = noted_same e _ n n' s w
 noted_same (save saves e) l n n' s w = noted_same e l n n' s w
 
 apart : (xs ys : List ℕ) → without_repeats (xs ++ ys) ≡ true → (z : ℕ) → has z ys ≡ true → has z xs ≡ false
-apart xs ys o z h = not_both (has z xs) (λ m. repeats_apart xs ys o z m h)
+apart xs ys o z h = never_true (has z xs) (λ m. repeats_apart xs ys o z m h)
 
 pub notes : (e : Expression) → without_repeats (bound_in e) ≡ true → (l : Behind) (n : Noted) → IsNoted (note e l n) e l
 notes (perform o) once l n = tt
@@ -89,7 +89,7 @@ notes (bind y a b) once l n =
       (
         notes a (repeats_left (bound_in a) (bound_in b) rest) la n2,
         noted_same b l n1 (note a la n2) (λ z h. note_kept a la n2 z (apart (bound_in a) (bound_in b) rest z h)
-            ∙ ap (λ t. cond t live (n1 z)) (not_both (nat_eq z y) (λ e. false_true h (ap (λ k. has k (bound_in b)) (eqb-true z y e) ∙ not_right (has y (bound_in a)) _ no_y))))
+            ∙ ap (λ t. cond t live (n1 z)) (never_true (nat_eq z y) (λ e. false_true h (ap (λ k. has k (bound_in b)) (eqb-true z y e) ∙ not_right (has y (bound_in a)) _ no_y))))
             (notes b (repeats_right (bound_in a) (bound_in b) rest) l n),
       ),
     )

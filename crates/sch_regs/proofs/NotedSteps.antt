@@ -8,6 +8,7 @@ use Rattle.std.proofs.lemmas.List.{get_or-set_same, get_or-set_other, length-set
 use Rattle.sch_sets.specs.Members.{NumberSet}
 use Rattle.sch_sets.proofs.Membership.{contains-empty, contains-remove, contains-union}
 use Rattle.sch_word.specs.trees.NumberSets.{has}
+use Rattle.sch_word.proofs.facts.Booleans.{or_swap}
 use Rattle.sch_control.specs.declared.operation.Application.{Application}
 use Rattle.sch_control.specs.declared.operation.Member.{Member}
 use Rattle.sch_control.specs.declared.operation.Operation.{Operation}
@@ -139,12 +140,7 @@ call_back a restores t f s b n u w = (
 pub tail_back : (a : Application ℕ) (t f s0 s b : NumberSet) (n : List NumberSet) → s0 ≡ set.empty → s ≡ set.insert s0 0 → IsWith (application_atoms a) s b
     → IsNotedBack (tail_call a) t f b n n
 tail_back a t f s0 s b n none put w =
-    ((λ x. w x ∙ (ap (λ z. has x (named (application_atoms a)) || z) (link_only s0 s none put x) ∙ swap (has x (named (application_atoms a))) (nat_eq x 0))), ((λ z l. refl), refl)) where
-      swap : (p q : Bool) → (p || q) ≡ (q || p)
-      swap true true = refl
-      swap true false = refl
-      swap false true = refl
-      swap false false = refl
+    ((λ x. w x ∙ (ap (λ z. has x (named (application_atoms a)) || z) (link_only s0 s none put x) ∙ or_swap (has x (named (application_atoms a))) (nat_eq x 0))), ((λ z l. refl), refl))
 
 pub return_back : (e : Expression) (t f s0 s b : NumberSet) (n0 n1 : List NumberSet) → s0 ≡ set.empty → s ≡ set.insert s0 0 → IsNotedBack e s s b n0 n1
     → IsNotedBack (return e) t f b n0 n1

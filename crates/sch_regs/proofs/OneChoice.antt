@@ -6,16 +6,15 @@ use Rattle.sch_word.specs.trees.NumberSets.{has}
 use Rattle.sch_word.specs.declared.place.Place.{Place}
 use Rattle.sch_word.specs.declared.place.Place.TheVariants.{Reg, Slot}
 use Rattle.sch_word.specs.values.Registers.{argument_registers}
-use Rattle.sch_word.proofs.facts.Booleans.{and_left, and_right, and_of, or_left, or_right, neither, not_left, not_right, false_true, not_true}
+use Rattle.sch_word.proofs.facts.Booleans.{and_left, and_right, and_of, or_left, or_right, neither, not_left, not_right, false_true, not_true, never_true}
 use Rattle.sch_word.proofs.facts.NumberSets.{has_append}
 use Rattle.sch_control.specs.Valid.{without_repeats}
 use Rattle.sch_control.specs.flow.Apart.{EachHas, Alone}
 use Rattle.sch_control.specs.flow.Places.{in_slot}
 use Rattle.sch_control.proofs.NumberLists.{has_filter, once_filter}
-use Rattle.sch_paths.proofs.saves.LiveInScope.{not_both}
+use Rattle.sch_control.proofs.VariableLists.{each_at}
 use Rattle.sch_regs.specs.PlaceChoice.{Table, placed, place_in, in_register, slots, held, first_free, choose, choose_each, live_first}
 use Rattle.sch_regs.specs.Spills.{InSlotWhenFull}
-use Rattle.sch_regs.proofs.ApartAtPoints.{each_at}
 
 -- ## What is held
 
@@ -198,7 +197,7 @@ module _ (live : ℕ → Bool) (P : ℕ → Place) where
       let not_y : has y ys ≡ false = not_true (has y ys) (and_left (not (has y ys)) _ once) in
       let y_new : has y (placed t) ≡ false = new y (or_left (nat_eq y y) (has y ys) (eq-eqb y y refl)) in
       let ext' : Extends P t'
-      = λ x m. ext x (each_placed live ys t' x ∙ or_right (has x ys) _ m) ∙ each_kept live ys t' x (not_both (has x ys) (λ h. (elim (split (nat_eq x y) refl (has x (placed t)) m) [
+      = λ x m. ext x (each_placed live ys t' x ∙ or_right (has x ys) _ m) ∙ each_kept live ys t' x (never_true (has x ys) (λ h. (elim (split (nat_eq x y) refl (has x (placed t)) m) [
         | inl e ↦ false_true h (ap (λ z. has z ys) (eqb-true x y e) ∙ not_y)
         | inr k ↦ false_true k (new x (or_right (nat_eq x y) _ h))
       ]))) in
@@ -209,7 +208,7 @@ module _ (live : ℕ → Bool) (P : ℕ → Place) where
       ∙ ap (λ b. cond b (first_free live t argument_registers) (place_in t x)) (ne_eqb x y (λ e. false_true m (ap (λ z. has z (placed t)) e ∙ y_new))) in
       let rest : EachHas (WellBound P (λ x. live x ≡ true)) ys
       = group_well ys t' (and_right (not (has y ys)) _ once)
-      (λ x h. not_both (has x (placed t')) (λ m. (elim (split (nat_eq x y) refl (has x (placed t)) m) [
+      (λ x h. never_true (has x (placed t')) (λ m. (elim (split (nat_eq x y) refl (has x (placed t)) m) [
         | inl e ↦ false_true h (ap (λ z. has z ys) (eqb-true x y e) ∙ not_y)
         | inr k ↦ false_true k (new x (or_right (nat_eq x y) _ h))
       ]))) order.1 (chosen_below live y t s) (and_of (not (has y (placed t))) _ (ap not y_new) o) ext
@@ -246,7 +245,7 @@ once_both : (xs ys : List ℕ) → without_repeats xs ≡ true → without_repea
 once_both [] ys h k apart = k
 once_both (x ∷ xs) ys h k apart =
     and_of (not (has x (xs ++ ys))) _
-    (ap not (has_append x xs ys ∙ neither (has x xs) (has x ys) (not_true (has x xs) (and_left (not (has x xs)) _ h)) (not_both (has x ys) (apart x (or_left (nat_eq x x) (has x xs) (eq-eqb x x refl))))))
+    (ap not (has_append x xs ys ∙ neither (has x xs) (has x ys) (not_true (has x xs) (and_left (not (has x xs)) _ h)) (never_true (has x ys) (apart x (or_left (nat_eq x x) (has x xs) (eq-eqb x x refl))))))
     (once_both xs ys (and_right (not (has x xs)) _ h) k (λ z m. apart z (or_right (nat_eq z x) _ m)))
 
 pub has_ordered : (live : ℕ → Bool) (ys : List ℕ) (x : ℕ) → has x (live_first live ys) ≡ has x ys

@@ -1,9 +1,8 @@
 -- A body with restores, and its places.
-use Rattle.std.proofs.Common.{◌≡◌, ℕ, ◌+◌, ◌<◌, ◌≤◌, List, Bool, true, ap, sym, ◌∙◌, refl, subst, arith, [], ◌∷◌, ◌^◌, length}
+use Rattle.std.proofs.Common.{◌≡◌, ℕ, ◌+◌, ◌<◌, ◌≤◌, List, Bool, true, ap, sym, ◌∙◌, refl, subst, arith, [], ◌^◌}
 use Rattle.std.specs.Prelude.{nat_le}
 use Rattle.std.proofs.lemmas.Bool.Decides.{nat_tests}
 use Rattle.sch_word.specs.declared.place.Place.{Place}
-use Rattle.sch_word.specs.declared.place.Place.TheVariants.{Reg, Slot}
 use Rattle.sch_word.proofs.facts.Booleans.{and_left}
 use Rattle.sch_control.specs.Valid.{max_body_variables}
 use Rattle.sch_control.specs.declared.restored_body.RestoredBody.{RestoredBody}
@@ -16,15 +15,11 @@ use Rattle.sch_control.specs.flow.Places.{count_slots, formals_of}
 use Rattle.sch_control.specs.flow.Reads.{VariablesBelow}
 use Rattle.sch_control.specs.flow.Regions.{regions_apart, restores_saved}
 use Rattle.sch_control.specs.flow.RestoredView.{restored, restored_listed}
+use Rattle.sch_control.proofs.SlotCounts.{slots_within}
 use Rattle.sch_paths.proofs.saves.VariablesBelow.{listed_below}
 use Rattle.sch_regs.specs.PlaceChoice.{places, slots, table_of}
 use Rattle.sch_regs.proofs.TableMade.{formals_within}
 use Rattle.sch_regs.proofs.WholeBodies.{IsPlaced, is_placed, slots_same}
-
-count_within : (ps : List Place) → count_slots ps ≤ length ps
-count_within [] = omega arith
-count_within (Reg r ∷ ps) = let k = count_within ps in omega (arith, k)
-count_within (Slot j ∷ ps) = let k = count_within ps in omega (arith, k)
 
 module _ {N : ℕ} (b : RestoredBody N) where
   abbrev pub code_of : Code
@@ -44,7 +39,7 @@ module _ {N : ℕ} (b : RestoredBody N) where
   few_slots =
       let same : count_slots (places b.entry b.variables (restored b.exp)) ≡ slots (table_of b.entry (restored b.exp))
       = slots_same code_of (restored b.exp) refl b.scoped b.numbered b.ended in
-      let k = count_within (places b.entry b.variables (restored b.exp)) in
+      let k = slots_within (places b.entry b.variables (restored b.exp)) in
       let long = (is_placed code_of (restored b.exp) refl b.scoped b.numbered b.ended).whole in
       let most : nat_le b.variables max_body_variables ≡ true = and_left (nat_le b.variables max_body_variables) _ b.numbered in
       let few : b.variables ≤ max_body_variables = grind (arith, nat_tests, most) in

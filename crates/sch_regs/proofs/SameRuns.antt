@@ -3,34 +3,22 @@ use Rattle.std.proofs.Common.{◌≡◌, ℕ, Bool, true, false, List, refl, sym
 use Rattle.sch_word.specs.declared.place.Place.{Place}
 use Rattle.sch_control.specs.declared.restored_body.RestoredBody.{RestoredBody}
 use Rattle.sch_control.specs.Meaning.{World, Environment, Callee, do_body, no_region}
-use Rattle.sch_control.specs.Tree.{Expression, Code, perform, bind, sequence, branch, fix, call, tail_call, return, end, save}
+use Rattle.sch_control.specs.Tree.{Expression, Code}
 use Rattle.sch_control.specs.Valid.{in_scope_whole, numbered}
 use Rattle.sch_control.specs.flow.Bare.{erased}
-use Rattle.sch_control.specs.flow.Live.{MayGive, Later, nothing_later}
+use Rattle.sch_control.specs.flow.Live.{nothing_later}
 use Rattle.sch_control.specs.flow.Middle.{restoring, silent}
 use Rattle.sch_control.specs.flow.Places.{in_slot, place_of}
 use Rattle.sch_control.specs.flow.Regions.{restores_saved}
 use Rattle.sch_control.specs.flow.RestoredView.{restored}
-use Rattle.sch_paths.specs.Conditions.{Saved, Restored}
+use Rattle.sch_paths.specs.Conditions.{Saved}
 use Rattle.sch_paths.proofs.runs.RestoresAreEnough.{valid_fresh}
 use Rattle.sch_paths.proofs.runs.SameWithoutMarks.{silently}
 use Rattle.sch_paths.specs.EachSoonRestored.{EachSoonRestored}
+use Rattle.sch_paths.proofs.saves.SavedAndRestored.{restored_kept}
 use Rattle.sch_regs.specs.Promises.{KeepsRuns}
 use Rattle.sch_regs.proofs.PlacedBodies.{code_of}
 use Rattle.sch_regs.proofs.SavedWhereRestored.{saved}
-
-less : (keeps : ℕ → Bool) (e : Expression) (Met : Type 0) (L S : Later) → Restored (λ x. false) e Met L S → Restored keeps e Met L S
-less keeps (perform o) Met L S r = tt
-less keeps (bind y a b) Met L S r = (less keeps a Met _ _ r.0, less keeps b Met L S r.1)
-less keeps (sequence a b) Met L S r = (less keeps a Met _ _ r.0, less keeps b Met L S r.1)
-less keeps (branch a b c) Met L S r =
-    (less keeps a Met _ _ r.0, (less keeps b (Met × MayGive a true) L S r.1.0, less keeps c (Met × MayGive a false) L S r.1.1))
-less keeps (fix members e) Met L S r = less keeps e Met L S r
-less keeps (call a restores) Met L S r = λ x met l s n. r x met l s refl
-less keeps (tail_call a) Met L S r = tt
-less keeps (return e) Met L S r = less keeps e Met _ _ r
-less keeps (end e) Met L S r = less keeps e Met _ _ r
-less keeps (save saves e) Met L S r = less keeps e Met L S r
 
 module _ (c : Code) (e : Expression) (is : erased e ≡ c.expression) (i : in_scope_whole c ≡ true) (n : numbered c ≡ true) (v : restores_saved e no_region ≡ true) (r : EachSoonRestored e) where
   whatever : (keeps : ℕ → Bool) → Saved keeps e (Unit {0}) no_region nothing_later
@@ -40,7 +28,7 @@ module _ (c : Code) (e : Expression) (is : erased e ≡ c.expression) (i : in_sc
       → do_body restoring callee depth e environment w ≡ do_body (silent keeps) callee depth e environment w
   same_runs keeps callee depth environment w =
       sym (silently (λ x. false) callee depth no_region e (whatever (λ x. false)) r (valid_fresh c e is i n) environment w)
-      ∙ silently keeps callee depth no_region e (whatever keeps) (less keeps e (Unit {0}) nothing_later nothing_later r) (valid_fresh c e is i n) environment w
+      ∙ silently keeps callee depth no_region e (whatever keeps) (restored_kept keeps e (Unit {0}) nothing_later nothing_later r) (valid_fresh c e is i n) environment w
 
 pub keeps_runs : {N : ℕ} (b : RestoredBody N) (e : Expression) → e ≡ restored b.exp → EachSoonRestored (restored b.exp) → (places : List Place)
     → KeepsRuns (restored b.exp) e places

@@ -1,19 +1,19 @@
 -- Where each call restores what is live after it and wanted before the next one, what is live after each call is saved there:
 -- what a region farther on saves at its head is wanted there.
-use Rattle.std.proofs.Common.{◌≡◌, ℕ, Bool, true, false, List, [], ◌∷◌, Option, Some, None, refl, ap, sym, ◌∙◌, inl, inr, ◌⊎◌}
-use Rattle.std.specs.Prelude.{nat_eq, ◌&&◌}
+use Rattle.std.proofs.Common.{◌≡◌, ℕ, Bool, true, false, List, [], Option, Some, None, refl, inl, inr, ◌⊎◌}
+use Rattle.std.specs.Prelude.{◌&&◌}
 use Rattle.std.specs.Bool.{MatchBool}
 use Rattle.std.specs.List.{list_all}
-use Rattle.std.proofs.lemmas.Bool.{eqb-true}
-use Rattle.sch_word.specs.trees.NumberSets.{has, unless}
-use Rattle.sch_word.proofs.facts.Booleans.{and_left, and_right, or_left, or_right}
-use Rattle.sch_control.specs.Meaning.{binds, heads, with_region}
+use Rattle.std.proofs.lemmas.Bool.{or_cases}
+use Rattle.sch_word.specs.trees.NumberSets.{has}
+use Rattle.sch_word.proofs.facts.Booleans.{and_left, and_right, or_right}
+use Rattle.sch_control.specs.Meaning.{binds, with_region}
 use Rattle.sch_control.specs.Tree.{Expression, perform, bind, sequence, branch, fix, call, tail_call, return, end, save}
 use Rattle.sch_control.specs.Valid.{without_repeats}
 use Rattle.sch_control.specs.flow.Live.{known, ByResult, Across, MayGive, Live, Soon, Later}
 use Rattle.sch_control.specs.flow.Regions.{restores_saved}
+use Rattle.sch_control.proofs.VariableLists.{each_passes, heads_has}
 use Rattle.sch_paths.specs.Conditions.{Saved, Restored, Fresh}
-use Rattle.sch_regs.proofs.WellBound.{one_of}
 
 -- what is live behind an expression is wanted soon there, or is saved round it
 abbrev Kept : Expression → (Met : Type 0) → (inside : ℕ → Bool) → (L S : Later) → Type 0
@@ -24,28 +24,12 @@ by_result (Some t) L S I f l = f t refl l
 by_result None L S I f (inl l) = elim (f true (inl refl) l) [ inl s ↦ inl (inl s) | inr i ↦ inr i ]
 by_result None L S I f (inr l) = elim (f false (inr refl) l) [ inl s ↦ inl (inr s) | inr i ↦ inr i ]
 
-each_inside : (inside : ℕ → Bool) (xs : List ℕ) → list_all inside xs ≡ true → (x : ℕ) → has x xs ≡ true → inside x ≡ true
-each_inside inside [] h x m = absurd (cc)
-each_inside inside (y ∷ xs) h x m = elim (one_of (nat_eq x y) m) [
-  | inl e ↦ ap inside (eqb-true x y e) ∙ and_left (inside y) _ h
-  | inr k ↦ each_inside inside xs (and_right (inside y) _ h) x k
-]
-
 differ : true ≡ false → ⊥
 differ h = cc
 
-at_head : (e : Expression) (xs : List ℕ) (x : ℕ) → has x xs ≡ true → binds x e ≡ false → has x (heads e xs) ≡ true
-at_head e [] x h n = absurd (cc)
-at_head e (y ∷ xs) x h n = by (binds y e) refl (one_of (nat_eq x y) h) (λ k. at_head e xs x k n) where
-  by : (t : Bool) → binds y e ≡ t → (nat_eq x y ≡ true) ⊎ (has x xs ≡ true) → (has x xs ≡ true → has x (heads e xs) ≡ true) → has x (unless t y (heads e xs)) ≡ true
-  by true b (inl i) f = absurd (differ (sym b ∙ (ap (λ z. binds z e) (sym (eqb-true x y i)) ∙ n)))
-  by true b (inr k) f = f k
-  by false b (inl i) f = or_left (nat_eq x y) _ i
-  by false b (inr k) f = or_right (nat_eq x y) _ (f k)
-
 -- what a call restores is inside a region
 call_kept : (inside : ℕ → Bool) (restores : List ℕ) → (without_repeats restores && list_all inside restores) ≡ true → (x : ℕ) → has x restores ≡ true → inside x ≡ true
-call_kept inside restores h x m = each_inside inside restores (and_right (without_repeats restores) _ h) x m
+call_kept inside restores h x m = each_passes inside restores (and_right (without_repeats restores) _ h) x m
 
 abbrev none_kept : ℕ → Bool
 none_kept x = false
@@ -88,11 +72,11 @@ kept_live (end e) Met met inside L S r v f k x l = kept_live e Met met inside (�
 kept_live (save saves e) Met met inside L S r v f k x l =
     elim (kept_live e Met met (with_region saves inside) L S r v f.1 (λ x t met g w. elim (k x t met g w) [ inl s ↦ inl s | inr i ↦ inr (or_right (has x saves) _ i) ]) x l) [
       | inl s ↦ inl (inr s)
-      | inr i ↦ elim (one_of (has x saves) i) [ inl h ↦ by (binds x e) refl h | inr j ↦ inr j ]
+      | inr i ↦ elim (or_cases (has x saves) _ i) [ inl h ↦ by (binds x e) refl h | inr j ↦ inr j ]
     ] where
       by : (t : Bool) → binds x e ≡ t → has x saves ≡ true → Soon x (save saves e) (S x) ⊎ (inside x ≡ true)
       by true b h = absurd (f.0 x h b l)
-      by false b h = inl (inl (at_head e saves x h b))
+      by false b h = inl (inl (heads_has e saves x h b))
 
 module _ (keeps : ℕ → Bool) where
   pub saved : (e : Expression) (Met : Type 0) (inside : ℕ → Bool) (L S : Later) → Restored none_kept e Met L S → restores_saved e inside ≡ true → Fresh e L

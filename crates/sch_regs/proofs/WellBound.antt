@@ -2,24 +2,25 @@
 use Rattle.std.proofs.Common.{◌≡◌, ◌≢◌, ℕ, Bool, true, false, List, [], ◌∷◌, ◌++◌, refl, ap, sym, ◌∙◌, subst, inl, inr, ◌⊎◌}
 use Rattle.std.specs.Prelude.{nat_eq, ◌||◌, ◌&&◌, not, cond, ◌↔◌}
 use Rattle.std.specs.Bool.{MatchBool}
-use Rattle.std.proofs.lemmas.Bool.{eqb-true, eq-eqb}
+use Rattle.std.proofs.lemmas.Bool.{eqb-true, eq-eqb, or_cases}
 use Rattle.sch_word.specs.trees.NumberSets.{has}
 use Rattle.sch_word.specs.declared.place.Place.{Place}
 use Rattle.sch_word.specs.declared.place.Place.TheVariants.{Reg}
-use Rattle.sch_word.proofs.facts.Booleans.{and_left, and_right, and_of, or_left, or_right, not_left, not_right, not_true, neither, false_true}
+use Rattle.sch_word.proofs.facts.Booleans.{and_left, and_right, and_of, or_left, or_right, not_left, not_right, not_true, neither, false_true, never_true}
 use Rattle.sch_word.proofs.facts.NumberSets.{has_append}
 use Rattle.sch_control.specs.Tree.{Expression, perform, bind, sequence, branch, fix, call, tail_call, return, end, save}
 use Rattle.sch_control.specs.Valid.{with_variable, with_members, member_variables, bound_in}
 use Rattle.sch_control.specs.flow.Live.{Live, Later}
 use Rattle.sch_paths.proofs.paths.LiveByPaths.{itself, then_is, either_same, both_same}
-use Rattle.sch_paths.proofs.saves.LiveInScope.{Readable, not_both, outer_scope, repeats_left, repeats_right, repeats_apart}
+use Rattle.sch_paths.proofs.saves.LiveInScope.{Readable, outer_scope, repeats_left, repeats_right, repeats_apart}
 use Rattle.sch_control.specs.flow.LiveTests.{is_live, Behind}
 use Rattle.sch_regs.specs.PlaceChoice.{Table, placed, place_in, slots, choose, choose_each, live_first, around, assign}
 use Rattle.sch_word.specs.values.Registers.{argument_registers}
 use Rattle.sch_control.specs.Valid.{without_repeats}
 use Rattle.sch_control.specs.flow.Apart.{EachHas, EachBinding, Around}
-use Rattle.sch_paths.proofs.paths.LiveTested.{or_is, and_is, differ_is, equal_is, live_test}
-use Rattle.sch_regs.proofs.ApartAtPoints.{each_at, each_of}
+use Rattle.sch_control.proofs.NumberLists.{or_around}
+use Rattle.sch_control.proofs.VariableLists.{each_at, each_of}
+use Rattle.sch_paths.proofs.paths.LiveTested.{or_is, and_is, differ_is, equal_is, live_test, match_is}
 use Rattle.sch_regs.proofs.InScope.{Sits, Back, reads, bind_first, bind_second, bind_once, bind_apart, back_more, back_bind, seq_first, seq_second, seq_apart, branch_first, branch_second, branch_third, branch_apart, arms_apart, back_branch, fix_inner, fix_apart, members_once, members_read, back_fix, as_return, as_end, as_save}
 use Rattle.sch_regs.proofs.OneChoice.{SlotsBelow, chosen_below, each_below, each_placed, each_kept, Extends, each_once, WellBound, group_well, has_ordered, ordered_once, ordered_live}
 
@@ -31,11 +32,6 @@ around_bind true a false t = refl
 around_bind false true true t = refl
 around_bind false true false t = refl
 around_bind false false b t = refl
-
-around_two : (a b t : Bool) → (b || (a || t)) ≡ ((a || b) || t)
-around_two true true t = refl
-around_two true false t = refl
-around_two false b t = refl
 
 around_three : (a b c t : Bool) → (c || (b || (a || t))) ≡ ((a || (b || c)) || t)
 around_three true b true t = refl
@@ -53,7 +49,7 @@ assign_placed (bind y a b) l t x =
     ∙ ap (λ z. (nat_eq x y || z) || has x (placed t)) (sym (has_append x (bound_in a) (bound_in b)))))
 assign_placed (sequence a b) l t x =
     assign_placed b l _ x ∙ (ap (λ z. has x (bound_in b) || z) (assign_placed a _ t x)
-    ∙ (around_two (has x (bound_in a)) (has x (bound_in b)) (has x (placed t)) ∙ ap (λ z. z || has x (placed t)) (sym (has_append x (bound_in a) (bound_in b)))))
+    ∙ (or_around (has x (bound_in a)) (has x (bound_in b)) (has x (placed t)) ∙ ap (λ z. z || has x (placed t)) (sym (has_append x (bound_in a) (bound_in b)))))
 assign_placed (branch a b c) l t x =
     assign_placed c l _ x ∙ (ap (λ z. has x (bound_in c) || z) (assign_placed b l _ x) ∙ (ap (λ z. has x (bound_in c) || (has x (bound_in b) || z)) (assign_placed a _ t x)
     ∙ (around_three (has x (bound_in a)) (has x (bound_in b)) (has x (bound_in c)) (has x (placed t))
@@ -63,7 +59,7 @@ assign_placed (fix members e) l t x =
     let live : ℕ → Bool = around members (λ x. is_live x e (l x)) in
     assign_placed e l _ x
     ∙ (ap (λ z. has x (bound_in e) || z) (each_placed live (live_first live (member_variables members)) t x ∙ ap (λ z. z || has x (placed t)) (has_ordered live (member_variables members) x))
-    ∙ (around_two (has x (member_variables members)) (has x (bound_in e)) (has x (placed t))
+    ∙ (or_around (has x (member_variables members)) (has x (bound_in e)) (has x (placed t))
     ∙ ap (λ z. z || has x (placed t)) (sym (has_append x (member_variables members) (bound_in e)))))
 assign_placed (call a restores) l t x = refl
 assign_placed (tail_call a) l t x = refl
@@ -122,14 +118,14 @@ New ys t = (x : ℕ) → has x ys ≡ true → has x (placed t) ≡ false
 
 pub extends_back : (P : ℕ → Place) (e : Expression) (l : Behind) (t : Table) → New (bound_in e) t → Extends P (assign e l t) → Extends P t
 extends_back P e l t new ext x m =
-    ext x (assign_placed e l t x ∙ or_right (has x (bound_in e)) _ m) ∙ assign_kept e l t x (not_both (has x (bound_in e)) (λ h. false_true m (new x h)))
+    ext x (assign_placed e l t x ∙ or_right (has x (bound_in e)) _ m) ∙ assign_kept e l t x (never_true (has x (bound_in e)) (λ h. false_true m (new x h)))
 
 known_more : (e : Expression) (l : Behind) (scope : ℕ → Bool) (t : Table) → Known scope t → Known scope (assign e l t)
 known_more e l scope t known x r = assign_placed e l t x ∙ or_right (has x (bound_in e)) _ (known x r)
 
 new_more : (ys : List ℕ) (e : Expression) (l : Behind) (t : Table) → New ys t → ((x : ℕ) → has x (bound_in e) ≡ true → has x ys ≡ false) → New ys (assign e l t)
 new_more ys e l t new apart x h =
-    assign_placed e l t x ∙ neither (has x (bound_in e)) (has x (placed t)) (not_both (has x (bound_in e)) (λ b. false_true h (apart x b))) (new x h)
+    assign_placed e l t x ∙ neither (has x (bound_in e)) (has x (placed t)) (never_true (has x (bound_in e)) (λ b. false_true h (apart x b))) (new x h)
 
 well_same : (P : ℕ → Place) (A B : ℕ → Type 0) → ((x : ℕ) → A x ↔ B x) → (y : ℕ) → WellBound P A y → WellBound P B y
 well_same P A B f y w = ((λ x l n e. w.0 x ((f x).1 l) n e), λ h. full argument_registers (w.1 h)) where
@@ -137,16 +133,8 @@ well_same P A B f y w = ((λ x l n e. w.0 x ((f x).1 l) n e), λ h. full argumen
   full [] h = tt
   full (r ∷ rs) h = ((h.0.0, (h.0.1.0, ((f h.0.0).0 h.0.1.1.0, h.0.1.1.1))), full rs h.1)
 
-match_cond : (t b c : Bool) (B C : Type 0) → (b ≡ true) ↔ B → (c ≡ true) ↔ C → (cond t b c ≡ true) ↔ MatchBool t B C
-match_cond true b c B C f g = f
-match_cond false b c B C f g = g
-
 abbrev pub Tests : Behind → Later → Type 0
 Tests l L = (x : ℕ) (t : Bool) → (l x t ≡ true) ↔ L x t
-
-pub one_of : (b : Bool) {d : Bool} → (b || d) ≡ true → (b ≡ true) ⊎ (d ≡ true)
-one_of true h = inl refl
-one_of false h = inr h
 
 -- each variable is placed once
 pub assign_once : (e : Expression) (l : Behind) (t : Table) → New (bound_in e) t → without_repeats (bound_in e) ≡ true → without_repeats (placed t) ≡ true
@@ -164,17 +152,17 @@ assign_once (bind y a b) l t new once o =
     = assign_placed a la t y ∙ neither (has y (bound_in a)) (has y (placed t)) (not_left (has y (bound_in a)) _ no_y) (new y (or_left (nat_eq y y) _ (eq-eqb y y refl))) in
     let new_1 : New (bound_in b) t1
     = new_more (bound_in b) a la t (λ x h. inner x (has_append x (bound_in a) (bound_in b) ∙ or_right (has x (bound_in a)) _ h))
-    (λ x h. not_both (has x (bound_in b)) (repeats_apart (bound_in a) (bound_in b) rest x h)) in
+    (λ x h. never_true (has x (bound_in b)) (repeats_apart (bound_in a) (bound_in b) rest x h)) in
     assign_once b l (choose (λ x. is_live x b (l x)) y t1)
     (λ x h. neither (nat_eq x y) (has x (placed t1))
-    (not_both (nat_eq x y) (λ e. false_true h (ap (λ z. has z (bound_in b)) (eqb-true x y e) ∙ not_right (has y (bound_in a)) _ no_y))) (new_1 x h))
+    (never_true (nat_eq x y) (λ e. false_true h (ap (λ z. has z (bound_in b)) (eqb-true x y e) ∙ not_right (has y (bound_in a)) _ no_y))) (new_1 x h))
     (repeats_right (bound_in a) (bound_in b) rest)
     (and_of (not (has y (placed t1))) _ (ap not y_new) (assign_once a la t new_a (repeats_left (bound_in a) (bound_in b) rest) o))
 assign_once (sequence a b) l t new once o =
     let la : Behind = λ x r. is_live x b (l x) in
     assign_once b l (assign a la t)
     (new_more (bound_in b) a la t (λ x h. new x (has_append x (bound_in a) (bound_in b) ∙ or_right (has x (bound_in a)) _ h))
-    (λ x h. not_both (has x (bound_in b)) (repeats_apart (bound_in a) (bound_in b) once x h)))
+    (λ x h. never_true (has x (bound_in b)) (repeats_apart (bound_in a) (bound_in b) once x h)))
     (repeats_right (bound_in a) (bound_in b) once)
     (assign_once a la t (λ x h. new x (has_append x (bound_in a) (bound_in b) ∙ or_left (has x (bound_in a)) _ h)) (repeats_left (bound_in a) (bound_in b) once) o)
 assign_once (branch a b c) l t new once o =
@@ -183,10 +171,10 @@ assign_once (branch a b c) l t new once o =
     let arms = repeats_right (bound_in a) (bound_in b ++ bound_in c) once in
     let new_arms : New (bound_in b ++ bound_in c) t1
     = new_more (bound_in b ++ bound_in c) a la t (λ x h. new x (has_append x (bound_in a) (bound_in b ++ bound_in c) ∙ or_right (has x (bound_in a)) _ h))
-    (λ x h. not_both (has x (bound_in b ++ bound_in c)) (repeats_apart (bound_in a) (bound_in b ++ bound_in c) once x h)) in
+    (λ x h. never_true (has x (bound_in b ++ bound_in c)) (repeats_apart (bound_in a) (bound_in b ++ bound_in c) once x h)) in
     assign_once c l (assign b l t1)
     (new_more (bound_in c) b l t1 (λ x h. new_arms x (has_append x (bound_in b) (bound_in c) ∙ or_right (has x (bound_in b)) _ h))
-    (λ x h. not_both (has x (bound_in c)) (repeats_apart (bound_in b) (bound_in c) arms x h)))
+    (λ x h. never_true (has x (bound_in c)) (repeats_apart (bound_in b) (bound_in c) arms x h)))
     (repeats_right (bound_in b) (bound_in c) arms)
     (assign_once b l t1 (λ x h. new_arms x (has_append x (bound_in b) (bound_in c) ∙ or_left (has x (bound_in b)) _ h)) (repeats_left (bound_in b) (bound_in c) arms)
     (assign_once a la t (λ x h. new x (has_append x (bound_in a) (bound_in b ++ bound_in c) ∙ or_left (has x (bound_in a)) _ h))
@@ -197,7 +185,7 @@ assign_once (fix members e) l t new once o =
     let order : List ℕ = live_first live ys in
     assign_once e l (choose_each live order t)
     (λ x h. each_placed live order t x ∙ (ap (λ z. z || has x (placed t)) (has_ordered live ys x)
-    ∙ neither (has x ys) (has x (placed t)) (not_both (has x ys) (λ m. repeats_apart ys (bound_in e) once x m h))
+    ∙ neither (has x ys) (has x (placed t)) (never_true (has x ys) (λ m. repeats_apart ys (bound_in e) once x m h))
     (new x (has_append x ys (bound_in e) ∙ or_right (has x ys) _ h))))
     (repeats_right ys (bound_in e) once)
     (each_once live order t (ordered_once live ys (repeats_left ys (bound_in e) once))
@@ -227,20 +215,20 @@ module _ (P : ℕ → Place) where
       = λ x h. or_right (nat_eq x y) _ (has_append x (bound_in a) (bound_in b) ∙ or_right (has x (bound_in a)) _ h) in
       let new_a : New (bound_in a) t = λ x h. new x (in_first x h) in
       let new_y : New (y ∷ []) t1
-      = λ x h. elim (one_of (nat_eq x y) h) [
+      = λ x h. elim (or_cases (nat_eq x y) _ h) [
         | inl e ↦ subst (λ z. has z (placed t1) ≡ false) (sym (eqb-true x y e))
             (assign_placed a la t y ∙ neither (has y (bound_in a)) (has y (placed t)) (not_left (has y (bound_in a)) _ y_apart) (new y (or_left (nat_eq y y) _ (eq-eqb y y refl))))
         | inr k ↦ absurd (false_true k refl)
       ] in
       let new_b1 : New (bound_in b) t1 = new_more (bound_in b) a la t (λ x h. new x (in_second x h)) (bind_apart y a b scope s) in
       let new_b : New (bound_in b) t2
-      = λ x h. neither (nat_eq x y) (has x (placed t1)) (not_both (nat_eq x y) (λ e. false_true h (ap (λ z. has z (bound_in b)) (eqb-true x y e) ∙ not_right (has y (bound_in a)) _ y_apart)))
+      = λ x h. neither (nat_eq x y) (has x (placed t1)) (never_true (nat_eq x y) (λ e. false_true h (ap (λ z. has z (bound_in b)) (eqb-true x y e) ∙ not_right (has y (bound_in a)) _ y_apart)))
       (new_b1 x h) in
       let known_1 : Known scope t1 = known_more a la scope t known in
       let known_2 : Known (with_variable y scope) t2
       = λ x r. elim r [
         | inl z ↦ or_right (nat_eq x y) _ (known_1 x (inl z))
-        | inr k ↦ elim (one_of (nat_eq x y) k) [ inl e ↦ or_left (nat_eq x y) _ e | inr m ↦ or_right (nat_eq x y) _ (known_1 x (inr m)) ]
+        | inr k ↦ elim (or_cases (nat_eq x y) _ k) [ inl e ↦ or_left (nat_eq x y) _ e | inr m ↦ or_right (nat_eq x y) _ (known_1 x (inr m)) ]
       ] in
       let below_1 : SlotsBelow (slots t1) t1 = assign_below a la t below in
       let o1 : without_repeats (placed t1) ≡ true = assign_once a la t new_a s1.once o in
@@ -249,12 +237,12 @@ module _ (P : ℕ → Place) where
       let ext_2 : Extends P t2 = extends_back P b l t2 new_b ext in
       let ext_1 : Extends P t1
       = λ x m. ext_2 x (or_right (nat_eq x y) _ m)
-      ∙ each_kept lb (y ∷ []) t1 x (not_both (has x (y ∷ [])) (λ h. false_true m (new_y x h))) in
+      ∙ each_kept lb (y ∷ []) t1 x (never_true (has x (y ∷ [])) (λ h. false_true m (new_y x h))) in
       let one : EachHas (WellBound P (λ x. is_live x b (l x) ≡ true)) (y ∷ [])
       = group_well lb P (y ∷ []) t1 refl new_y ((λ n x h. absurd (false_true h refl)), tt) below_1 o1 ext_2
       (λ x h. elim (reads s2 L (back_more scope y L f) x ((test x).0 h)) [
         | inl z ↦ inl (known_1 x (inl z))
-        | inr k ↦ elim (one_of (nat_eq x y) k) [ inl e ↦ inr (or_left (nat_eq x y) _ e) | inr m ↦ inl (known_1 x (inr m)) ]
+        | inr k ↦ elim (or_cases (nat_eq x y) _ k) [ inl e ↦ inr (or_left (nat_eq x y) _ e) | inr m ↦ inl (known_1 x (inr m)) ]
       ]) in (
         well_same P (λ x. is_live x b (l x) ≡ true) (λ x. Live x b (L x)) test y one.0,
         (
@@ -288,7 +276,7 @@ module _ (P : ℕ → Place) where
       let o1 : without_repeats (placed t1) ≡ true = assign_once a la t new_a (branch_first a b c scope s).once o in
       let o2 : without_repeats (placed t2) ≡ true = assign_once b l t1 new_b (branch_second a b c scope s).once o1 in
       let ext_2 : Extends P t2 = extends_back P c l t2 new_c ext in (
-        well a scope (branch_first a b c scope s) la _ (λ x t. match_cond t _ _ _ _ (live_test x b (l x) (L x) (same x)) (live_test x c (l x) (L x) (same x))) (back_branch a b c scope s L f) t known new_a
+        well a scope (branch_first a b c scope s) la _ (λ x t. match_is t _ _ _ _ (live_test x b (l x) (L x) (same x)) (live_test x c (l x) (L x) (same x))) (back_branch a b c scope s L f) t known new_a
             below o (extends_back P b l t1 new_b ext_2),
         (
           well b scope (branch_second a b c scope s) l L same f t1 known_1 new_b below_1 o1 ext_2,
@@ -305,7 +293,7 @@ module _ (P : ℕ → Place) where
       let in_t1 : (x : ℕ) → has x (placed t1) ≡ (has x ys || has x (placed t)) = λ x. each_placed live order t x ∙ ap (λ z. z || has x (placed t)) (has_ordered live ys x) in
       let new_ys : New order t = λ x h. new x (has_append x ys (bound_in e) ∙ or_left (has x ys) _ (sym (has_ordered live ys x) ∙ h)) in
       let new_e : New (bound_in e) t1
-      = λ x h. in_t1 x ∙ neither (has x ys) (has x (placed t)) (not_both (has x ys) (λ m. false_true h (fix_apart members e scope s x m)))
+      = λ x h. in_t1 x ∙ neither (has x ys) (has x (placed t)) (never_true (has x ys) (λ m. false_true h (fix_apart members e scope s x m)))
       (new x (has_append x ys (bound_in e) ∙ or_right (has x ys) _ h)) in
       let place_known : (x : ℕ) → Readable (with_members members scope) x → (has x ys ≡ true) ⊎ (has x (placed t) ≡ true)
       = λ x r. member_or (has x ys) refl (λ n. elim r [ inl z ↦ known x (inl z) | inr k ↦ known x (inr (sym (outer_scope members scope x n) ∙ k)) ]) in

@@ -1,14 +1,13 @@
 -- The places of what a body is entered with, and of whole bodies.
 use Rattle.std.proofs.Common.{◌≡◌, ◌≢◌, ℕ, zero, suc, ◌+◌, ◌<◌, ◌≤◌, Bool, true, false, List, [], ◌∷◌, length, Option, Some, None, refl, ap, sym, ◌∙◌, subst, inl, inr, arith}
 use Rattle.std.specs.Prelude.{nat_eq, nat_lt, nat_le, ◌||◌, ◌&&◌, not, cond, map}
-use Rattle.std.proofs.lemmas.Bool.{eqb-true, eq-eqb, ne_eqb}
+use Rattle.std.proofs.lemmas.Bool.{eqb-true, eq-eqb, ne_eqb, or_cases}
 use Rattle.std.proofs.lemmas.Bool.Decides.{nat_tests}
-use Rattle.std.specs.List.{list_all}
 use Rattle.sch_word.specs.trees.Bindings.{numbers}
 use Rattle.sch_word.specs.trees.NumberSets.{has}
 use Rattle.sch_word.specs.declared.place.Place.{Place}
 use Rattle.sch_word.specs.declared.place.Place.TheVariants.{Reg, Slot}
-use Rattle.sch_word.proofs.facts.Booleans.{and_left, and_right, and_of, or_left, or_right, not_left, not_right, not_true, false_true}
+use Rattle.sch_word.proofs.facts.Booleans.{and_left, and_right, and_of, or_left, or_right, not_left, not_right, not_true, false_true, never_true}
 use Rattle.sch_control.specs.declared.body.Entry.{Entry}
 use Rattle.sch_control.specs.Tree.{Expression, Code}
 use Rattle.sch_control.specs.Valid.{Position, positioned, last_position, first_scope, in_scope_whole, numbered, ended, is_bare, first_bound, in_scope, bound_in, without_repeats}
@@ -17,16 +16,17 @@ use Rattle.sch_control.specs.flow.Bare.{erased}
 use Rattle.sch_control.specs.flow.Live.{Live, nothing_later}
 use Rattle.sch_control.specs.flow.Places.{place_of, in_slot, count_slots, link_place, closure_place, arrival, formals_of, stays, is_usual}
 use Rattle.sch_control.proofs.NumberLists.{once_from, has_first}
+use Rattle.sch_control.proofs.VariableLists.{each_passes}
 use Rattle.sch_paths.proofs.paths.UnlistedPaths.{positioned_erased}
 use Rattle.sch_paths.proofs.runs.RestoresAreEnough.{scope_erased, bound_erased, valid_once, valid_unbound}
-use Rattle.sch_paths.proofs.saves.LiveInScope.{Readable, not_both}
+use Rattle.sch_paths.proofs.saves.LiveInScope.{Readable}
 use Rattle.sch_regs.specs.PlaceChoice.{Table, placed, place_in, slots, arrived, nothing_behind, table_of, places}
 use Rattle.sch_regs.specs.Spills.{InSlotWhenFull, SlotsWhenFull}
 use Rattle.sch_regs.proofs.UsualPlaces.{proper, proper_of, assign_proper, first_proper, usual_of}
 use Rattle.sch_regs.proofs.InScope.{Sits, reads}
 use Rattle.sch_regs.proofs.ApartAtPoints.{points, each_binding}
 use Rattle.sch_regs.proofs.OneChoice.{Below, SlotsBelow, slots_more, slot_of, WellBound}
-use Rattle.sch_regs.proofs.WellBound.{New, one_of, well, assign_placed, assign_kept, assign_below, assign_once}
+use Rattle.sch_regs.proofs.WellBound.{New, well, assign_placed, assign_kept, assign_below, assign_once}
 
 -- ## Arrivals
 
@@ -60,11 +60,11 @@ entry_place_apart x y n e = n (sym (rank_entry_place x) ∙ (ap rank e ∙ rank_
 -- ## The first table
 
 placed_below : (n x : ℕ) → has x (placed (arrived n)) ≡ true → x < suc (suc n)
-placed_below zero x h = elim (one_of (nat_eq x 1) h) [
+placed_below zero x h = elim (or_cases (nat_eq x 1) _ h) [
   | inl e ↦ grind (arith, nat_tests, e)
-  | inr k ↦ elim (one_of (nat_eq x 0) k) [ inl e ↦ grind (arith, nat_tests, e) | inr z ↦ absurd (false_true z refl) ]
+  | inr k ↦ elim (or_cases (nat_eq x 0) _ k) [ inl e ↦ grind (arith, nat_tests, e) | inr z ↦ absurd (false_true z refl) ]
 ]
-placed_below (suc n) x h = elim (one_of (nat_eq x (suc (suc n))) h) [
+placed_below (suc n) x h = elim (or_cases (nat_eq x (suc (suc n))) _ h) [
   | inl e ↦ grind (arith, nat_tests, e)
   | inr k ↦ let lt = placed_below n x k in grind (arith, lt)
 ]
@@ -110,13 +110,6 @@ scope_below entry x (inl z) = subst (λ y. y < suc (suc (formals_of entry))) (sy
 scope_below None x (inr h) = absurd (cc)
 scope_below (Some e) x (inr h) = let lt : nat_lt x (2 + e.formals) ≡ true = and_right (nat_lt 0 x) _ h in grind (arith, nat_tests, lt)
 
-each_is : (P : ℕ → Bool) (xs : List ℕ) → list_all P xs ≡ true → (x : ℕ) → has x xs ≡ true → P x ≡ true
-each_is P [] h x m = absurd (cc)
-each_is P (y ∷ ys) h x m = elim (one_of (nat_eq x y) m) [
-  | inl e ↦ ap P (eqb-true x y e) ∙ and_left (P y) _ h
-  | inr k ↦ each_is P ys (and_right (P y) _ h) x k
-]
-
 bound_above : (entry : Option Entry) (x : ℕ) → nat_le (first_bound entry) x ≡ true → x < suc (suc (formals_of entry)) → ⊥
 bound_above None x h k = grind (arith, nat_tests, h, k)
 bound_above (Some e) x h k = grind (arith, nat_tests, h, k)
@@ -125,7 +118,7 @@ arrived_once : (n : ℕ) → without_repeats (placed (arrived n)) ≡ true
 arrived_once zero = refl
 arrived_once (suc n) =
     and_of (not (has (suc (suc n)) (placed (arrived n)))) _
-    (ap not (not_both (has (suc (suc n)) (placed (arrived n))) (λ h. let lt = placed_below n (suc (suc n)) h in absurd (omega (arith, lt))))) (arrived_once n)
+    (ap not (never_true (has (suc (suc n)) (placed (arrived n))) (λ h. let lt = placed_below n (suc (suc n)) h in absurd (omega (arith, lt))))) (arrived_once n)
 
 -- ## Lists of places
 
@@ -253,17 +246,17 @@ module _ (c : Code) (e : Expression) (is : erased e ≡ c.expression) (i : in_sc
 
   pub bound_within : (x : ℕ) → has x (bound_in e) ≡ true → (nat_le (first_bound c.entry) x && nat_lt x c.variables) ≡ true
   bound_within x h =
-      each_is (λ x. nat_le (first_bound c.entry) x && nat_lt x c.variables) (bound_in c.expression)
+      each_passes (λ x. nat_le (first_bound c.entry) x && nat_lt x c.variables) (bound_in c.expression)
       (and_left _ _ (and_right (nat_le (first_bound c.entry) c.variables) _ (and_right _ _ n))) x (ap (has x) (sym bound_same) ∙ h)
 
   new0 : New (bound_in e) t0
-  new0 x h = not_both (has x (placed t0)) (λ m. bound_above c.entry x (and_left (nat_le (first_bound c.entry) x) _ (bound_within x h)) (placed_below n0 x m))
+  new0 x h = never_true (has x (placed t0)) (λ m. bound_above c.entry x (and_left (nat_le (first_bound c.entry) x) _ (bound_within x h)) (placed_below n0 x m))
 
   once : without_repeats (placed t) ≡ true
   once = assign_once e nothing_behind t0 new0 sits.once (arrived_once n0)
 
   within : (x : ℕ) → has x (placed t) ≡ true → x < c.variables
-  within x h = elim (one_of (has x (bound_in e)) (sym (assign_placed e nothing_behind t0 x) ∙ h)) [
+  within x h = elim (or_cases (has x (bound_in e)) _ (sym (assign_placed e nothing_behind t0 x) ∙ h)) [
     | inl b ↦ let lt : nat_lt x c.variables ≡ true = and_right (nat_le (first_bound c.entry) x) _ (bound_within x b) in grind (arith, nat_tests, lt)
     | inr m ↦ let lt = placed_below n0 x m in let k = enough in omega (arith, lt, k)
   ]
@@ -275,7 +268,7 @@ module _ (c : Code) (e : Expression) (is : erased e ≡ c.expression) (i : in_sc
   at_entry x h =
       let k = enough in
       listed_at x (omega (arith, h, k))
-      ∙ (assign_kept e nothing_behind t0 x (not_both (has x (bound_in e)) (λ b. false_true (below_placed n0 x h) (new0 x b))) ∙ first_place n0 x h)
+      ∙ (assign_kept e nothing_behind t0 x (never_true (has x (bound_in e)) (λ b. false_true (below_placed n0 x h) (new0 x b))) ∙ first_place n0 x h)
 
   pub slots_same : count_slots ps ≡ slots t
   slots_same =

@@ -7,7 +7,8 @@ use Rattle.sch_cells.specs.Variables as to
 use Rattle.sch_rename.specs.Made.{number_at, binds, binds_each, binds_lambdas, renamed, renamed_each, renamed_lambdas}
 use Rattle.sch_lang.specs.InScope.{InScope, EachInScope, LambdasInScope}
 use Rattle.sch_word.specs.trees.Bindings.{scope_with, without}
-use Rattle.sch_rename.proofs.Scopes.{Falls, falls_more, falls_with, inside, Under, union_under, outside_under, both, outside_map}
+use Rattle.sch_word.proofs.facts.NumberSets.{Under, union_under}
+use Rattle.sch_rename.proofs.Scopes.{Falls, falls_more, falls_with, inside, outside_under, both, outside_map}
 
 mutual
   pub free_under : (e : Expression) (n : ℕ) → InScope e n → Under (free e) n

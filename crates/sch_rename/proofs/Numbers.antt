@@ -13,6 +13,7 @@ use Rattle.sch_word.proofs.Shaped.{both_true}
 use Rattle.sch_rename.proofs.FreeKept.{counts, counts_lambdas}
 use Rattle.sch_word.proofs.facts.NumberTests.{same}
 use Rattle.sch_word.proofs.facts.NumberSets.{below_numbers}
+use Rattle.sch_word.proofs.facts.Booleans.{is_not_true}
 
 -- ## Each number once
 
@@ -67,12 +68,9 @@ mutual
 pub program_bound : (p : Source) → bound_lambdas (renamed_lambdas p.library [] 0) ++ bound_each (renamed_each p.forms [] (binds_lambdas p.library)) ≡ numbers 0 (binds_lambdas p.library + binds_each p.forms)
 program_bound p = on 0 (binds_lambdas p.library) (binds_each p.forms) _ (omega arith) (lambdas_bound p.library [] 0) (each_bound p.forms [] _)
 
-not_true : {b : Bool} → b ≡ false → IsTrue (not b)
-not_true h = rw h refl
-
 pub numbers_distinct : (x n : ℕ) → IsTrue (distinct (numbers x n))
 numbers_distinct x zero = refl
-numbers_distinct x (suc n) = both_true (not_true (below_numbers x (suc x) n (omega arith))) (numbers_distinct (suc x) n)
+numbers_distinct x (suc n) = both_true (is_not_true _ (below_numbers x (suc x) n (omega arith))) (numbers_distinct (suc x) n)
 
 pub numbers_below : (x n m : ℕ) → x + n ≤ m → IsTrue (below m (numbers x n))
 numbers_below x zero m l = refl

@@ -7,6 +7,7 @@ use Rattle.sch_lang.specs.Variables.{outside_one, outside}
 use Rattle.sch_rename.specs.Made.{number_at}
 use Rattle.sch_word.specs.trees.Bindings.{scope_with, remove, without}
 use Rattle.sch_word.proofs.facts.NumberTests.{below_differs, same as self}
+use Rattle.sch_word.proofs.facts.NumberSets.{Under, union_under}
 
 -- a scope of numbers that fall from the nearest on, all below x
 abbrev pub Falls : List ℕ → ℕ → Type 0
@@ -54,22 +55,6 @@ pub or_same : {a b c d : Bool} → a ≡ c → b ≡ d → (a || b) ≡ (c || d)
 or_same p q = rw (p, q) refl
 
 -- ## Sets
-
--- each is below n
-abbrev pub Under : List ℕ → ℕ → Type 0
-Under [] n = Unit {0}
-Under (x ∷ xs) n = (x < n) × Under xs n
-
-insert_under : (x : ℕ) (xs : List ℕ) (n : ℕ) → x < n → Under xs n → Under (insert x xs) n
-insert_under x xs n l u = go (has x xs)
-  where
-    go : (b : Bool) → Under (unless b x xs) n
-    go true = u
-    go false = (l, u)
-
-pub union_under : (xs ys : List ℕ) (n : ℕ) → Under xs n → Under ys n → Under (union xs ys) n
-union_under [] ys n u v = v
-union_under (x ∷ xs) ys n u v = insert_under x (union xs ys) n u.0 (union_under xs ys n u.1 v)
 
 one_under : (xs : List ℕ) (n : ℕ) → Under xs (suc n) → Under (outside_one xs) n
 one_under [] n u = tt

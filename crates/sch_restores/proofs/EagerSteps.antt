@@ -9,7 +9,7 @@ use Rattle.sch_sets.specs.Members.{NumberSet}
 use Rattle.sch_sets.proofs.Membership.{contains-empty, contains-intersection, contains-remove, contains-union}
 use Rattle.sch_word.specs.trees.Bindings.{numbers}
 use Rattle.sch_word.specs.trees.NumberSets.{has, unless}
-use Rattle.sch_word.proofs.facts.Booleans.{and_left, and_of}
+use Rattle.sch_word.proofs.facts.Booleans.{and_left, and_of, or_swap, or_false}
 use Rattle.sch_control.specs.declared.operation.Application.{Application}
 use Rattle.sch_control.specs.declared.operation.Atom.{Atom}
 use Rattle.sch_control.specs.declared.operation.Member.{Member}
@@ -22,6 +22,7 @@ use Rattle.sch_control.specs.flow.LiveTests.{behind, is_soon, Behind}
 use Rattle.sch_control.specs.flow.Reads.{IsWith}
 use Rattle.sch_control.proofs.NumberLists.{has_items, once_filter, once_from}
 use Rattle.sch_control.proofs.SetTests.{link_only, one_set, two_sets}
+use Rattle.sch_control.proofs.VariableLists.{among_is}
 use Rattle.sch_restores.specs.Restores.{eager, wanted}
 
 -- ## What a call restores
@@ -95,26 +96,16 @@ made_given n n' i i' t t' f f' r e e' p q k l is h =
 
 -- ## Calls
 
-swap : (p q : Bool) → (p || q) ≡ (q || p)
-swap true true = refl
-swap true false = refl
-swap false true = refl
-swap false false = refl
-
-or_none : (b : Bool) → (b || false) ≡ b
-or_none true = refl
-or_none false = refl
-
 -- behind a call nothing counts
 pub read_alone : (atoms : List (Atom ℕ)) (none m : NumberSet) → none ≡ set.empty → IsWith atoms none m → (x : ℕ) → set.contains m x ≡ has x (named atoms)
 read_alone atoms none m e w x =
-    w x ∙ (ap (λ z. has x (named atoms) || set.contains z x) e ∙ (ap (λ b. has x (named atoms) || b) (contains-empty x) ∙ or_none (has x (named atoms))))
+    w x ∙ (ap (λ z. has x (named atoms) || set.contains z x) e ∙ (ap (λ b. has x (named atoms) || b) (contains-empty x) ∙ or_false (has x (named atoms))))
 
 -- but the return address
 pub read_and_return : (atoms : List (Atom ℕ)) (none link m : NumberSet) → none ≡ set.empty → link ≡ set.insert none 0 → IsWith atoms link m
     → (x : ℕ) → set.contains m x ≡ (nat_eq x 0 || has x (named atoms))
 read_and_return atoms none link m e put w x =
-    w x ∙ (ap (λ b. has x (named atoms) || b) (link_only none link e put x) ∙ swap (has x (named atoms)) (nat_eq x 0))
+    w x ∙ (ap (λ b. has x (named atoms) || b) (link_only none link e put x) ∙ or_swap (has x (named atoms)) (nat_eq x 0))
 
 -- ## One after the other
 
@@ -181,7 +172,7 @@ then_out : (a b : Expression) (u v w : NumberSet) → IsUnbound u v b → IsUnbo
 then_out a b u v w h k x = k x ∙ (ap (λ z. not (binds x a) && z) (h x) ∙ both_out (binds x a) (binds x b) (set.contains u x))
 
 pub sequence_unbound : (a b : Expression) (u v w : NumberSet) → IsUnbound u v b → IsUnbound v w a → IsUnbound u w (sequence a b)
-sequence_unbound a b u v w h k x = then_out a b u v w h k x ∙ ap (λ z. not z && set.contains u x) (swap (binds x b) (binds x a))
+sequence_unbound a b u v w h k x = then_out a b u v w h k x ∙ ap (λ z. not z && set.contains u x) (or_swap (binds x b) (binds x a))
 
 pub bind_unbound : (y : ℕ) (a b : Expression) (u v v' w : NumberSet) → IsUnbound u v b → v' ≡ set.remove v y → IsUnbound v' w a → IsUnbound u w (bind y a b)
 bind_unbound y a b u v v' w h r k x =
@@ -200,16 +191,12 @@ branch_unbound a b c u v w o h k l x =
       by true q s r = refl
       by false q s r = refl
 
-among_is : (x : ℕ) (members : List (Member ℕ)) → among x members ≡ has x (member_variables members)
-among_is x [] = refl
-among_is x (m ∷ members) = ap (λ b. nat_eq x m.at || b) (among_is x members)
-
 pub fix_unbound : (members : List (Member ℕ)) (e : Expression) (u v w : NumberSet) → IsUnbound u v e
     → ((x : ℕ) → set.contains w x ≡ (not (has x (member_variables members)) && set.contains v x)) → IsUnbound u w (fix members e)
 fix_unbound members e u v w h k x =
     k x ∙ (ap (λ z. not (has x (member_variables members)) && z) (h x)
     ∙ (ap (λ z. not z && (not (binds x e) && set.contains u x)) (sym (among_is x members))
-    ∙ (both_out (among x members) (binds x e) (set.contains u x) ∙ ap (λ z. not z && set.contains u x) (swap (binds x e) (among x members)))))
+    ∙ (both_out (among x members) (binds x e) (set.contains u x) ∙ ap (λ z. not z && set.contains u x) (or_swap (binds x e) (among x members)))))
 
 -- ## Regions
 
@@ -233,7 +220,7 @@ pub with_heads : (saves : List ℕ) (none all unbound heads old new : NumberSet)
     → (x : ℕ) → set.contains new x ≡ ((has x saves && set.contains unbound x) || set.contains old x)
 with_heads saves none all unbound heads old new e put met joined x =
     let there : set.contains all x ≡ has x saves
-    = put x ∙ (ap (λ z. has x saves || set.contains z x) e ∙ (ap (λ b. has x saves || b) (contains-empty x) ∙ or_none (has x saves))) in
+    = put x ∙ (ap (λ z. has x saves || set.contains z x) e ∙ (ap (λ b. has x saves || b) (contains-empty x) ∙ or_false (has x saves))) in
     ap (λ z. set.contains z x) joined ∙ (contains-union heads old x
     ∙ ap (λ b. b || set.contains old x) (ap (λ z. set.contains z x) met ∙ (contains-intersection all unbound x ∙ ap (λ b. b && set.contains unbound x) there)))
 

@@ -23,7 +23,7 @@ use Rattle.sch_paths.specs.EachSoonRestored.{EachSoonRestored}
 use Rattle.sch_paths.specs.Exact.{EagerRestores, EagerSets}
 use Rattle.sch_paths.proofs.paths.LiveTested.{and_is, differ_is, equal_is, false_is, match_is, perhaps_is, soon_test}
 use Rattle.sch_paths.proofs.paths.LiveByPaths.{then_is, both_same}
-use Rattle.sch_paths.proofs.paths.UnlistedTrees.{live_unlisted, may_give_unlisted, saved_alike, soon_unlisted}
+use Rattle.sch_paths.proofs.paths.UnlistedTrees.{live_unlisted, may_give_unlisted, saved_alike, soon_unlisted, LiveBefore}
 use Rattle.sch_paths.proofs.runs.PlainlyTheSame.{plainly}
 use Rattle.sch_paths.proofs.runs.RestoresAreEnough.{valid_fresh}
 use Rattle.sch_paths.proofs.runs.SameWithoutMarks.{silently}
@@ -65,13 +65,10 @@ module _ (n : ℕ) where
   gives_eager inside e s r =
       sym (may_give_unlisted (eager n inside e s) r) ∙ (ap (λ z. MayGive z r) (unlisted_eager inside e s) ∙ may_give_unlisted e r)
 
-  abbrev AllLive : Expression → Later → ℕ → Type 0
-  AllLive e L x = Live x e (L x)
-
   abbrev AllSoon : Expression → Later → ℕ → Type 0
   AllSoon e S x = Soon x e (S x)
 
-  live_eager : (inside : ℕ → Bool) (e : Expression) (s : Behind) (L : Later) → AllLive (eager n inside e s) L ≡ AllLive e L
+  live_eager : (inside : ℕ → Bool) (e : Expression) (s : Behind) (L : Later) → LiveBefore (eager n inside e s) L ≡ LiveBefore e L
   live_eager inside e s L =
       fun_ext (λ x. sym (live_unlisted x (eager n inside e s) (L x)) ∙ (ap (λ z. Live x z (L x)) (unlisted_eager inside e s) ∙ live_unlisted x e (L x)))
 

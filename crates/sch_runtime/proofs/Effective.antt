@@ -1,6 +1,8 @@
 -- The items of the routines do what the routines do, wherever they stand.
 use Rattle.std.proofs.Common.{◌≡◌, ℕ, ◌<◌, ◌%◌, List, [], ◌∷◌, ◌++◌, refl, sym, subst, arith}
 use Rattle.std.specs.List.{AllByRecursion}
+use Rattle.std.specs.Prelude.{IsTrue, false}
+use Rattle.sch_asm.specs.Items.{marks_arrive}
 use Rattle.sch_word.specs.declared.stop.Stop.{Stop}
 use Rattle.sch_word.specs.declared.stop.Stop.TheVariants.{WrongType, OutOfRange, NotProcedure, WrongCount, DivideByZero, Overflow, HeapLimit, DepthLimit, Unset, OutputFailed}
 use Rattle.sch_word.specs.runs.Stops.{status_of}
@@ -116,6 +118,10 @@ module _ (setting : Setting) where
       by routine.PutFixnum at = λ n ready word. puts_fixnum setting p.write p.loop e.1.1.1.1.1.1.1.1.1.1.0 p.done p.fixnum p.positive p.digit p.ready x n at ready word
       by routine.FillWords at = λ a n w ready room is fits. fills_words setting p.words x a n w at ready room is fits
       by routine.FillBytes at = λ a n b ready room is. fills_bytes setting p.bytes x a n b at ready room is
+      by _ at = tt
 
-pub routines_are_effective : AreEffective routine_items
-routines_are_effective = record { does = λ setting a h k x at. does setting a h k x at }
+-- behind items whose marks have arrived
+pub effective_behind : (front : List Item) → IsTrue (marks_arrive false front) → AreEffective (front ++ routine_items)
+effective_behind front arrive = record {
+  does = λ setting a h k x at. let b = stands_back setting front routine_items [] a arrive h in does setting b.0 b.1 k x at;
+}

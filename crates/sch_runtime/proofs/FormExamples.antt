@@ -11,7 +11,7 @@ use Rattle.sch_asm.specs.declared.item.Item.TheVariants.{Label, Plain, JumpIf, L
 use Rattle.sch_runtime.specs.Code.{exit_code, kept_r11, kept_rsi, routine_items}
 use Rattle.sch_runtime.specs.Form.{keeps_form}
 
-pub routines_keep : keeps_form routine_items ≡ true
+routines_keep : keeps_form routine_items ≡ true
 routines_keep = refl
 
 -- a routine with R11 in a word, around what is done there
@@ -51,12 +51,14 @@ returned_else :
     × (keeps_form (Label 11 ∷ StoreWord kept_r11 R11 ∷ Plain Syscall ∷ []) ≡ false)
 returned_else = (refl, refl, refl, refl)
 
--- The kernel is called where R11 has the address, or a jump goes out of what is between the store and the load, or into it.
+-- The kernel is called where R11 has the address, or a jump goes out of what is between the store and the load, or into it; or
+-- another routine is entered there.
 uncovered :
     (keeps_form (Label 11 ∷ Plain Syscall ∷ Plain (JumpTo (Reg R11)) ∷ []) ≡ false)
     × (keeps_form (Label 65 ∷ around (JumpIf E 65 ∷ Plain Syscall ∷ []) []) ≡ false)
     × (keeps_form (Label 65 ∷ JumpIf E 64 ∷ around (Label 64 ∷ Plain Syscall ∷ []) []) ≡ false)
-uncovered = (refl, refl, refl)
+    × (keeps_form (around (Label 12 ∷ Plain Syscall ∷ []) []) ≡ false)
+uncovered = (refl, refl, refl, refl)
 
 -- An exit has no `mov rax, 60` directly before its call, another number, or more than one way.
 exits_else :

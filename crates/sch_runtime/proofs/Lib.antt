@@ -8,5 +8,7 @@ pub mod PutBytes
 pub mod FillLoop
 pub mod Effective
 pub mod RoutineItems
+pub mod AllForms
+pub mod AllItems
 mod Examples
 mod FormExamples

@@ -1,18 +1,12 @@
--- The items of the routines are what an `Asm` may have, and what `resolve` joins to a program.
+-- The items of the routines that know nothing of values but fixnums are what an `Asm` may have.
 use Rattle.std.proofs.Common.{◌≡◌, ℕ, ◌<◌, List, [], ◌∷◌, ◌++◌, refl, arith}
 use Rattle.std.proofs.lemmas.Int.{ints}
-use Rattle.std.proofs.lemmas.List.Elements.{All-from_recursion}
 use Rattle.std.specs.Int.{w8, w32}
-use Rattle.std.specs.Prelude.{FitsSigned, IsTrue, nat_le, nat_lt, ℤ, pos, ◌||◌, ◌&&◌}
-use Rattle.sch_word.specs.declared.stop.Stop.TheVariants.{WrongType, OutOfRange, NotProcedure, WrongCount, DivideByZero, Overflow, HeapLimit, DepthLimit, Unset, OutputFailed}
+use Rattle.std.specs.Prelude.{FitsSigned, ℤ, pos}
 use Rattle.sch_insn.specs.declared.insn.Insn.{Insn}
 use Rattle.sch_asm.specs.declared.item.Item.{Item}
 use Rattle.sch_asm.specs.declared.item.Item.TheVariants.{Label, Plain}
-use Rattle.sch_asm.specs.declared.routine.Routine.{Routine}
-use Rattle.sch_asm.specs.declared.routine.Routine.TheVariants.{End, Stop, Put, PutFixnum, FillWords, FillBytes}
-use Rattle.sch_asm.specs.Routines.{label_of}
-use Rattle.sch_asm.specs.Items.{AreItems, AreKnown, AreRoutines, IsEachOnce, IsItem, is_among, is_routine, labels_in, uses_in, word_uses}
-use Rattle.sch_asm.proofs.Tables.{each_once}
+use Rattle.sch_asm.specs.Items.{AreItems, IsItem}
 use Rattle.sch_runtime.specs.Code.{byte_store, bytes_label, bytes_test, bytes_turn, bytes_items, exit_code, exits, fill_code, fill_items, put_items, routine_items, word_store, words_label, words_test, words_turn}
 
 fits_by : (z : ℤ) (n : ℕ) → z ≡ pos n → n < 2147483648 → FitsSigned w32 z
@@ -217,59 +211,3 @@ routines_sound =
     (exit_sound 7 71 (exits (72 ∷ 73 ∷ 74 ∷ []) put_items) (omega arith)
     (exit_sound 8 72 (exits (73 ∷ 74 ∷ []) put_items) (omega arith)
     (exit_sound 9 73 (exits (74 ∷ []) put_items) (omega arith) (exit_sound 10 74 (exits ([]) put_items) (omega arith) (put_sound)))))))))))
-
-pub routines_once : IsEachOnce (labels_in routine_items)
-routines_once = each_once (labels_in routine_items) refl
-
-pub routines_known : AreKnown routine_items []
-routines_known = All-from_recursion (λ l. IsTrue (is_routine l || is_among (labels_in routine_items) l)) (uses_in routine_items ++ word_uses [])
-    (refl, (refl, (refl, (refl, (refl, (refl, (refl, (refl, (refl, (refl, (refl, tt)))))))))))
-
-pub routines_joined : AreRoutines routine_items [] 0
-routines_joined = record {
-  complete = complete;
-  others = All-from_recursion (λ l. IsTrue (is_routine l || (nat_le 64 l && nat_lt l 1024))) (labels_in routine_items) (
-    refl,
-    (
-      refl,
-      (
-        refl,
-        (
-          refl,
-          (
-            refl,
-            (
-              refl,
-              (
-                refl,
-                (
-                  refl,
-                  (refl, (refl, (refl, (refl, (refl, (refl, (refl, (refl, (refl, (refl, (refl, (refl, (refl, (refl, (refl, (refl, (refl, tt))))))))))))))))),
-                ),
-              ),
-            ),
-          ),
-        ),
-      ),
-    ),
-  );
-  no_words = refl;
-  no_zeros = refl;
-}
-  where
-    complete : (k : Routine) → IsTrue (is_among (labels_in routine_items) (label_of k))
-    complete End = refl
-    complete (Stop WrongType) = refl
-    complete (Stop OutOfRange) = refl
-    complete (Stop NotProcedure) = refl
-    complete (Stop WrongCount) = refl
-    complete (Stop DivideByZero) = refl
-    complete (Stop Overflow) = refl
-    complete (Stop HeapLimit) = refl
-    complete (Stop DepthLimit) = refl
-    complete (Stop Unset) = refl
-    complete (Stop OutputFailed) = refl
-    complete Put = refl
-    complete PutFixnum = refl
-    complete FillWords = refl
-    complete FillBytes = refl

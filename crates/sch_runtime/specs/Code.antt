@@ -1,5 +1,5 @@
--- The items of the run-time routines. Each returns by a jump through r11. A call of the kernel overwrites
--- r11, so it is kept in a word of the data meanwhile.
+-- The items of the run-time routines: those that know nothing of values but fixnums, and in front of them those that do. Each
+-- returns by a jump through r11. A call of the kernel overwrites r11, so it is kept in a word of the data meanwhile.
 use Rattle.std.specs.Prelude.{ℕ, ◌+◌, ◌%◌, List, [], ◌∷◌, ◌++◌, pos}
 use Rattle.sch_insn.specs.declared.insn.Arg.TheVariants.{Reg, Base}
 use Rattle.sch_insn.specs.declared.insn.Insn.{Insn}
@@ -11,7 +11,9 @@ use Rattle.sch_word.specs.declared.stop.Stop.TheVariants.{OutputFailed}
 use Rattle.sch_asm.specs.declared.item.Item.{Item}
 use Rattle.sch_asm.specs.declared.item.Item.TheVariants.{Label, Plain, Jump, JumpIf, LoadWord, StoreWord}
 use Rattle.sch_asm.specs.declared.routine.Routine.TheVariants.{Stop, Put, PutFixnum, FillWords, FillBytes}
+use Rattle.sch_asm.specs.Narrow.{narrowed}
 use Rattle.sch_asm.specs.Routines.{label_of}
+use Rattle.sch_select_memory.specs.ValueCode.{value_code}
 
 -- ---- labels
 
@@ -185,3 +187,8 @@ put_items = Label put_label ∷ (put_code ++ Label done_label ∷ (done_code ++ 
 
 abbrev pub routine_items : List Item
 routine_items = exits statuses put_items
+
+-- In front stand those that know how values are in the machine, each instruction in its shortest form. These name where the heap
+-- ends.
+abbrev pub all_routines : (heap_end : ℕ) → List Item
+all_routines heap_end = narrowed (value_code heap_end) ++ routine_items

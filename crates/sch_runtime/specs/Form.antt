@@ -12,6 +12,7 @@ use Rattle.sch_insn.specs.declared.insn.Insn.TheVariants as insn
 use Rattle.sch_insn.specs.declared.register.TheConstants.{RAX, R11}
 use Rattle.sch_asm.specs.declared.item.Item.{Item}
 use Rattle.sch_asm.specs.declared.item.Item.TheVariants.{Label, Plain, Jump, JumpIf, LoadLabel, LoadWord, StoreWord}
+use Rattle.sch_asm.specs.Items.{is_routine}
 use Rattle.sch_runtime.specs.Code.{statuses}
 
 -- ## Instructions: the operand that is written (SDM volume 2, the page of each mnemonic). A division writes RAX and RDX, and
@@ -98,14 +99,14 @@ behind_register (LoadWord r a) = when (not (nat_eq r R11)) in_register
 behind_register (StoreWord a r) = Some (cond (nat_eq r R11) (in_word a) in_register)
 behind_register _ = Some in_register
 
--- Where it is in a word, the kernel may be called, and no instruction jumps through a register or writes memory.
+-- Where it is in a word, the kernel may be called, no instruction jumps through a register or writes memory, and no routine is entered.
 abbrev pub word_insn : ℕ → Insn → Option Return
 word_insn a insn.Syscall = Some (in_word a)
 word_insn a (insn.JumpTo m) = None
 word_insn a i = when (not (is_r11 (written i)) && not (is_memory (written i))) (in_word a)
 
 abbrev pub behind_word : ℕ → Item → Option Return
-behind_word a (Label l) = when (not (is_exit l)) (in_word a)
+behind_word a (Label l) = when (not (is_routine l)) (in_word a)
 behind_word a (Plain i) = word_insn a i
 behind_word a (LoadLabel r l) = when (not (nat_eq r R11)) (in_word a)
 behind_word a (LoadWord r b) = cond (nat_eq r R11) (when (nat_eq a b) in_register) (Some (in_word a))

@@ -1,21 +1,28 @@
 //! The items of the run-time routines, made.
 
-ghost use Rattle.std.specs.Prelude.{◌≡◌, ◌<◌, ◌≤◌, ◌%◌, [], ◌∷◌, ◌++◌, IfOk, IsTrue};
+ghost use Rattle.std.specs.Prelude.{◌≡◌, ◌<◌, ◌≤◌, ◌%◌, [], ◌∷◌, ◌++◌, IfOk, IsTrue, OnOk};
 ghost use Rattle.std.specs.List.{list_all};
 ghost use Rattle.sch_asm.specs.declared.item.Item.TheVariants as item;
 ghost use Rattle.sch_asm.specs.Items.{AreRoutines};
 ghost use Rattle.sch_asm.specs.Routines.{label_of};
 ghost use Rattle.sch_asm.specs.Codes.{text_size};
 ghost use Rattle.sch_asm.specs.Effects.{AreEffective};
-ghost use Rattle.sch_asm.specs.Narrow.{is_narrow_item};
+ghost use Rattle.sch_asm.specs.Narrow.{is_narrow_item, narrowed};
+ghost use Rattle.sch_select_memory.specs.Addresses.{max_heap_end};
+ghost use Rattle.sch_select_memory.specs.ValueCode.{value_code};
 ghost use Rattle.sch_runtime.specs.Form.{keeps_form};
-ghost use Rattle.sch_runtime.specs.Code.{digit_code, digit_label, done_code, done_label, exit_code, fixnum_code, put_code, fill_code, routine_items};
+ghost use Rattle.sch_runtime.specs.FrameRegister.{leaves_frame};
+ghost use Rattle.sch_runtime.specs.Code.{all_routines, digit_code, digit_label, done_code, done_label, exit_code, fixnum_code, put_code, fill_code, routine_items};
 
-use sch_asm::{Asm, Item, Routine};
+use crate::new_list::rest_routine;
+use crate::new_string::string_routine;
+use crate::new_vector::vector_routine;
+use crate::put_value::put_routine;
+use sch_asm::{Asm, Item, Routine, narrowed};
 use sch_insn::condition::{E, GE, LE, NE};
 use sch_insn::register::{R11, RAX, RCX, RDI, RDX, RSI};
 use sch_insn::{Arg, Insn};
-use sch_word::{DATA_ADDRESS, Limits, List, Mem, Stop};
+use sch_word::{DATA_ADDRESS, List, Mem, Stop};
 use std::alloc::Global;
 
 /// The statuses with which a program ends: that of its end, and those of its stops.
@@ -57,18 +64,21 @@ const KEPT_RDI: u64 = DATA_ADDRESS + 16;
 // Where the digits of a number end.
 const DIGITS_END: i32 = DATA_ADDRESS as i32 + 64;
 
-/// The run-time routines for these limits, as `resolve` takes them.
-pub fn routines(alloc: Global, limits: Limits) -> Result<Asm, Mem>
-    ensures items { IfOk result (λ r. r.items ≡ routine_items) }
+/// The run-time routines for a heap that ends there, as `resolve` takes them.
+pub fn routines(alloc: Global, heap_end: u32) -> Result<Asm, Mem>
+    requires { heap_end ≤ max_heap_end }
+    ensures items { IfOk result (λ r. r.items ≡ all_routines heap_end) }
     ensures joined { IfOk result (λ r. AreRoutines r.items r.words r.zeros) }
     ensures effective { IfOk result (λ r. AreEffective r.items) }
-    ensures short { IfOk result (λ r. text_size r.items ≤ 1024) }
+    ensures short { IfOk result (λ r. text_size r.items ≤ 2560) }
     // Each instruction has its shortest form.
     ensures narrow { IfOk result (λ r. IsTrue (list_all is_narrow_item r.items)) }
     // Their text alone shows where each of them returns.
     ensures form { IfOk result (λ r. IsTrue (keeps_form r.items)) }
+    // RBP is nowhere in them, but that its address goes into RCX.
+    ensures frame { IfOk result (λ r. IsTrue (list_all leaves_frame r.items)) }
 {
-    let items = items_of(alloc)?;
+    let items = all_items(alloc, heap_end)?;
     Ok(Asm {
         items,
         words: List::new(alloc),
@@ -77,7 +87,39 @@ pub fn routines(alloc: Global, limits: Limits) -> Result<Asm, Mem>
 }
 
 // The items of all routines.
-fn items_of(alloc: Global) -> Result<List<Item>, Mem>
+fn all_items(alloc: Global, heap_end: u32) -> Result<List<Item>, Mem>
+    requires { heap_end ≤ max_heap_end }
+    ensures { IfOk result (λ items. items ≡ all_routines heap_end) }
+{
+    let mut items = value_items(alloc, heap_end)?;
+    let others = other_items(alloc)?;
+    items.extend_from_slice(others.as_slice())?;
+    Ok(items)
+}
+
+// The items of those that know how values are in the machine: each instruction has its shortest form.
+fn value_items(alloc: Global, heap_end: u32) -> Result<List<Item>, Mem>
+    requires { heap_end ≤ max_heap_end }
+    ensures { IfOk result (λ items. items ≡ narrowed (value_code heap_end)) }
+{
+    let mut items = List::new(alloc);
+    value_routines(&mut items, heap_end)?;
+    narrowed(alloc, items.as_slice())
+}
+
+// The routines that know how values are in the machine, one behind the other. They name where the heap ends.
+fn value_routines(items: &mut List<Item>, heap_end: u32) -> Result<(), Mem>
+    requires { heap_end ≤ max_heap_end }
+    ensures { OnOk result (items.new ≡ items.old ++ value_code heap_end) }
+{
+    put_routine(items)?;
+    vector_routine(items, heap_end)?;
+    string_routine(items, heap_end)?;
+    rest_routine(items, heap_end)
+}
+
+// The items of all others.
+fn other_items(alloc: Global) -> Result<List<Item>, Mem>
     ensures { IfOk result (λ items. items ≡ routine_items) }
 {
     let mut items = List::new(alloc);

@@ -2,5 +2,9 @@
 #![tactic(auto)]
 
 mod building;
+mod new_list;
+mod new_string;
+mod new_vector;
+mod put_value;
 
 pub use building::routines;

@@ -4,7 +4,6 @@ pub mod Labels
 pub mod RestItems
 pub mod AppendedForms
 pub mod ProgramLabels
-pub mod Sound
 pub mod ProgramSound
 pub mod ProgramMarks
 pub mod ProgramKnown
@@ -19,6 +18,5 @@ pub mod StoreExamples
 pub mod InstructionCounts
 pub mod JumpsAhead
 pub mod ReachedCodes
-pub mod RoutineForms
 pub mod ProgramFrames
 pub mod FrameExamples

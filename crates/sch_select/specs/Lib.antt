@@ -3,7 +3,6 @@ pub mod Program
 pub mod Sizes
 pub mod MarkedStores
 pub mod FrameWords
-pub mod Parted
 pub mod Jumps
 pub mod Marks
 pub mod Ends

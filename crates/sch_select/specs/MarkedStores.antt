@@ -1,24 +1,18 @@
 -- Where the marks of stores stand among items: each write of a word of a frame stands behind one of them, and they stand
--- nowhere else. Bodies write words of frames through RBP alone (FrameWords). One routine of the program's own, which makes
--- lists of operands, stands behind all bodies and fills slots through RCX: it has no marks, and nothing here is said of it.
+-- nowhere else. What is written through RBP is looked at, whose address goes nowhere else (FrameWords). One run-time routine, which
+-- makes lists of operands, fills slots through RCX: it has no marks, and nothing here is said of it.
 use Rattle.std.specs.Prelude.{ℕ, nat_eq, Bool, true, false, ◌&&◌, not, List, [], ◌∷◌, Option, Some, None}
 use Rattle.sch_word.specs.declared.mark.MarkKind.{MarkKind}
 use Rattle.sch_word.specs.declared.mark.MarkKind.TheVariants as mark
-use Rattle.sch_insn.specs.declared.insn.Arg.{Arg}
-use Rattle.sch_insn.specs.declared.insn.Arg.TheVariants.{Reg, Base, Base8, Base32}
+use Rattle.sch_insn.specs.declared.insn.Arg.TheVariants.{Reg}
 use Rattle.sch_insn.specs.declared.insn.Insn.{Insn}
 use Rattle.sch_insn.specs.declared.insn.Insn.TheVariants as insn
 use Rattle.sch_insn.specs.declared.register.TheConstants.{RDX, RBP, R14, R15}
 use Rattle.sch_asm.specs.declared.item.Item.{Item}
 use Rattle.sch_asm.specs.declared.item.Item.TheVariants as item
+use Rattle.sch_runtime.specs.FrameRegister.{has_base}
 
 -- ## Instructions: which operand is in memory, and which is written (SDM, volume 2, the page of each mnemonic)
-
-abbrev pub has_base : (base : ℕ) → Arg → Bool
-has_base base (Base b) = nat_eq b base
-has_base base (Base8 b d) = nat_eq b base
-has_base base (Base32 b d) = nat_eq b base
-has_base base _ = false
 
 -- whether an instruction writes memory that is named by this register
 abbrev pub writes_at : (base : ℕ) → Insn → Bool

@@ -14,7 +14,6 @@ use Rattle.sch_word.specs.declared.mark.MarkKind.TheVariants.{Enter}
 use Rattle.sch_asm.specs.declared.routine.Routine.TheVariants as routine
 use Rattle.sch_asm.specs.Routines.{label_of}
 use Rattle.sch_select_memory.specs.Addresses.{body_label}
-use Rattle.sch_select_memory.specs.OwnCode.{own_code}
 use Rattle.sch_select_memory.specs.RestCode.{rest_entry}
 use Rattle.sch_select_operations.specs.CallCode.{check_count}
 use Rattle.sch_select_data.specs.Data.{heap_of}
@@ -85,7 +84,7 @@ laid_code words heap_end literals heap depth count bodies =
     ∷ (item.Plain (MovWord R12 (pos heap))
     ∷ (item.Plain (MovWord R13 (pos depth))
     ∷ forms_code words heap_end literals 0 (body_label count) bodies
-    (item.Jump (label_of routine.End) ∷ own_code heap_end)))
+    (item.Jump (label_of routine.End) ∷ [])))
 
 -- the items that its instructions are selected to
 abbrev pub selected_code : Source → (heap depth : ℕ) → List Item

@@ -23,9 +23,8 @@ ghost use Rattle.sch_select_data.specs.Data.{heap_of, max_heap_address};
 ghost use Rattle.sch_select.specs.Program.{frames_bytes, laid_code, max_data, max_stack, own_label, program_code, program_zeros, forms_code};
 ghost use Rattle.sch_select.specs.Program.{stack_bytes};
 ghost use Rattle.sch_select_memory.specs.Addresses.{max_heap_end};
-ghost use Rattle.sch_select_memory.specs.OwnCode.{own_code};
 ghost use Rattle.sch_select.specs.MarkedStores.{stores_marked};
-ghost use Rattle.sch_select.specs.Parted.{ArePartedBefore};
+ghost use Rattle.sch_select.specs.FrameWords.{keeps_frame};
 ghost use Rattle.sch_select.specs.Sizes.{kinds_in, kinds_of, steps_size};
 
 use crate::body_items::{Frames, forms};
@@ -35,7 +34,6 @@ use sch_insn::Insn;
 use sch_insn::register::{R12, R13, RBP};
 use sch_select_data::{lay_out, literal_words, words_of};
 use sch_select_memory::addresses::body_label;
-use sch_select_memory::own_routines;
 use sch_word::{Limits, List, Mem};
 use std::alloc::Global;
 
@@ -67,7 +65,7 @@ struct Ends {
     depth: u64,
 }
 
-/// The bodies, with labels of their own from n on, and the program's own routines behind them.
+/// The bodies, with labels of their own from n on, and a jump to the end behind them.
 fn put_bodies(
     items: &mut List<Item>,
     frames: Frames,
@@ -78,11 +76,10 @@ fn put_bodies(
     requires low { frames.heap_end ≤ max_heap_end }
     requires reached { IsTrue (list_all is_reached_code (codes_of bodies.now)) }
     ensures { OnOk result (items.new ≡ items.old ++ forms_code frames.words frames.heap_end frames.literals 0 n
-        (codes_of bodies.now) (item.Jump (label_of routine.End) ∷ own_code frames.heap_end)) }
+        (codes_of bodies.now) (item.Jump (label_of routine.End) ∷ [])) }
 {
     forms(items, frames, n, bodies)?;
-    items.push(Item::Jump(Routine::End.label()))?;
-    own_routines(items, frames.heap_end)
+    items.push(Item::Jump(Routine::End.label()))
 }
 
 /// What the instructions of a program are selected to, whose heap and stack begin so.
@@ -129,10 +126,10 @@ fn items_of(alloc: Global, p: &FrameProgram, ends: Ends) -> Result<List<Item>, M
     narrowed(alloc, items.as_slice())
 }
 
-/// The items and data of a frame program under limits of heap and depth. RBP, R12 and R13 are set, the bodies
-/// follow one after the other, those of procedures jumped over, and behind them the program's own routines.
+/// The items and data of a frame program under limits of heap and depth. RBP, R12 and R13 are set, and the bodies
+/// follow one after the other, those of procedures jumped over.
 ///
-/// Resolved with the run-time routines, they do what the program does, whatever the machine is given and
+/// Resolved with the run-time routines for where its heap ends, they do what the program does, whatever the machine is given and
 /// whatever the kernel answers, and pass the program's marks. No call spreads its last operand. The frames of a form
 /// and of the calls that may be pending take at most 2^30 bytes. Time and memory are linear in the
 /// instructions, the labels, what is static and the library. It is out of memory also where a label would be past the
@@ -150,17 +147,16 @@ pub fn select(alloc: Global, p: &FrameProgram, limits: Limits) -> Result<Asm, Me
     ensures narrow { IfOk result (λ a. IsTrue (list_all is_narrow_item a.items)) }
     ensures takes { IfOk result (λ a. TakesFrames (source p.now) limits.heap limits.depth a.items a.words a.zeros) }
     ensures own { IfOk result (λ a. AreOwn a.items) }
-    ensures text { IfOk result (λ a. text_size a.items ≤ 2048 + (64 * program_work (source p.now) + 8 * program_copies (source p.now))) }
+    ensures text { IfOk result (λ a. text_size a.items ≤ 64 + (64 * program_work (source p.now) + 8 * program_copies (source p.now))) }
     // What the bound of steps counts has no more than three units for each instruction.
     ensures instructions { IfOk result (λ a. steps_size (source p.now) ≤ 3 * instructions_in a.items) }
     ensures ahead { IfOk result (λ a. IsTrue (jumps_ahead (own_label (source p.now)) a.items)) }
     ensures marks { IfOk result (λ a. kinds_in a.items ≡ kinds_of 0 (source p.now).bodies) }
     // Where each mark of a body stands at its instruction, each write of memory that RBP names stands behind one.
     ensures stores { IfOk result (λ a. IsTrue (all_marks_stand (source p.now).bodies) → IsTrue (stores_marked None a.items)) }
-    // In front of the program's own routines, the address that RBP has goes into no other register and no word of memory, but
-    // that of a slot into RCX for the routine of lists; an address that is made of numbers or of other registers is not looked
-    // at. The routines have the form of routines, and leave RBP alone.
-    ensures parts { IfOk result (λ a. ArePartedBefore (narrowed (own_code (heap_of (source p.now) + limits.heap))) a.items) }
+    // The address that RBP has goes into no other register and no word of memory; an address that is made of numbers or of
+    // other registers is not looked at, nor RCX behind the routine of lists, where it has the address of a slot.
+    ensures frame { IfOk result (λ a. IsTrue (list_all keeps_frame a.items)) }
     // The words end where the heap begins.
     ensures words { IfOk result (λ a. 0x10000000 + 8 * length a.words ≡ heap_of (source p.now)) }
     ensures low { IfOk result (λ a. heap_of (source p.now) ≤ max_heap_address) }

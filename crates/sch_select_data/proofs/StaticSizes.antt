@@ -7,6 +7,7 @@ use Rattle.sch_word.specs.values.Literals.{Literal, Literals, constant, text, li
 use Rattle.sch_word.specs.values.StaticsView.{statics}
 use Rattle.sch_word.specs.runs.Runs.{Statics, names_size, statics_size, max_statics}
 use Rattle.sch_word.specs.values.Literals.{objects_of_each}
+use Rattle.sch_word.proofs.values.LiteralSteps.{some_size}
 use Rattle.sch_asm.specs.declared.assembly.Word.{Word}
 use Rattle.sch_asm.specs.declared.assembly.Word.TheVariants.{Fixed}
 use Rattle.sch_select_data.specs.ObjectParts.{parts_at}
@@ -32,15 +33,9 @@ names_few (name ∷ names) = let h = names_few names in omega (arith, h)
 pub symbols_bound : (names : List (List ℕ)) → symbols_count names ≤ 2 * names_size names
 symbols_bound names = let h = names_bound names in let n = names_few names in omega (arith, h, n)
 
-literal_weighs : (l : Literal) → 1 ≤ literal_size l
-literal_weighs (constant c) = omega arith
-literal_weighs (text bytes) = omega arith
-literal_weighs (list ls tail) = omega arith
-literal_weighs (elements ls) = omega arith
-
 pub literals_few : (ls : Literals) → count_literals ls ≤ literals_size ls
 literals_few no_literals = omega arith
-literals_few (and_literal l ls) = let h = literals_few ls in let w = literal_weighs l in omega (arith, h, w)
+literals_few (and_literal l ls) = let h = literals_few ls in let w = some_size l in omega (arith, h, w)
 
 -- The words in front of the closures are as many as is counted, and few.
 pub record AreFew (s : Statics) (literals globals symbols : ℕ) : Type 0 where

@@ -3,3 +3,4 @@ pub mod Data
 pub mod ObjectParts
 pub mod ObjectWords
 pub mod PlacedWords
+pub mod PlacedView

@@ -1,7 +1,7 @@
 -- The words of literals whose objects lie one behind the other from a unit on.
-use Rattle.std.specs.Prelude.{◌≡◌, ℕ, suc, ◌+◌, ◌*◌, ◌/◌, List, [], ◌∷◌, ◌++◌, length, reverse}
+use Rattle.std.specs.Prelude.{◌≡◌, ℕ, suc, ◌+◌, ◌*◌, ◌/◌, List, [], ◌∷◌, ◌++◌, length}
 use Rattle.sch_word.specs.values.Values.{constant_value}
-use Rattle.sch_word.specs.values.Literals.{Literal, Literals, constant, text, list, elements, no_literals, and_literal, count_literals}
+use Rattle.sch_word.specs.values.Literals.{Literal, Literals, constant, text, list, elements, no_literals, and_literal, literals, count_literals}
 use Rattle.sch_select_memory.specs.Encoded.{pair_tag, vector_tag, string_tag}
 use Rattle.sch_select_memory.specs.Parts.{Parts}
 use Rattle.sch_select_data.specs.ObjectWords.{value_word, vector_contents, string_contents}
@@ -17,6 +17,13 @@ abbrev mutual
   pub units_in_each : Literals → ℕ
   units_in_each no_literals = 0
   units_in_each (and_literal l ls) = units_in l + units_in_each ls
+
+-- how many units the objects of a literal take, without those of its parts
+abbrev pub own_units : Literal → ℕ
+own_units (constant c) = 0
+own_units (text bytes) = 1 + (length bytes + 7) / 16
+own_units (list ls tail) = count_literals ls
+own_units (elements ls) = 1 + count_literals ls / 2
 
 -- the parts of no objects
 abbrev pub no_parts : Parts
@@ -61,22 +68,8 @@ abbrev mutual
   placed_each no_literals unit = []
   placed_each (and_literal l ls) unit = placed_words l unit ++ placed_each ls (unit + units_in l)
 
--- ## What is put behind other words, the last word first
-
--- the words of an object, which ends at a unit and begins at another, and the word of that object
-pub record IsObjectPut (contents : List ℕ) (tag end : ℕ) (before after : List ℕ) (value unit : ℕ) : Type 0 where
-  pub ends : unit + length contents / 2 ≡ end
-  pub value_is : value ≡ 16 * unit + tag
-  pub words : after ≡ before ++ reverse contents
-
--- the words of the objects of a literal, which end at a unit and begin at another
-pub record IsPut (l : Literal) (end : ℕ) (before after : List ℕ) (value unit : ℕ) : Type 0 where
-  pub ends : unit + units_in l ≡ end
-  pub value_is : value ≡ placed_value l unit
-  pub words : after ≡ before ++ reverse (placed_words l unit)
-
--- the same of literals, whose words are also listed with the last one first
-pub record ArePut (ls : Literals) (end : ℕ) (before after values : List ℕ) (unit : ℕ) : Type 0 where
-  pub ends : unit + units_in_each ls ≡ end
-  pub values_are : values ≡ reverse (placed_values ls unit)
-  pub words : after ≡ before ++ reverse (placed_each ls unit)
+-- the words of the objects of literals, which begin at a unit and end at another, and the words of the literals
+pub record ArePlaced (ls : List Literal) (unit end : ℕ) (words values : List ℕ) : Type 0 where
+  pub ends : unit + units_in_each (literals ls) ≡ end
+  pub words_are : words ≡ placed_each (literals ls) unit
+  pub values_are : values ≡ placed_values (literals ls) unit

@@ -70,15 +70,6 @@ pub fn string_words(alloc: Global, text: &[u8]) -> Result<List<u64>, Mem>
     Ok(words)
 }
 
-// A list with the last element first.
-fn reversed(items: List<u64>) -> List<u64>
-    ensures { result ≡ reverse items }
-{
-    let mut items = items.into_vec();
-    items.reverse();
-    List::from_vec(items)
-}
-
 /// The words of a vector, from those of its elements with the last one first.
 pub fn vector_words(alloc: Global, elements: List<u64>) -> Result<List<u64>, Mem>
     requires { length elements ≤ 2 ^ 31 }
@@ -86,7 +77,7 @@ pub fn vector_words(alloc: Global, elements: List<u64>) -> Result<List<u64>, Mem
 {
     let mut words = List::new(alloc);
     words.push(8 * elements.len() as u64)?;
-    words.append(reversed(elements))?;
+    words.append(elements.reversed())?;
     fill_units(&mut words)?;
     Ok(words)
 }
@@ -95,14 +86,14 @@ pub fn vector_words(alloc: Global, elements: List<u64>) -> Result<List<u64>, Mem
 pub fn put_reversed(words: &mut List<u64>, more: List<u64>) -> Result<(), Mem>
     ensures { OnOk result (words.new ≡ words.old ++ reverse more) }
 {
-    words.append(reversed(more))
+    words.append(more.reversed())
 }
 
 /// Numbers as words of data, from the last one to the first.
 pub fn as_words(alloc: Global, numbers: List<u64>) -> Result<List<Word>, Mem>
     ensures { IfOk result (λ words. words ≡ map Fixed (reverse numbers)) }
 {
-    let numbers = reversed(numbers);
+    let numbers = numbers.reversed();
     let mut words = List::new(alloc);
     for n in numbers.as_slice() {
         words.push(Word::Fixed(*n))?;

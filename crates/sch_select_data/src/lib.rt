@@ -4,6 +4,7 @@
 
 mod contents;
 mod data_words;
+mod placed_values;
 mod placing;
 mod units;
 

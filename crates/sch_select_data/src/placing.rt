@@ -1,21 +1,25 @@
 //! The words of literals. A literal's objects lie in front of those of what stands behind it, and a pair or a
-//! vector has the words of what it holds: so the words are made from the last one to the first.
+//! vector has the words of what it holds: so the words are made from the last one to the first, each when its parts
+//! are there. What is made lies in memory, so levels take no part of the machine's stack.
 
-ghost use Rattle.std.specs.Prelude.{◌≡◌, ◌+◌, ◌*◌, ◌/◌, ◌^◌, ◌≤◌, ◌<◌, length, map, IfOk};
+ghost use Rattle.std.specs.Prelude.{◌≡◌, ◌+◌, ◌*◌, ◌/◌, ◌^◌, ◌≤◌, ◌<◌, length, map, reverse, IfOk, OnOk};
+ghost use Rattle.sch_word.specs.values.LiteralParts.{parts, plain};
 ghost use Rattle.sch_word.specs.values.LiteralView.{literal, literals_of};
 ghost use Rattle.sch_word.specs.values.Literals.{literals_size, literal_values, objects_of_each};
 ghost use Rattle.sch_asm.specs.declared.assembly.Word.TheVariants.{Fixed};
 ghost use Rattle.sch_select_data.specs.ObjectParts.{parts_at};
 ghost use Rattle.sch_select_data.specs.ObjectWords.{value_word, objects_words};
-ghost use Rattle.sch_select_data.specs.PlacedWords.{units_in, units_in_each, IsObjectPut, IsPut, ArePut};
+ghost use Rattle.sch_select_data.specs.PlacedView.{in_turn, ArePut, IsObjectPut, IsPut};
+ghost use Rattle.sch_select_data.specs.PlacedWords.{own_units, units_in_each};
 
 use crate::contents::{
     as_words, constant_word, put_pairs, put_reversed, string_words, vector_words,
 };
-use crate::units::units_of_each;
+use crate::placed_values::PlacedValues;
+use crate::units::units_of_nodes;
 use sch_asm::Word;
 use sch_select_memory::word;
-use sch_word::{List, Lit, Mem};
+use sch_word::{List, Lit, Mem, literals_in_order};
 use std::alloc::Global;
 
 /// The words of the objects that literals are, and those of the literals.
@@ -25,85 +29,72 @@ pub struct StaticObjects {
     pub values: List<Word>,
 }
 
-// The word of a literal, and the unit from which its objects lie on.
-#[derive(Clone, Copy)]
-struct Placed {
-    value: u64,
-    unit: u64,
-}
-
-// The same of literals, of which the last one is first.
+// What is put for literals: the words of their objects, the last one first; the words of those that stand in no
+// other; and the unit from which the objects lie on.
 #[derive(Drop)]
-struct PlacedEach {
-    values: List<u64>,
+struct Placed {
+    words: List<u64>,
+    values: PlacedValues,
     unit: u64,
 }
 
-// Puts the words of an object, which ends at a unit, and gives its word with a tag.
-fn put_object(words: &mut List<u64>, end: u64, contents: List<u64>, tag: u64) -> Result<Placed, Mem>
-    requires room { length contents / 2 ≤ end }
-    requires small { end ≤ 2 ^ 27 }
-    requires low { tag < 8 }
-    ensures { IfOk result (λ placed. IsObjectPut contents tag end words.old words.new placed.value placed.unit) }
-{
-    let unit = end - contents.len() as u64 / 2;
-    put_reversed(words, contents)?;
-    let value = 16 * unit + tag;
-    Ok(Placed { value, unit })
-}
+impl Placed {
+    // Puts an object before the others, and its word with a tag.
+    fn put_object(&mut self, contents: List<u64>, tag: u64) -> Result<(), Mem>
+        requires room { length contents / 2 ≤ self.old.unit }
+        requires small { self.old.unit ≤ 2 ^ 27 }
+        requires low { tag < 8 }
+        ensures { OnOk result (IsObjectPut contents tag self.old self.new) }
+    {
+        self.unit -= contents.len() as u64 / 2;
+        put_reversed(&mut self.words, contents)?;
+        self.values.push(16 * self.unit + tag)
+    }
 
-// Puts the words of a literal's objects, which end at a unit.
-#[cycle(placing)]
-fn put_literal(alloc: Global, words: &mut List<u64>, end: u64, l: &Lit) -> Result<Placed, Mem>
-    requires room { units_in (literal l.now) ≤ end }
-    requires small { end ≤ 2 ^ 27 }
-    ensures { IfOk result (λ placed. IsPut (literal l.now) end words.old words.new placed.value placed.unit) }
-{
-    match l {
-        Lit::Constant(c) => Ok(Placed {
-            value: constant_word(*c),
-            unit: end,
-        }),
-        Lit::Text(text) => {
-            let contents = string_words(alloc, text.as_slice())?;
-            put_object(words, end, contents, word::STRING as u64)
-        }
-        Lit::List(ls, tail) => {
-            let tail = put_literal(alloc, words, end, tail)?;
-            let items = put_each(alloc, words, tail.unit, ls)?;
-            let unit = items.unit - ls.len() as u64;
-            let value = put_pairs(words, &items.values, items.unit, tail.value)?;
-            Ok(Placed { value, unit })
-        }
-        Lit::Vector(ls) => {
-            let items = put_each(alloc, words, end, ls)?;
-            let contents = vector_words(alloc, items.values)?;
-            put_object(words, items.unit, contents, word::VECTOR as u64)
+    // Puts a literal, whose parts are put.
+    fn put(&mut self, alloc: Global, l: &Lit) -> Result<(), Mem>
+        requires parts { length (parts (literal l.now)) ≤ length (in_turn self.old.values) }
+        requires room { own_units (literal l.now) ≤ self.old.unit }
+        requires small { self.old.unit ≤ 2 ^ 27 }
+        ensures { OnOk result (IsPut (literal l.now) self.old self.new) }
+    {
+        match l {
+            Lit::Constant(c) => self.values.push(constant_word(*c)),
+            Lit::Text(text) => {
+                let contents = string_words(alloc, text.as_slice())?;
+                self.put_object(contents, word::STRING as u64)
+            }
+            Lit::List(items, _) => {
+                let values = self.values.take(items.len())?;
+                let last = self.values.pop();
+                let value = put_pairs(&mut self.words, &values, self.unit, last)?;
+                self.unit -= items.len() as u64;
+                self.values.push(value)
+            }
+            Lit::Vector(items) => {
+                let values = self.values.take(items.len())?;
+                let contents = vector_words(alloc, values)?;
+                self.put_object(contents, word::VECTOR as u64)
+            }
         }
     }
 }
 
-// Puts the words of the objects of literals, which end at a unit.
-#[cycle(placing)]
-fn put_each(
-    alloc: Global,
-    words: &mut List<u64>,
-    end: u64,
-    ls: &List<Lit>,
-) -> Result<PlacedEach, Mem>
-    requires room { units_in_each (literals_of ls.now) ≤ end }
-    requires small { end ≤ 2 ^ 27 }
-    ensures { IfOk result (λ placed. ArePut (literals_of ls.now) end words.old words.new placed.values placed.unit) }
+// Puts literals, whose objects lie from a unit on.
+fn put_literals(alloc: Global, literals: &List<Lit>, first_unit: u64) -> Result<Placed, Mem>
+    requires small { 16 * first_unit + 32 * literals_size (literals_of literals.now) ≤ 2 ^ 31 }
+    ensures { IfOk result (λ placed. ArePut (plain literals.now) (first_unit + units_in_each (literals_of literals.now)) placed) }
 {
-    let items = ls.as_slice();
-    let mut values = List::new(alloc);
-    let mut unit = end;
-    for k in 0..items.len() {
-        let placed = put_literal(alloc, words, unit, &items[items.len() - 1 - k])?;
-        values.push(placed.value)?;
-        unit = placed.unit;
+    let mut order = literals_in_order(alloc, literals.as_slice())?;
+    let mut placed = Placed {
+        words: List::new(alloc),
+        values: PlacedValues::new(alloc),
+        unit: first_unit + units_of_nodes(order.as_slice()),
+    };
+    'each: while let Some(l) = order.pop() {
+        placed.put(alloc, l)?;
     }
-    Ok(PlacedEach { values, unit })
+    Ok(placed)
 }
 
 /// The words of literals and of the objects that they are, whose parts lie from a unit of 16 bytes on. The
@@ -118,15 +109,9 @@ pub fn literal_words(
     ensures values { IfOk result (λ made. made.values
         ≡ map Fixed (map (value_word (parts_at first_unit (objects_of_each (literals_of literals.now) 0))) (literal_values (literals_of literals.now) 0))) }
 {
-    let mut words = List::new(alloc);
-    let placed = put_each(
-        alloc,
-        &mut words,
-        first_unit + units_of_each(literals),
-        literals,
-    )?;
+    let Placed { words, values, .. } = put_literals(alloc, literals, first_unit)?;
     Ok(StaticObjects {
         objects: as_words(alloc, words)?,
-        values: as_words(alloc, placed.values)?,
+        values: as_words(alloc, values.into_list())?,
     })
 }

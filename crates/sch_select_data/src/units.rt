@@ -1,32 +1,33 @@
 //! How many units of 16 bytes the objects of literals take.
 
-ghost use Rattle.std.specs.Prelude.{◌≡◌, ◌≤◌, ◌^◌};
-ghost use Rattle.sch_word.specs.values.LiteralView.{literal, literals_of};
-ghost use Rattle.sch_select_data.specs.PlacedWords.{units_in, units_in_each};
+ghost use Rattle.std.specs.Prelude.{◌≡◌, ◌≤◌, ◌^◌, sum_by};
+ghost use Rattle.sch_word.specs.values.LiteralParts.{lent};
+ghost use Rattle.sch_word.specs.values.LiteralView.{literal};
+ghost use Rattle.sch_select_data.specs.PlacedWords.{own_units};
 
-use sch_word::{List, Lit};
+use sch_word::Lit;
 
-#[cycle(units)]
-fn units_of(l: &Lit) -> u64
-    requires { units_in (literal l.now) ≤ 2 ^ 27 }
-    ensures { result ≡ units_in (literal l.now) }
+// How many units the objects of a literal take that are none of its parts'.
+fn own_units(l: &Lit) -> u64
+    requires { own_units (literal l.now) ≤ 2 ^ 27 }
+    ensures { result ≡ own_units (literal l.now) }
 {
     match l {
         Lit::Constant(_) => 0,
         Lit::Text(bytes) => 1 + (bytes.len() as u64 + 7) / 16,
-        Lit::List(ls, tail) => ls.len() as u64 + (units_of_each(ls) + units_of(tail)),
-        Lit::Vector(ls) => 1 + ls.len() as u64 / 2 + units_of_each(ls),
+        Lit::List(items, _) => items.len() as u64,
+        Lit::Vector(items) => 1 + items.len() as u64 / 2,
     }
 }
 
-#[cycle(units)]
-pub fn units_of_each(ls: &List<Lit>) -> u64
-    requires { units_in_each (literals_of ls.now) ≤ 2 ^ 27 }
-    ensures { result ≡ units_in_each (literals_of ls.now) }
+/// How many units the objects of these literals take, each without those of its parts.
+pub fn units_of_nodes(nodes: &[&Lit]) -> u64
+    requires { sum_by own_units (lent nodes.now) ≤ 2 ^ 27 }
+    ensures { result ≡ sum_by own_units (lent nodes.now) }
 {
     let mut units = 0;
-    for l in ls.as_slice() {
-        units += units_of(l);
+    for l in nodes {
+        units += own_units(l);
     }
     units
 }

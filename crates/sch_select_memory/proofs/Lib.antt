@@ -6,5 +6,6 @@ pub mod Changes
 pub mod StoredNames
 pub mod simulation
 pub mod lists
+pub mod Sound
 mod RegisterNames
 mod WordRows

@@ -53,20 +53,19 @@ heap_offset heap_end = heap_end - data_address
 
 -- ## Labels
 
--- puts of values are by a routine of the program's own
+-- of the routines that put any value, and make vectors and strings
 abbrev pub put_label : ℕ
-put_label = 1024
+put_label = label_of routine.PutValue
 
--- and so are new vectors, new strings and the lists of operands that are left over
 abbrev pub vector_label : ℕ
-vector_label = 1040
+vector_label = label_of routine.NewVector
 
 abbrev pub string_label : ℕ
-string_label = 1041
+string_label = label_of routine.NewString
 
--- the labels of the program's own routines are below this one, and the bodies' are from it on
+-- the labels of routines are below this one, and the bodies' are from it on
 abbrev pub first_label : ℕ
-first_label = 1088
+first_label = 1024
 
 -- where the code of a body begins
 abbrev pub body_label : ℕ → ℕ

@@ -9,4 +9,4 @@ pub mod Checks
 pub mod PutCode
 pub mod MakeCode
 pub mod RestCode
-pub mod OwnCode
+pub mod ValueCode

@@ -13,28 +13,28 @@ use Rattle.sch_select_memory.specs.Encoded.{byte_mask, cell_tag, character_shift
 use Rattle.sch_select_memory.specs.Addresses.{stop_label, bytes_address, texts_address, table_address}
 use Rattle.sch_select_memory.specs.Checks.{low_bits, string_length}
 
--- ## Labels of the routine, behind its own
+-- ## Labels inside the routine
 
 abbrev pub no_character_label : ℕ
-no_character_label = 1025
+no_character_label = 74
 
 abbrev pub not_true_label : ℕ
-not_true_label = 1026
+not_true_label = 75
 
 abbrev pub not_false_label : ℕ
-not_false_label = 1027
+not_false_label = 76
 
 abbrev pub not_nil_label : ℕ
-not_nil_label = 1028
+not_nil_label = 77
 
 abbrev pub procedure_text_label : ℕ
-procedure_text_label = 1029
+procedure_text_label = 78
 
 abbrev pub string_bytes_label : ℕ
-string_bytes_label = 1030
+string_bytes_label = 79
 
 abbrev pub symbol_bytes_label : ℕ
-symbol_bytes_label = 1031
+symbol_bytes_label = 80
 
 -- ## Its items
 

@@ -1,5 +1,5 @@
--- The items of a procedure with a rest variable (R5RS 4.1.4) before its body, and the program's own routine that makes
--- the list of the operands that are left over. A pair begins where R12 has it, and the pairs stand one behind the other.
+-- The items of a procedure with a rest variable (R5RS 4.1.4) before its body, and the routine that makes the list of the
+-- operands that are left over. A pair begins where R12 has it, and the pairs stand one behind the other.
 use Rattle.std.specs.Prelude.{ℕ, suc, ◌+◌, ◌-◌, ◌*◌, Bool, true, false, nat_lt, List, [], ◌∷◌, drop, length, pos}
 use Rattle.sch_word.specs.runs.ProgramLayout.{data_address}
 use Rattle.sch_word.specs.values.Registers.{argument_registers}
@@ -12,41 +12,49 @@ use Rattle.sch_insn.specs.declared.insn.Insn.TheVariants.{CmpNumber, Shl, JumpTo
 use Rattle.sch_insn.specs.declared.register.TheConstants.{RAX, RCX, RDX, RBP, R11, R12}
 use Rattle.sch_asm.specs.declared.item.Item.{Item}
 use Rattle.sch_asm.specs.declared.item.Item.TheVariants.{Label, Plain, Jump, JumpIf, LoadLabel}
+use Rattle.sch_asm.specs.declared.routine.LeftOver.TheVariants.{FromFirst}
+use Rattle.sch_asm.specs.declared.routine.Routine.TheVariants.{NewList}
+use Rattle.sch_asm.specs.Routines.{label_of}
 use Rattle.sch_select_memory.specs.Encoded.{nil_word, pair_tag}
 use Rattle.sch_select_memory.specs.Addresses.{heap_offset, stop_label, part_operand}
 
--- ## Labels of the routine, below those of bodies
+-- ## Labels of the routine
 
 -- a list whose first operand is in the register for the operand with m before it, or where there is none in a slot
 abbrev pub list_label : (m : ℕ) → ℕ
-list_label m = 1048 + m
+list_label m = label_of (NewList FromFirst) + m
 
 -- where the heap has room for it
 abbrev pub rest_label : (m : ℕ) → ℕ
-rest_label m = 1056 + m
+rest_label m = 81 + m
 
 -- where there is such an operand
 abbrev pub some_label : (m : ℕ) → ℕ
-some_label m = 1064 + m
+some_label m = 88 + m
 
 -- where the pair before that of such an operand is made
 abbrev pub more_label : (m : ℕ) → ℕ
-more_label m = 1072 + m
+more_label m = 95 + m
 
 -- how many operands are in registers: the first with as many before it is in a slot
 abbrev pub first_in_slot : ℕ
 first_in_slot = length argument_registers
 
 abbrev pub loop_label : ℕ
-loop_label = 1080
+loop_label = 102
 
 abbrev pub done_label : ℕ
-done_label = 1081
+done_label = 103
 
--- ## The routine: RAX counts the operands that are left, RCX has the address of a slot, and R11 where to return
+-- ## The routine: RAX counts the operands that are left, and R11 has where to return. Where they are in slots alone, RCX has the
+-- number of bytes before the first of these in the frame.
 
 abbrev pub slot_operand : Arg
 slot_operand = Base32 RCX (pos 0)
+
+-- RCX has the address of the slot
+abbrev pub slot_address : List Item → List Item
+slot_address rest = Plain (AddTo (Reg RCX) RBP) ∷ rest
 
 -- the heap has a pair for each of them, or stop 71
 abbrev pub check_pairs : (heap_end : ℕ) → List Item → List Item
@@ -121,8 +129,8 @@ later_registers = drop 1 argument_registers
 
 abbrev pub rest_routine : (heap_end : ℕ) → List Item → List Item
 rest_routine heap_end rest =
-    firsts_code heap_end 0 argument_registers (Label (list_label first_in_slot) ∷ check_pairs heap_end
-    (first_slot_code (registers_code 1 later_registers (slots_code rest))))
+    firsts_code heap_end 0 argument_registers (Label (list_label first_in_slot) ∷ slot_address (check_pairs heap_end
+    (first_slot_code (registers_code 1 later_registers (slots_code rest)))))
 
 -- ## Before a body: RAX has the number of operands, of which `required` are not left over
 
@@ -132,9 +140,9 @@ check_enough required rest =
     Plain (CmpNumber (Reg RAX) (pos required)) ∷ (JumpIf B (stop_label WrongCount) ∷
     (Plain (SubNumber (Reg RAX) (pos required)) ∷ rest))
 
--- RCX has the address of the slot for the operand with `required` before it
+-- RCX has the number of bytes before the slot for the operand with `required` before it
 abbrev pub slot_code : (required : ℕ) → List Item → List Item
-slot_code required rest = Plain (MovTo (Reg RCX) RBP) ∷ (Plain (AddNumber (Reg RCX) (pos (8 * (required - first_in_slot)))) ∷ rest)
+slot_code required rest = Plain (MovNumber (Reg RCX) (pos (8 * (required - first_in_slot)))) ∷ rest
 
 abbrev pub list_code : Bool → (required n : ℕ) → List Item → List Item
 list_code true required n rest = LoadLabel R11 n ∷ (Jump (list_label required) ∷ (Label n ∷ rest))

@@ -3,11 +3,12 @@
 ghost use Rattle.std.specs.Prelude.{◌≡◌, ◌*◌, ◌^◌, ◌<◌, ◌≤◌, IfOk, IsTrue, pos};
 ghost use Rattle.sch_select_memory.specs.Addresses.{body_label, global_address, heap_offset, literal_address, max_heap_end, part_operand, place_operand, stop_label};
 ghost use Rattle.sch_select_memory.specs.Reach.{is_reached_place, max_slots};
+ghost use Rattle.sch_select_memory.specs.RestCode.{first_in_slot, list_label};
 
-use sch_asm::Routine;
+use sch_asm::{LeftOver, Routine};
 use sch_insn::Arg;
 use sch_insn::register::{R12, RBP};
-use sch_word::{DATA_ADDRESS, Mem, Place, Stop, add_numbers};
+use sch_word::{ARGUMENT_REGISTERS, DATA_ADDRESS, Mem, Place, Stop, add_numbers};
 
 /// Where the address of the names of symbols stands in the data.
 pub const TABLE_ADDRESS: u64 = 0x1000_0320;
@@ -15,20 +16,14 @@ pub const TABLE_ADDRESS: u64 = 0x1000_0320;
 /// Where the words of literals stand in the data. Those of globals follow.
 pub const LITERALS_ADDRESS: u64 = 0x1000_0328;
 
-/// The label of the routine that puts any value.
-pub const PUT_LABEL: u32 = 1024;
-
-/// The label of the routine that makes a vector.
-pub const VECTOR_LABEL: u32 = 1040;
-
-/// The label of the routine that makes a string.
-pub const STRING_LABEL: u32 = 1041;
-
 /// Where the data begin, as an immediate.
-pub(crate) const DATA_OFFSET: i32 = DATA_ADDRESS as i32;
+pub const DATA_OFFSET: i32 = DATA_ADDRESS as i32;
+
+/// How many operands are in registers: the first with as many in front is in a slot.
+pub const FIRST_IN_SLOT: u32 = ARGUMENT_REGISTERS.len() as u32;
 
 /// The labels of bodies are numbered from here on.
-const FIRST_LABEL: u32 = 1088;
+const FIRST_LABEL: u32 = 1024;
 
 /// Where the code of a body begins. A label past the numbers of 32 bits is out of memory.
 pub fn body_label(label: u32) -> Result<u32, Mem>
@@ -42,6 +37,14 @@ pub fn stop(why: Stop) -> u32
     ensures { result ≡ stop_label why }
 {
     Routine::Stop(why).label()
+}
+
+/// Where the routine of lists is entered, with as many argument registers in front of the first operand that is left over.
+pub fn list_label(m: u32) -> u32
+    requires { m ≤ first_in_slot }
+    ensures { result ≡ list_label m }
+{
+    Routine::NewList(LeftOver::FromFirst).label() + m
 }
 
 /// A number as an immediate.

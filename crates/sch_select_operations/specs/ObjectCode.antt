@@ -125,7 +125,7 @@ symbol_ref_code rest =
 
 -- ## New vectors and strings
 
--- A new vector or string, whose length is in RAX and whose elements are RCX: an own routine checks these, and fills it.
+-- A new vector or string, whose length is in RAX and whose elements are RCX: a run-time routine checks these, and fills it.
 -- It stands where the next part begins, with a tag. Its bytes are what `size_code` computes of its length.
 abbrev pub filled_code : (n label tag : ℕ) → (size_code : List Item → List Item) → List Item → List Item
 filled_code n label tag size_code rest =

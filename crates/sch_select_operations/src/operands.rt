@@ -15,12 +15,12 @@ use crate::arithmetic::{
 use crate::pairs::{CAR, CDR, part_of_pair, set_part_of_pair};
 use crate::strings::{make_string, string_length, string_ref, symbol_length, symbol_ref};
 use crate::vectors::{make_vector, vector_length, vector_ref};
-use sch_asm::Item;
+use sch_asm::{Item, Routine};
 use sch_control::{Atom, Operand};
 use sch_insn::condition::{E, G, GE, L, LE};
 use sch_insn::register::{R11, RAX, RCX};
 use sch_insn::{Arg, Insn};
-use sch_select_memory::addresses::{PUT_LABEL, literal_address, place_operand};
+use sch_select_memory::addresses::{literal_address, place_operand};
 use sch_select_memory::constant_number;
 use sch_select_memory::word::{
     BOOLEAN_MASK, BYTE_MASK, CHARACTER, FALSE, FIXNUM, NIL, PAIR, PROCEDURE, STRING, SYMBOL,
@@ -49,7 +49,7 @@ fn put(out: &mut List<Item>, n: u32) -> Result<(), Mem>
 {
     out.extend_from_slice(&[
         Item::LoadLabel(R11, n),
-        Item::Jump(PUT_LABEL),
+        Item::Jump(Routine::PutValue.label()),
         Item::Label(n),
         Item::Plain(Insn::MovNumber(Arg::Reg(RAX), UNSPECIFIED)),
     ])

@@ -7,11 +7,11 @@ ghost use Rattle.sch_select_operations.specs.ObjectCode.{length_code, string_cod
 ghost use Rattle.sch_select_operations.specs.ObjectCode.{symbol_ref_code};
 ghost use Rattle.sch_select_memory.specs.Checks.{string_length};
 
-use sch_asm::Item;
+use sch_asm::{Item, Routine};
 use sch_insn::condition::{AE, NE};
 use sch_insn::register::{R11, R12, RAX, RCX, RDX};
 use sch_insn::{Arg, Insn};
-use sch_select_memory::addresses::{STRING_LABEL, TABLE_ADDRESS, stop};
+use sch_select_memory::addresses::{TABLE_ADDRESS, stop};
 use sch_select_memory::word::{
     BYTE_MASK, CHARACTER, CHARACTER_SHIFT, FIXNUM_SHIFT, STRING, SYMBOL, TAG_MASK, UNSPECIFIED,
 };
@@ -125,7 +125,7 @@ pub(crate) fn make_string(out: &mut List<Item>, n: u32) -> Result<(), Mem>
 {
     out.extend_from_slice(&[
         Item::LoadLabel(R11, n),
-        Item::Jump(STRING_LABEL),
+        Item::Jump(Routine::NewString.label()),
         Item::Label(n),
         Item::Plain(Insn::MovFrom(RDX, Arg::Base32(R12, 0))),
         Item::Plain(Insn::Shr(Arg::Reg(RDX), FIXNUM_SHIFT)),

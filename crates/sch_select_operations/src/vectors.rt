@@ -5,11 +5,11 @@ ghost use Rattle.sch_asm.specs.declared.item.Item.{Item};
 ghost use Rattle.sch_select_memory.specs.Encoded.{vector_tag};
 ghost use Rattle.sch_select_operations.specs.ObjectCode.{length_code, vector_code, vector_length, vector_ref_code, vector_set_code};
 
-use sch_asm::Item;
+use sch_asm::{Item, Routine};
 use sch_insn::condition::{AE, NE};
 use sch_insn::register::{R11, R12, RAX, RCX, RDX};
 use sch_insn::{Arg, Insn};
-use sch_select_memory::addresses::{VECTOR_LABEL, stop};
+use sch_select_memory::addresses::stop;
 use sch_select_memory::word::{TAG_MASK, UNSPECIFIED, VECTOR};
 use sch_word::{List, Mem, Stop};
 
@@ -71,7 +71,7 @@ pub(crate) fn make_vector(out: &mut List<Item>, n: u32) -> Result<(), Mem>
 {
     out.extend_from_slice(&[
         Item::LoadLabel(R11, n),
-        Item::Jump(VECTOR_LABEL),
+        Item::Jump(Routine::NewVector.label()),
         Item::Label(n),
         Item::Plain(Insn::MovFrom(RDX, Arg::Base32(R12, 0))),
         Item::Plain(Insn::AddNumber(Arg::Reg(RDX), 23)),

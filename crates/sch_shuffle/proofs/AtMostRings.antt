@@ -16,7 +16,7 @@ use Rattle.sch_shuffle.specs.Greedy.{uses_target, needed, next_of, is_in, withou
 use Rattle.sch_shuffle.specs.GreedySteps.{IsMostUsed}
 use Rattle.sch_shuffle.specs.CycleSearch.{successor, ring, is_ring, all_rings}
 use Rattle.sch_shuffle.proofs.WaitingArguments.{Rising, AllBelow, Once, members, below_in, length_without, rising_numbers, below_numbers, next_of_in, choice_once, choice_members, rising_without, below_without, not_above, rising_rest}
-use Rattle.sch_shuffle.proofs.MovesAssign.{same_from}
+use Rattle.sch_word.proofs.facts.Places.{places_same}
 use Rattle.sch_shuffle.proofs.Paths.{walk, ring_walk}
 use Rattle.sch_shuffle.proofs.GreedyMoves.{chosen_most}
 use Rattle.sch_shuffle.proofs.ExactCycles.{length_le, few, successor_is, ring_is, rings_complete}
@@ -29,7 +29,7 @@ rising_once (w ∷ ws) r = (not_above w ws r, rising_once ws (rising_rest w ws r
 
 -- an atom that uses a place is that place
 used_atom : (x : Tree) (p : Place) → IsAtom x → uses x p ≡ true → x ≡ place p
-used_atom (place q) p a h = ap place (same_from q p h)
+used_atom (place q) p a h = ap place (places_same q p h)
 used_atom (fixed n) p a h = absurd (cc)
 used_atom (literal k) p a h = absurd (cc)
 used_atom (read primitive xs) p a h = absurd a

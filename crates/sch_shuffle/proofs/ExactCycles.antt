@@ -9,13 +9,14 @@ use Rattle.sch_word.specs.trees.Bindings.{numbers}
 use Rattle.sch_word.specs.declared.place.Place.{Place}
 use Rattle.sch_word.specs.declared.place.Place.TheVariants.{Reg}
 use Rattle.sch_word.proofs.facts.NumberSets.{numbers_length}
-use Rattle.sch_shuffle.specs.Tree.{Tree, place, fixed, literal, read, same_place}
+use Rattle.sch_shuffle.specs.Tree.{Tree, place, fixed, literal, read}
+use Rattle.sch_word.specs.values.Places.{same_place}
 use Rattle.sch_shuffle.specs.Assignment.{operand_at, place_at, AreDistinct}
 use Rattle.sch_shuffle.specs.Greedy.{is_in, without}
 use Rattle.sch_shuffle.specs.Cycles.{IsRing, AreTheCycles}
 use Rattle.sch_shuffle.specs.CycleSearch.{stands_in, first, successor, iter, path, ring, is_ring, rings, all_rings, places_at, cycles}
 use Rattle.sch_shuffle.proofs.WaitingArguments.{Rising, Once, is_above, below_in, length_without, without_other, in_numbers, rising_numbers, below_numbers, rising_rest}
-use Rattle.sch_shuffle.proofs.MovesAssign.{place_same, same_from}
+use Rattle.sch_word.proofs.facts.Places.{place_same, places_same}
 use Rattle.sch_shuffle.proofs.Paths.{first_found, Back, length_path, path_at, iter_suc, walks_back, all_differ, ring_walk, ring_cases}
 
 -- ## Lists without repetition
@@ -66,7 +67,7 @@ first_only test (suc c) j k l h t only =
     ]
 
 stands_true : (x : Tree) (p : Place) → stands_in x p ≡ true → x ≡ place p
-stands_true (place q) p h = ap place (same_from q p h)
+stands_true (place q) p h = ap place (places_same q p h)
 stands_true (fixed n) p h = absurd (cc)
 stands_true (literal k) p h = absurd (cc)
 stands_true (read primitive xs) p h = absurd (cc)
@@ -86,7 +87,7 @@ module _ (args : List Tree) (targets : List Place) (l : length targets ≡ lengt
       let same : (a : ℕ) → stands_in (operand_at args i) (place_at targets a) ≡ same_place (place_at targets j) (place_at targets a) = λ a. ap (λ x. stands_in x (place_at targets a)) e in
       first_only (λ a. stands_in (operand_at args i) (place_at targets a)) n 0 j (omega arith) (omega (arith, lt))
       (same j ∙ place_same (place_at targets j) (place_at targets j) refl)
-      (λ a x y h. apart a j (omega (arith, y)) lt (sym (same_from (place_at targets j) (place_at targets a) (sym (same a) ∙ h))))
+      (λ a x y h. apart a j (omega (arith, y)) lt (sym (places_same (place_at targets j) (place_at targets a) (sym (same a) ∙ h))))
 
   -- ## Rings
 

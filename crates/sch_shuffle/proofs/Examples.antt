@@ -7,7 +7,8 @@ use Rattle.sch_word.specs.declared.place.Place.TheVariants.{Reg, Slot}
 use Rattle.sch_word.specs.declared.primitive.Primitive.{Primitive}
 use Rattle.sch_word.specs.declared.primitive.Primitive.TheVariants.{Eq, IsPair}
 use Rattle.sch_shuffle.specs.declared.choice.Choice.TheVariants.{Direct, Aside}
-use Rattle.sch_shuffle.specs.Tree.{Tree, place, fixed, literal, read, trees, same_place, uses}
+use Rattle.sch_shuffle.specs.Tree.{Tree, place, fixed, literal, read, trees, uses}
+use Rattle.sch_word.specs.values.Places.{same_place}
 use Rattle.sch_shuffle.specs.Meaning.{Reading, given}
 use Rattle.sch_shuffle.specs.Assignment.{place_at, Transfer, after, Assigns, Carries, AlwaysAssigns, IsAmong, IsSpare, AreDistinct, temps}
 use Rattle.sch_shuffle.specs.Plans.{direct, aside, across, onward, transfer, transfers, evaluates, sets_aside, goes_on, is_across, count, IsAct, IsPlan, IsMove, AreAtoms, NeedsTemporaries}

@@ -11,7 +11,7 @@ use Rattle.sch_shuffle.specs.Greedy.{made}
 use Rattle.sch_shuffle.specs.CycleSearch.{successor, is_ring, rings, all_rings, places_at, cycles}
 use Rattle.sch_shuffle.proofs.WaitingArguments.{AllBelow, below_numbers}
 use Rattle.sch_shuffle.proofs.Paths.{walk, ring_walk}
-use Rattle.sch_shuffle.proofs.MovesAssign.{place_other}
+use Rattle.sch_word.proofs.facts.Places.{place_other}
 use Rattle.sch_shuffle.proofs.Promises.{as_few}
 
 -- n slots from j on, and what places hold

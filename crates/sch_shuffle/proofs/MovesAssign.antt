@@ -9,44 +9,15 @@ use Rattle.sch_word.specs.declared.place.Place.TheVariants.{Reg, Slot}
 use Rattle.sch_word.proofs.facts.NumberSets.{numbers_length}
 use Rattle.sch_shuffle.specs.declared.choice.Choice.{Choice}
 use Rattle.sch_shuffle.specs.declared.choice.Choice.TheVariants.{Direct, Aside}
-use Rattle.sch_shuffle.specs.Tree.{Tree, Trees, place, fixed, literal, read, no_trees, and_tree, same_place, uses, uses_one}
+use Rattle.sch_shuffle.specs.Tree.{Tree, Trees, place, fixed, literal, read, no_trees, and_tree, uses, uses_one}
+use Rattle.sch_word.specs.values.Places.{same_place}
+use Rattle.sch_word.proofs.facts.Places.{place_same, places_same, place_other, cases_place}
 use Rattle.sch_shuffle.specs.Meaning.{Reading, given, each_given}
 use Rattle.sch_shuffle.specs.Assignment.{operand_at, place_at, Transfer, moved, after, Assigns, Carries, AreDistinct, AreSpare}
 use Rattle.sch_shuffle.specs.Plans.{Act, direct, aside, across, onward, transfer, transfers}
 use Rattle.sch_shuffle.specs.ActValues.{Depends, EachBrings, acted, after_acts, brings, goes_to}
 use Rattle.sch_shuffle.specs.Greedy.{uses_target, needed, next_of, is_in, without, chosen, choices, all_choices, evaluations, onwards, acts, made}
 use Rattle.sch_shuffle.proofs.WaitingArguments.{Rising, AllBelow, below_in, without_other, without_gone, rising_without, below_without, length_without, next_of_in, in_numbers, rising_numbers, below_numbers, length_choices, members, Once, not_in, choice_members, choice_once, clear, all_below}
-
--- ## Places
-
-pub place_same : (p q : Place) → p ≡ q → same_place p q ≡ true
-place_same p q e = rw e (itself q)
-  where
-    itself : (q : Place) → same_place q q ≡ true
-    itself (Reg a) = eq-eqb a a refl
-    itself (Slot a) = eq-eqb a a refl
-
-pub same_from : (p q : Place) → same_place p q ≡ true → p ≡ q
-same_from (Reg a) (Reg b) h = ap Reg (eqb-true a b h)
-same_from (Slot a) (Slot b) h = ap Slot (eqb-true a b h)
-same_from (Reg a) (Slot b) h = absurd (cc)
-same_from (Slot a) (Reg b) h = absurd (cc)
-
-pub place_other : (p q : Place) → p ≢ q → same_place p q ≡ false
-place_other p q h =
-    let go : (b : Bool) → same_place p q ≡ b → same_place p q ≡ false =
-    λ b. elim b as (λ b. same_place p q ≡ b → same_place p q ≡ false) [
-      | true ↦ λ e. absurd (h (same_from p q e))
-      | false ↦ λ e. e
-    ] in
-    go (same_place p q) refl
-
-pub cases_place : (p q : Place) → (p ≡ q) ⊎ (p ≢ q)
-cases_place p q = go (same_place p q) refl
-  where
-    go : (b : Bool) → same_place p q ≡ b → (p ≡ q) ⊎ (p ≢ q)
-    go true e = inl (same_from p q e)
-    go false e = inr (λ h. absurd (let t = place_same p q h in cc))
 
 -- ## What operands give
 

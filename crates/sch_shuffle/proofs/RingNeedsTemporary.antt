@@ -8,12 +8,14 @@ use Rattle.std.proofs.lemmas.Bool.Decides.{nat_tests}
 use Rattle.sch_word.specs.declared.place.Place.{Place}
 use Rattle.sch_word.specs.values.Values.{Value, object}
 use Rattle.sch_word.specs.declared.place.Place.TheVariants.{Reg, Slot}
-use Rattle.sch_shuffle.specs.Tree.{Tree, place, same_place}
+use Rattle.sch_shuffle.specs.Tree.{Tree, place}
+use Rattle.sch_word.specs.values.Places.{same_place}
 use Rattle.sch_shuffle.specs.Meaning.{Reading, given}
 use Rattle.sch_shuffle.specs.Assignment.{operand_at, place_at, Transfer, moved, after, AlwaysAssigns, AreDistinct, IsSpare}
 use Rattle.sch_shuffle.specs.Plans.{Act, direct, aside, across, onward, transfer, transfers, evaluates, sets_aside, goes_on, count, IsAct, IsPlan}
 use Rattle.sch_shuffle.specs.Cycles.{IsRing}
-use Rattle.sch_shuffle.proofs.MovesAssign.{place_same, place_other, cases_place, moved_here, moved_else}
+use Rattle.sch_shuffle.proofs.MovesAssign.{moved_here, moved_else}
+use Rattle.sch_word.proofs.facts.Places.{place_same, place_other, cases_place}
 
 -- ## Values that tell the places apart
 

@@ -2,7 +2,8 @@
 use Rattle.std.specs.Prelude.{◌≡◌, ℕ, suc, ◌<◌, ◌≤◌, true, cond, List, [], ◌∷◌, length, Option}
 use Rattle.sch_word.specs.declared.place.Place.{Place}
 use Rattle.sch_word.specs.values.Values.{Value}
-use Rattle.sch_shuffle.specs.Tree.{Tree, same_place, uses}
+use Rattle.sch_shuffle.specs.Tree.{Tree, uses}
+use Rattle.sch_word.specs.values.Places.{same_place}
 use Rattle.sch_shuffle.specs.Assignment.{AreDistinct, AreSpare, operand_at, place_at, temps}
 use Rattle.sch_shuffle.specs.Plans.{Act, direct, aside, across, onward}
 use Rattle.sch_shuffle.specs.Greedy.{acts, all_choices, made, uses_target}

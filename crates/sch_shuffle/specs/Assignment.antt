@@ -4,7 +4,8 @@ use Rattle.std.specs.List.{slice_index_or}
 use Rattle.sch_word.specs.declared.place.Place.{Place}
 use Rattle.sch_word.specs.declared.place.Place.TheVariants.{Reg}
 use Rattle.sch_word.specs.values.Values.{Value}
-use Rattle.sch_shuffle.specs.Tree.{Tree, fixed, same_place, uses}
+use Rattle.sch_shuffle.specs.Tree.{Tree, fixed, uses}
+use Rattle.sch_word.specs.values.Places.{same_place}
 use Rattle.sch_shuffle.specs.Meaning.{Reading, given}
 
 abbrev pub operand_at : List Tree → ℕ → Tree

@@ -4,7 +4,8 @@ use Rattle.std.specs.Prelude.{ℕ, zero, suc, ◌+◌, Bool, false, cond, ◌&&�
 use Rattle.std.specs.List.{list_all}
 use Rattle.sch_word.specs.trees.Bindings.{numbers}
 use Rattle.sch_word.specs.declared.place.Place.{Place}
-use Rattle.sch_shuffle.specs.Tree.{Tree, place, fixed, literal, read, same_place}
+use Rattle.sch_shuffle.specs.Tree.{Tree, place, fixed, literal, read}
+use Rattle.sch_word.specs.values.Places.{same_place}
 use Rattle.sch_shuffle.specs.Assignment.{operand_at, place_at}
 
 abbrev pub stands_in : Tree → Place → Bool

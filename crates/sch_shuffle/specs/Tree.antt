@@ -3,6 +3,7 @@ use Rattle.std.specs.Prelude.{ℕ, Bool, false, ◌||◌, nat_eq, List, [], ◌�
 use Rattle.sch_word.specs.declared.place.Place.{Place}
 use Rattle.sch_word.specs.declared.place.Place.TheVariants.{Reg, Slot}
 use Rattle.sch_word.specs.declared.primitive.Primitive.{Primitive}
+use Rattle.sch_word.specs.values.Places.{same_place}
 
 -- what a place holds, a word, the literal with this number, or what a primitive reads of operands
 mutual
@@ -20,11 +21,6 @@ mutual
 abbrev pub trees : List Tree → Trees
 trees [] = no_trees
 trees (x ∷ xs) = and_tree x (trees xs)
-
-abbrev pub same_place : Place → Place → Bool
-same_place (Reg a) (Reg b) = nat_eq a b
-same_place (Slot a) (Slot b) = nat_eq a b
-same_place _ _ = false
 
 -- whether an operand, or one of several, uses a place
 abbrev mutual

@@ -1,7 +1,7 @@
 //! Whether places are the same.
 
 ghost use Rattle.std.specs.Prelude.{◌≡◌};
-ghost use Rattle.sch_shuffle.specs.Tree.{same_place};
+ghost use Rattle.sch_word.specs.values.Places.{same_place};
 
 use sch_word::Place;
 

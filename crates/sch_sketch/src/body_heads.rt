@@ -29,7 +29,7 @@ pub fn add_head<'a>(
     ensures rest { IfOk result (λ es. data_of es.now ≡ table.expressions scope.now (data_of items.now)) }
 {
     for i in 0..items.len() {
-        if !is_definition(scope, &items[i]) {
+        if !is_definition(alloc, scope, &items[i])? {
             return Ok(&items[i..]);
         }
         add_definition(alloc, &items[i], names, parts)?;
@@ -41,7 +41,7 @@ pub fn add_head<'a>(
 fn is_body_here(alloc: Global, scope: &Scope, items: &[Datum]) -> Result<bool, Mem>
     ensures { IfOk result (λ b. b ≡ table.is_body scope.now (data_of items.now)) }
 {
-    if are_definitions(scope, items) {
+    if are_definitions(alloc, scope, items)? {
         return Ok(false);
     }
     let mut names = List::new(alloc);

@@ -1,7 +1,8 @@
 //! Definitions (R5RS 5.2): which data are some, and the names and inits that they bind.
 
-ghost use Rattle.std.specs.Prelude.{◌≡◌, [], ◌∷◌, ◌++◌, option_map, None, Some, MatchOption, IfOk, OnOk};
+ghost use Rattle.std.specs.Prelude.{◌≡◌, ◌<◌, ◌+◌, ◌&&◌, [], ◌∷◌, ◌++◌, option_map, None, Some, MatchOption, IfOk, OnOk};
 ghost use Rattle.sch_read.specs.Grammar.{none, cons};
+ghost use Rattle.sch_read.specs.Valid.{weight, weights};
 ghost use Rattle.sch_read.specs.Views.{tree_of, data_of};
 ghost use Rattle.sch_names.specs.ScopeView.{given_names, one_name};
 ghost use Rattle.sch_names.specs.Words.{keyword_of};
@@ -16,44 +17,58 @@ use crate::sketch::{Row, Sketch};
 use crate::small::{alone, bad, text};
 use sch_names::{Keyword, Name, Scope, keyword_of};
 use sch_read::Datum;
-use sch_word::{List, Mem};
+use sch_word::{List, Mem, ToVisit};
 use std::alloc::Global;
+use std::slice;
 
-/// Whether a part of a body is a definition.
-#[cycle(defining)]
-pub fn is_definition(scope: &Scope, d: &Datum) -> bool
-    ensures { result ≡ table.is_definition scope.now (tree_of d.now) }
+/// Whether a part of a body may be a definition: it is one where the parts of a `begin`, which are put before what is left
+/// to visit, all are.
+fn may_define<'a>(scope: &Scope, d: &'a Datum, left: &mut ToVisit<'a, Datum>) -> Result<bool, Mem>
+    ensures defines { IfOk result (λ may. (may && table.are_definitions scope.now (data_of left.new))
+        ≡ (table.is_definition scope.now (tree_of d.now) && table.are_definitions scope.now (data_of left.old))) }
+    ensures less { OnOk result (weights (data_of left.new) < weight (tree_of d.now) + weights (data_of left.old)) }
 {
     let Some(items) = d.items() else {
-        return false;
+        return Ok(false);
     };
     let Some((operator, others)) = Datum::split(items) else {
-        return false;
+        return Ok(false);
     };
     let Some(x) = operator.name() else {
-        return false;
+        return Ok(false);
     };
     if let Some(_) = scope.find(x) {
-        return false;
+        return Ok(false);
     }
     match keyword_of(x) {
-        Some(Keyword::Define) => true,
-        Some(Keyword::Begin) => are_definitions(scope, others),
-        _ => false,
+        Some(Keyword::Define) => Ok(true),
+        Some(Keyword::Begin) => {
+            left.enter(others)?;
+            Ok(true)
+        }
+        _ => Ok(false),
     }
 }
 
 /// Whether all data are definitions.
-#[cycle(defining)]
-pub fn are_definitions(scope: &Scope, items: &[Datum]) -> bool
-    ensures { result ≡ table.are_definitions scope.now (data_of items.now) }
+pub fn are_definitions(alloc: Global, scope: &Scope, items: &[Datum]) -> Result<bool, Mem>
+    ensures { IfOk result (λ are. are ≡ table.are_definitions scope.now (data_of items.now)) }
 {
-    for d in items {
-        if !is_definition(scope, d) {
-            return false;
+    let mut left = ToVisit::new(alloc, items);
+    'each: while let Some(d) = left.next() {
+        if !may_define(scope, d, &mut left)? {
+            return Ok(false);
         }
     }
-    true
+    Ok(true)
+}
+
+/// Whether a part of a body is a definition.
+pub fn is_definition(alloc: Global, scope: &Scope, d: &Datum) -> Result<bool, Mem>
+    ensures { IfOk result (λ is. is ≡ table.is_definition scope.now (tree_of d.now)) }
+{
+    let is = are_definitions(alloc, scope, slice::from_ref(d))?;
+    Ok(is)
 }
 
 /// The name of a procedure that is defined with these formals.
@@ -146,16 +161,19 @@ fn is_define(x: &[u8]) -> bool
     }
 }
 
-/// Adds the definitions of a datum that is one.
-#[cycle(adding)]
-pub fn add_definition<'a>(
+/// Adds the definition that a datum is, or puts the parts of a `begin` before what is left to visit.
+fn add_next<'a>(
     alloc: Global,
     d: &'a Datum,
+    left: &mut ToVisit<'a, Datum>,
     names: &mut List<Name<'a>>,
     parts: &mut List<Sketch<'a>>,
 ) -> Result<(), Mem>
-    ensures names { OnOk result (given_names names.new ≡ given_names names.old ++ table.names_in (tree_of d.now)) }
-    ensures parts { OnOk result ((ks : words.Sketches) → ahead parts.new ks ≡ ahead parts.old (table.inits_in (tree_of d.now) ks)) }
+    ensures names { OnOk result (given_names names.new ++ table.names_of_each (data_of left.new)
+        ≡ given_names names.old ++ (table.names_in (tree_of d.now) ++ table.names_of_each (data_of left.old))) }
+    ensures parts { OnOk result ((ks : words.Sketches) → ahead parts.new (table.inits_of_each (data_of left.new) ks)
+        ≡ ahead parts.old (table.inits_in (tree_of d.now) (table.inits_of_each (data_of left.old) ks))) }
+    ensures less { OnOk result (weights (data_of left.new) < weight (tree_of d.now) + weights (data_of left.old)) }
 {
     let Some(items) = d.items() else {
         return Ok(());
@@ -170,23 +188,23 @@ pub fn add_definition<'a>(
         add_one(alloc, d.offset(), others, names, parts)?;
         return Ok(());
     }
-    add_definitions(alloc, others, names, parts)?;
+    left.enter(others)?;
     Ok(())
 }
 
-/// Adds the definitions of data that are some.
-#[cycle(adding)]
-fn add_definitions<'a>(
+/// Adds the definitions of a datum that is one.
+pub fn add_definition<'a>(
     alloc: Global,
-    items: &'a [Datum],
+    d: &'a Datum,
     names: &mut List<Name<'a>>,
     parts: &mut List<Sketch<'a>>,
 ) -> Result<(), Mem>
-    ensures names { OnOk result (given_names names.new ≡ given_names names.old ++ table.names_of_each (data_of items.now)) }
-    ensures parts { OnOk result ((ks : words.Sketches) → ahead parts.new ks ≡ ahead parts.old (table.inits_of_each (data_of items.now) ks)) }
+    ensures names { OnOk result (given_names names.new ≡ given_names names.old ++ table.names_in (tree_of d.now)) }
+    ensures parts { OnOk result ((ks : words.Sketches) → ahead parts.new ks ≡ ahead parts.old (table.inits_in (tree_of d.now) ks)) }
 {
-    for d in items {
-        add_definition(alloc, d, names, parts)?;
+    let mut left = ToVisit::new(alloc, slice::from_ref(d));
+    'each: while let Some(next) = left.next() {
+        add_next(alloc, next, &mut left, names, parts)?;
     }
     Ok(())
 }

@@ -5,3 +5,5 @@ pub mod ProcessorSteps
 pub mod MachineRuns
 pub mod ImageMemory
 pub mod EndedMachines
+pub mod FetchedStays
+pub mod FetchedExamples

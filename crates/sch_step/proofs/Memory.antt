@@ -37,7 +37,7 @@ none_serves right (g ∷ gs) a n h =
     ap (λ b. cond b (in_segment right g a) (bytes_from right gs a n)) (h zero (omega arith)) ∙ none_serves right gs a n (λ i l. h (suc i) (omega (arith, l)))
 
 -- The segment of the program at an index is that of the definitions.
-at_index : (items : List Segment) (i : ℕ) (x : Segment) → i < length items → x ≡ get_or items i x → segment_at (map segment_view items) i ≡ segment_view x
+pub at_index : (items : List Segment) (i : ℕ) (x : Segment) → i < length items → x ≡ get_or items i x → segment_at (map segment_view items) i ≡ segment_view x
 at_index [] i x l e = absurd (omega (arith, l))
 at_index (g ∷ gs) zero x l e = ap segment_view (sym e)
 at_index (g ∷ gs) (suc i) x l e = at_index gs i x (omega (arith, l)) e
@@ -167,7 +167,7 @@ same_shape gs i y ea es = record { count = length-set gs i y; address = λ j. ad
     sizes (g ∷ gs) (suc i) zero e = refl
     sizes (g ∷ gs) (suc i) (suc j) e = sizes gs i j e
 
-same_holds : (g h : words.Segment) (a n : ℕ) → h.address ≡ g.address → length h.bytes ≡ length g.bytes → holds h a n ≡ holds g a n
+pub same_holds : (g h : words.Segment) (a n : ℕ) → h.address ≡ g.address → length h.bytes ≡ length g.bytes → holds h a n ≡ holds g a n
 same_holds g h a n e s = ap (λ k. nat_le k a && nat_le (a + n) (k + length h.bytes)) e ∙ ap (λ k. nat_le g.address a && nat_le (a + n) (g.address + k)) s
 
 still_laid_out : (gs hs : List words.Segment) → SameShape gs hs → IsMemory gs → IsMemory hs
@@ -179,7 +179,7 @@ still_laid_out gs hs s laid = record {
   ends = λ i. let low = laid.ends i in omega (arith, low, s.address i, s.size i);
 }
 
-fits : (g : words.Segment) (a n : ℕ) → holds g a n ≡ true → (a - g.address) + n ≤ length g.bytes
+pub fits : (g : words.Segment) (a n : ℕ) → holds g a n ≡ true → (a - g.address) + n ≤ length g.bytes
 fits g a n e = grind (arith, nat_tests)
 
 pub stays_laid_out : (items : List Segment) (i a : ℕ) (x y : Segment) (ys : List ℕ) → IsMemory (map segment_view items) → i < length items

@@ -1,4 +1,6 @@
 pub mod Layout
+pub mod Fetched
+pub mod Propositions
 pub mod View
 pub mod Kernel
 pub mod Run

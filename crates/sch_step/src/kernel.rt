@@ -9,6 +9,7 @@ ghost use Rattle.sch_step.specs.Kernel.{written_core, rax_of as rax_of_answer};
 ghost use Rattle.sch_step.specs.declared.ends.StepEnd.TheVariants as step_end;
 
 use crate::ends::{StepEnd, Stuck};
+use crate::fetched::KEPT;
 use crate::flags::LastFlags;
 use crate::processor::Processor;
 use sch_insn::register::{R11, RAX, RCX, RDI, RDX, RSI};
@@ -122,9 +123,23 @@ impl Processor {
         }
     }
 
-    /// One step.
+    /// One step. The instruction is looked for among those that are kept first, and goes from there as it is, without an
+    /// `Option` round it, which would be copied in parts.
     #[inline(always)]
     pub(crate) fn step<O: Outlet>(&mut self, out: &mut O) -> StepEnd
+        ensures at { IsAt result (core_of self.new).place }
+        ensures did { Does (StepsTo result (core_of self.old) (core_of self.new)) (O.bytes out.old) (O.bytes out.new) (O.left out.old) (O.left out.new) (O.faults out.old) (O.faults out.new) }
+    {
+        let kept = self.fetched[self.at as usize % KEPT];
+        if kept.at == self.at && kept.size != 0 {
+            return self.perform(&kept.insn, kept.size, out);
+        }
+        self.step_anew(out)
+    }
+
+    /// A step of an instruction that is not kept.
+    #[inline(never)]
+    fn step_anew<O: Outlet>(&mut self, out: &mut O) -> StepEnd
         ensures at { IsAt result (core_of self.new).place }
         ensures did { Does (StepsTo result (core_of self.old) (core_of self.new)) (O.bytes out.old) (O.bytes out.new) (O.left out.old) (O.left out.new) (O.faults out.old) (O.faults out.new) }
     {

@@ -1,10 +1,10 @@
-//! A machine that steps: the table of instructions, run. What each step passes through is marked as
-//! inline, here and in the decoder, so that a run is one function of the processor; `bench/step.py`
-//! measures it.
+//! A machine that steps: the table of instructions, run. What was fetched from text that nothing can
+//! write is kept, so that a step seldom decodes; `bench/step.py` measures it.
 #![tactic(auto)]
 
 mod division;
 mod ends;
+mod fetched;
 mod flags;
 mod kernel;
 mod loading;

@@ -8,6 +8,7 @@ ghost use Rattle.sch_step.specs.Layout.{segment_view, segments_view};
 ghost use Rattle.sch_step.specs.Machine.{standing_of, loaded};
 ghost use Rattle.sch_step.specs.Run.{state_of};
 
+use crate::fetched::none_fetched;
 use crate::flags::LastFlags;
 use crate::machine::Machine;
 use crate::processor::Processor;
@@ -24,6 +25,7 @@ pub fn load(alloc: Global, image: &Image) -> Result<Machine, Mem>
         ≡ Runs (state_of (loaded image.now.entry (memory image.now.segments)) bytes answers)) }
 {
     let segments = load_segments(alloc, image)?;
+    let fetched = none_fetched(alloc)?;
     // Where operands are looked for first: what is written lies last in an image.
     let data = segments.len().saturating_sub(1);
     Ok(Machine {
@@ -34,6 +36,7 @@ pub fn load(alloc: Global, image: &Image) -> Result<Machine, Mem>
             segments,
             code: 0,
             data,
+            fetched,
         },
         exited: None,
     })

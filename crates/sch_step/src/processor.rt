@@ -2,19 +2,21 @@
 
 ghost use Rattle.std.specs.Prelude.{ℕ, List, [], ◌∷◌, option_map, ◌≡◌, ◌+◌, ◌<◌, ◌≤◌, ◌^◌, length, IfSome, None, OnErr, Ok, Err, true, false, vec_len};
 ghost use Rattle.std.specs.Int.{w64, to_le_bytes};
-ghost use Rattle.sch_insn.specs.Spelling.{IsArg, IsValid};
+ghost use Rattle.sch_insn.specs.Spelling.{IsArg};
 ghost use Rattle.sch_insn.specs.Machine.{holds, stored, bytes_from, with_register, with_flags, with_place, word_at, byte_at, write_bytes, address_of};
 ghost use Rattle.sch_insn.specs.Machine.{load as load_of, store as store_of, word as word_of};
-ghost use Rattle.sch_insn.specs.Step.{fetch as fetch_of};
 ghost use Rattle.sch_step.specs.Layout.{IsMemory, segments_view, segment_at, NoneHolds};
+ghost use Rattle.sch_step.specs.Fetched.{AreFetched};
+ghost use Rattle.sch_step.specs.Propositions.{AreFetched-prop};
+ghost use Rattle.sch_step.specs.declared.fetched.TheConstants.{KEPT};
 
+use crate::fetched::Fetched;
 use crate::flags::LastFlags;
 use crate::segment::Segment;
-use sch_code::decode;
-use sch_insn::{Arg, Insn, Regs, StuckCause};
+use sch_insn::{Arg, Regs, StuckCause};
 
 /// What a machine computes with: registers, flags, the address of its next instruction, memory. It remembers in which
-/// segments it found its last instruction and its last operand.
+/// segments it found its last instruction and its last operand, and keeps instructions that it fetched.
 #[derive(Drop)]
 pub struct Processor {
     pub(crate) regs: Regs,
@@ -23,7 +25,10 @@ pub struct Processor {
     pub(crate) segments: Vec<Segment>,
     pub(crate) code: usize,
     pub(crate) data: usize,
+    pub(crate) fetched: Vec<Fetched>,
     ghost laid_out: { IsMemory (segments_view segments) },
+    ghost counted: { length fetched.items ≡ KEPT },
+    ghost kept: { AreFetched (segments_view segments) fetched.items } by { AreFetched-prop (segments_view segments) fetched.items },
 }
 
 impl Processor {
@@ -211,23 +216,6 @@ impl Processor {
                 self.set_word(address, value)
             }
         }
-    }
-
-    /// The instruction that comes next, and its length.
-    #[inline(always)]
-    pub(crate) fn fetch(&mut self) -> Option<(Insn, usize)>
-        ensures value { result ≡ fetch_of (core_of self.old).segments (core_of self.old).place }
-        ensures same { core_of self.new ≡ core_of self.old }
-        ensures valid { IfSome result (λ p. IsValid p.0) }
-        ensures low { IfSome result (λ p. (core_of self.old).place + p.1 ≤ 2 ^ 47) }
-    {
-        let i = self.find(self.code, self.at, 1)?;
-        self.code = i;
-        let s = &self.segments[i];
-        if !s.executable {
-            return None;
-        }
-        decode(s.tail((self.at - s.address) as usize))
     }
 }
 

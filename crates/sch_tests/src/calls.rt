@@ -36,14 +36,7 @@ const CALLS: &[(&[u8], &[u8])] = &[
         b"(lambda (x) (if #f (set! car x)))(define (car x) (+ x 1))(display (car 1))",
         b"2",
     ),
-];
-
-#[test]
-fn calls_print(rt: HostRuntime) -> Result<(), Fail> {
-    check_printed(rt.alloc(), RUN, CALLS)
-}
-
-const LOOPS: &[(&[u8], &[u8])] = &[
+    // Loops.
     (
         b"(define (loop i) (if (= i 0) (display 7) (loop (- i 1))))(loop 1000)",
         b"7",
@@ -61,23 +54,6 @@ const LOOPS: &[(&[u8], &[u8])] = &[
         b"(display (cond ((- 7 2) => (lambda (n) (* n n))) (else 0)))",
         b"25",
     ),
-];
-
-#[test]
-fn loops_print(rt: HostRuntime) -> Result<(), Fail> {
-    check_printed(rt.alloc(), RUN, LOOPS)
-}
-
-const PLACES: &[u8] =
-    b"(define (t x) x)(define x 0)(set! x (t 4))(if (t #f) (display 1) (display (+ x (t 1))))(let ((y (t 5)) (z (t 6))) (display (- y z)))(letrec ((a (t 7))) (display a))(display (cond ((t #f) 1) ((t 8)) (else 0)))(display (and (t 1) (t 9)))(display ((t t) 3))";
-
-// Where a call may stand: a value that is set, a test, an operand, an init, an operator, a clause.
-#[test]
-fn calls_stand_anywhere(rt: HostRuntime) -> Result<(), Fail> {
-    check_well(rt.alloc(), RUN, PLACES, (0, b"5-17893", b""))
-}
-
-const KEPT: &[(&[u8], &[u8])] = &[
     // A procedure that is made in a loop has the loop's variable of its turn, and each call of it sees what others set.
     (
         b"(define p 0)(do ((i 0 (+ i 1))) ((= i 3)) (if (= i 1) (set! p (lambda () i))))(display (p))",
@@ -97,11 +73,16 @@ const KEPT: &[(&[u8], &[u8])] = &[
         b"(define (k a b c d e g h i) i)(define (f a b c d e g h i) (begin (k 0 0 0 0 0 0 0 0) (+ h i)))(display (f 1 2 3 4 5 6 7 8))",
         b"15",
     ),
+    // Where a call may stand: a value that is set, a test, an operand, an init, an operator, a clause.
+    (
+        b"(define (t x) x)(define x 0)(set! x (t 4))(if (t #f) (display 1) (display (+ x (t 1))))(let ((y (t 5)) (z (t 6))) (display (- y z)))(letrec ((a (t 7))) (display a))(display (cond ((t #f) 1) ((t 8)) (else 0)))(display (and (t 1) (t 9)))(display ((t t) 3))",
+        b"5-17893",
+    ),
 ];
 
 #[test]
-fn variables_are_kept_over_calls(rt: HostRuntime) -> Result<(), Fail> {
-    check_printed(rt.alloc(), RUN, KEPT)
+fn calls_print(rt: HostRuntime) -> Result<(), Fail> {
+    check_printed(rt.alloc(), RUN, CALLS)
 }
 
 const NO_PROCEDURE: &[u8] = b"stop 67: not a procedure\n";

@@ -3,7 +3,7 @@
 use crate::outside::{RUN, Repeated, Wanted, check_printed, check_repeated, check_well};
 use std::test::Fail;
 
-const ASSIGNMENTS: &[(&[u8], &[u8])] = &[
+const PROGRAMS: &[(&[u8], &[u8])] = &[
     (b"(let ((n 1)) (set! n (+ n 1)) (display n))", b"2"),
     (b"(define g 1)(set! g (+ g 4))(display g)", b"5"),
     (b"(letrec ((a 1) (b 2)) (display (+ a b)))", b"3"),
@@ -16,14 +16,7 @@ const ASSIGNMENTS: &[(&[u8], &[u8])] = &[
         b"6",
     ),
     (b"(let ((t 5)) (display (or #f t)))", b"5"),
-];
-
-#[test]
-fn assignments_print(rt: HostRuntime) -> Result<(), Fail> {
-    check_printed(rt.alloc(), RUN, ASSIGNMENTS)
-}
-
-const PROCEDURES: &[(&[u8], &[u8])] = &[
+    // Procedures that are made.
     (b"(define (f x) x)(display f)", b"#<procedure>"),
     (b"(let ((x 1)) (display (procedure? (lambda () x))))", b"#t"),
     (
@@ -37,8 +30,8 @@ const PROCEDURES: &[(&[u8], &[u8])] = &[
 ];
 
 #[test]
-fn procedures_are_made(rt: HostRuntime) -> Result<(), Fail> {
-    check_printed(rt.alloc(), RUN, PROCEDURES)
+fn assignments_and_procedures_print(rt: HostRuntime) -> Result<(), Fail> {
+    check_printed(rt.alloc(), RUN, PROGRAMS)
 }
 
 #[test]

@@ -1,41 +1,37 @@
 //! Programs that are run without options, or with a depth alone.
 
-use crate::outside::{Called, Ended, check_files, check_lines, check_printed};
+use crate::outside::{Called, Ended, check_files, check_lines};
 use std::test::Fail;
 
-const PROGRAMS: &[(&[u8], &[u8])] = &[
-    (b"", b""),
-    (b"(display (+ 1 2))(newline)", b"3\n"),
-    (b"(display -42)", b"-42"),
-    (b"(display 1152921504606846975)", b"1152921504606846975"),
+const PROGRAMS: &[Ended] = &[
+    (b"", (0, b"", b"")),
+    (b"(display (+ 1 2))(newline)", (0, b"3\n", b"")),
+    (b"(display -42)", (0, b"-42", b"")),
+    (
+        b"(display 1152921504606846975)",
+        (0, b"1152921504606846975", b""),
+    ),
     (
         b"(display (quotient (- 0 7) 2))(display (modulo -7 2))",
-        b"-31",
+        (0, b"-31", b""),
     ),
     (
         b"(define (swap a b n) (if (= n 0) (display a) (swap b a (- n 1))))(swap 1 2 3)",
-        b"2",
+        (0, b"2", b""),
     ),
     (
         b"(define (fact n) (if (= n 0) 1 (* n (fact (- n 1)))))(display (fact 5))",
-        b"120",
+        (0, b"120", b""),
     ),
     (
         b"(define (h z) z)(define (g x y) (if (and x (h y)) y (not (h x))))(display (g 1 7))(display (g #f 7))",
-        b"7#t",
+        (0, b"7#t", b""),
     ),
     (
         b"(let ((if (lambda (a b c) b)))(display (if #f 1 2)))",
-        b"1",
+        (0, b"1", b""),
     ),
-];
-
-#[test]
-fn programs_print(rt: HostRuntime) -> Result<(), Fail> {
-    check_printed(rt.alloc(), "run p.scm", PROGRAMS)
-}
-
-const STOPS: &[Ended] = &[
+    // Stops.
     (
         b"(display (+ 1152921504606846975 1))",
         (70, b"", b"stop 70: fixnum overflow\n"),
@@ -58,8 +54,8 @@ const STOPS: &[Ended] = &[
 ];
 
 #[test]
-fn programs_stop(rt: HostRuntime) -> Result<(), Fail> {
-    check_files(rt.alloc(), "run p.scm", STOPS)
+fn programs_end(rt: HostRuntime) -> Result<(), Fail> {
+    check_files(rt.alloc(), "run p.scm", PROGRAMS)
 }
 
 const NINE_PENDING: &[u8] = b"(define (d n) (if (= n 0) 0 (+ 1 (d (- n 1)))))(display (d 9))";

@@ -1,7 +1,7 @@
 //! Disks and streams that fail or take less than they are given, at each of their calls in turn.
 
 use crate::outside::{Outcome, Outside, Wanted, call, call_well, check, ended};
-use sch_word::{Answer, Bytes, Mem};
+use sch_word::{Answer, Mem};
 use std::alloc::Global;
 use std::test::Fail;
 
@@ -9,16 +9,16 @@ const LISTED: &str = "compile p.scm p --listing f --heap 4096";
 
 const TEXT: &[u8] = b"(define (f x) x)(display (f 1))";
 
-// Whether a file is there and holds these bytes.
-fn holds(file: &Option<Bytes>, bytes: &[u8]) -> bool {
-    match file {
+// Whether a file is then there and holds these bytes.
+fn holds(alloc: Global, outcome: &mut Outcome, name: &str, bytes: &[u8]) -> bool {
+    match outcome.file(alloc, name) {
         Some(file) => file.as_slice() == bytes,
         None => false,
     }
 }
 
 // Calls the program where the disk's call of this number fails.
-fn call_failing(alloc: Global, line: &str, number: u64) -> Result<Outcome, Fail> {
+fn call_failing(alloc: Global, line: &str, number: u64) -> Result<Outcome, Mem> {
     let failing = [number];
     let outside = Outside {
         failing: &failing,
@@ -40,18 +40,20 @@ const DISKS: &[(&str, u64, u8, &[u8], bool)] = &[
     ("count p.scm", 0, 2, b"p.scm: read failed\n", false),
 ];
 
+// Whether the source is as it was, the executable is there or not, and no listing is.
+fn is_left(alloc: Global, outcome: &mut Outcome, written: bool) -> bool {
+    holds(alloc, outcome, "p.scm", TEXT)
+        && outcome.file(alloc, "p").is_some() == written
+        && outcome.file(alloc, "f").is_none()
+}
+
 // A read that fails leaves all files as they were, and a write that fails those that are not written yet.
 #[test]
 fn each_call_of_the_disk_fails(rt: HostRuntime) -> Result<(), Fail> {
     for (line, number, status, said, written) in DISKS {
-        let outcome = call_failing(rt.alloc(), line, *number)?;
-        let is_left = holds(&outcome.source, TEXT)
-            && outcome.target.is_some() == *written
-            && outcome.listing.is_none();
-        assert!(rt;
-            is_left && ended(&outcome, (*status, b"", said)),
-            "at {line}"
-        );
+        let mut outcome = call_failing(rt.alloc(), line, *number)?;
+        assert!(rt; is_left(rt.alloc(), &mut outcome, *written), "at {line}");
+        assert!(rt; ended(&outcome, (*status, b"", said)), "at {line}");
     }
     Ok(())
 }
@@ -59,11 +61,11 @@ fn each_call_of_the_disk_fails(rt: HostRuntime) -> Result<(), Fail> {
 // Where the listing is not written, the executable is the one that is written with it.
 #[test]
 fn the_executable_is_written_first(rt: HostRuntime) -> Result<(), Fail> {
-    let whole = call_well(rt.alloc(), LISTED, TEXT)?;
-    let is_whole = whole.status == 0 && whole.listing.is_some();
-    let image = whole.target.ok_or("no file")?;
-    let failed = call_failing(rt.alloc(), LISTED, 2)?;
-    assert!(rt; is_whole && holds(&failed.target, image.as_slice()));
+    let mut whole = call_well(rt.alloc(), LISTED, TEXT)?;
+    let image = whole.file(rt.alloc(), "p").ok_or("no file")?;
+    assert!(rt; whole.status == 0 && whole.file(rt.alloc(), "f").is_some());
+    let mut failed = call_failing(rt.alloc(), LISTED, 2)?;
+    assert!(rt; holds(rt.alloc(), &mut failed, "p", image.as_slice()));
     Ok(())
 }
 
@@ -80,7 +82,10 @@ const FURTHER: &[(&str, u64)] = &[
 fn a_failure_of_a_further_call_is_not_seen(rt: HostRuntime) -> Result<(), Fail> {
     for (line, number) in FURTHER {
         let outcome = call_failing(rt.alloc(), line, *number)?;
-        assert!(rt; outcome.status == 0 && outcome.said.is_empty(), "at {line}");
+        assert!(rt;
+            outcome.status == 0 && outcome.said().is_empty(),
+            "at {line}"
+        );
     }
     Ok(())
 }
@@ -146,8 +151,8 @@ fn check_pieces(alloc: Global, file: &[u8], out: &[Answer], wanted: Wanted) -> R
         ..Outside::of(file)
     };
     check(alloc, "run p.scm --heap 4096 --depth 20", source, wanted)?;
-    let compiled = call_well(alloc, LISTED, file)?;
-    let image = compiled.target.ok_or("no file")?;
+    let mut compiled = call_well(alloc, LISTED, file)?;
+    let image = compiled.file(alloc, "p").ok_or("no file")?;
     let image = Outside {
         out,
         ..Outside::of(image.as_slice())
@@ -214,7 +219,7 @@ fn check_texts(alloc: Global, line: &str) -> Result<(), Fail> {
     if well.status != 0 {
         return Err(Fail::from("another end"));
     }
-    let whole = well.printed.as_slice();
+    let whole = well.printed();
     check_text(alloc, line, (0, Answer::Took(1)), (0, whole))?;
     for count in [0, 1, 2, 9] {
         let begun = whole.get(..count).ok_or("too short")?;
@@ -240,8 +245,8 @@ fn check_line(
     well: &Outcome,
     last: Answer,
 ) -> Result<(), Fail> {
-    let said = well.said.as_slice();
-    let printed = well.printed.as_slice();
+    let said = well.said();
+    let printed = well.printed();
     let most = said.len().checked_add(1).ok_or("too long")?;
     for count in 0..most {
         let begun = said.get(..count).ok_or("too short")?;

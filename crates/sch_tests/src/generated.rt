@@ -7,11 +7,11 @@ use std::test::Fail;
 #[test]
 fn figures_of_the_program_of_zero(rt: HostRuntime) -> Result<(), Fail> {
     let outcome = call_well(rt.alloc(), "gen 0", b"")?;
-    assert_eq!(rt; outcome.status, 0);
-    let printed = outcome.printed.as_slice();
+    assert!(rt; outcome.status == 0);
+    let printed = outcome.printed();
     assert!(rt; printed.starts_with(b"source 108283\nimage "));
     assert!(rt; printed.ends_with(b"\nstatus 0\n"));
-    assert!(rt; outcome.said.is_empty());
+    assert!(rt; outcome.said().is_empty());
     Ok(())
 }
 

@@ -105,8 +105,8 @@ fn changed(alloc: Global, file: &[u8], place: usize, byte: u8) -> Result<Vec<u8>
 // The image of a small program.
 fn small_image(alloc: Global) -> Result<Bytes, Fail> {
     let source = b"(display (+ 1 2))(newline)";
-    let compiled = call_well(alloc, "compile p.scm p", source)?;
-    Ok(compiled.target.ok_or("no file")?)
+    let mut compiled = call_well(alloc, "compile p.scm p", source)?;
+    Ok(compiled.file(alloc, "p").ok_or("no file")?)
 }
 
 const CUTS: &[(usize, &[u8])] = &[

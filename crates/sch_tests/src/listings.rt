@@ -12,11 +12,10 @@ const SOURCE: &[u8] = b"(define (f x) x)(newline)";
 #[test]
 fn listing_in_a_file(rt: HostRuntime) -> Result<(), Fail> {
     let listed = call_well(rt.alloc(), "list a", SOURCE)?;
-    let printed = listed.printed.as_slice();
-    let compiled = call_well(rt.alloc(), "compile a p --listing=f", SOURCE)?;
-    let is_written = compiled.status == 0 && compiled.target.is_some();
-    let listing = compiled.listing.ok_or("no listing")?;
-    assert!(rt; is_written && listing.as_slice() == printed);
+    let mut compiled = call_well(rt.alloc(), "compile a p --listing=f", SOURCE)?;
+    assert!(rt; compiled.status == 0 && compiled.file(rt.alloc(), "p").is_some());
+    let listing = compiled.file(rt.alloc(), "f").ok_or("no listing")?;
+    assert!(rt; listing.as_slice() == listed.printed());
     Ok(())
 }
 
@@ -26,19 +25,19 @@ fn listing_that_is_not_written(rt: HostRuntime) -> Result<(), Fail> {
         failing: &[2],
         ..Outside::of(SOURCE)
     };
-    let failed = call(rt.alloc(), "compile a p --listing=f", failing)?;
-    let is_said = ended(&failed, (3, b"", b"f: write failed\n"));
-    assert!(rt; is_said && failed.target.is_some());
+    let mut failed = call(rt.alloc(), "compile a p --listing=f", failing)?;
+    assert!(rt; ended(&failed, (3, b"", b"f: write failed\n")));
+    assert!(rt; failed.file(rt.alloc(), "p").is_some());
     Ok(())
 }
 
 #[test]
 fn listing_of_a_source(rt: HostRuntime) -> Result<(), Fail> {
     let outcome = call_well(rt.alloc(), "list a", SOURCE)?;
-    let printed = outcome.printed.as_slice();
-    let begins = printed.starts_with(b"schc listing 1\nframe ");
-    let ends = printed.ends_with(b"\nend\n");
-    assert!(rt; begins && ends && outcome.status == 0 && outcome.said.is_empty());
+    let printed = outcome.printed();
+    assert!(rt; printed.starts_with(b"schc listing 1\nframe "));
+    assert!(rt; printed.ends_with(b"\nend\n"));
+    assert!(rt; outcome.status == 0 && outcome.said().is_empty());
     Ok(())
 }
 
@@ -95,7 +94,7 @@ const NAMES: &[(&[u8], &[u8])] = &[
 fn bodies_have_names(rt: HostRuntime) -> Result<(), Fail> {
     for (source, wanted) in NAMES {
         let outcome = call_well(rt.alloc(), "list a", source)?;
-        let lines = body_lines(rt.alloc(), outcome.printed.as_slice())?;
+        let lines = body_lines(rt.alloc(), outcome.printed())?;
         assert!(rt; lines.as_slice() == *wanted);
     }
     Ok(())
@@ -117,7 +116,7 @@ fn instructions(listing: &[u8]) -> Result<u64, Fail> {
 fn a_source_runs_in_steps_by_its_listing(rt: HostRuntime) -> Result<(), Fail> {
     let source = b"(display (+ 1 2))(newline)";
     let listed = call_well(rt.alloc(), "list a", source)?;
-    let count = instructions(listed.printed.as_slice())?;
+    let count = instructions(listed.printed())?;
     let steps = count.checked_mul(10_240).ok_or("too many steps")?;
     let line = format!(in rt.alloc(); "run a --steps={steps}")?;
     check_well(rt.alloc(), line.as_str(), source, (0, b"3\n", b""))

@@ -4,6 +4,7 @@ use sch_cli::schc;
 use sch_io::{Disk, MemDisk, MemOutlet};
 use sch_word::{Answer, Bytes, Mem};
 use std::alloc::Global;
+use std::str;
 use std::test::Fail;
 
 /// With the least heap and a small depth, so that an image has few zeros to load.
@@ -36,15 +37,28 @@ impl<'a> Outside<'a> {
     }
 }
 
-/// What a call answered, what the streams took, and what the files `p.scm`, `p` and `f` then hold.
+/// What a call answered, what the streams took, and the disk behind it.
 #[derive(Drop)]
 pub(crate) struct Outcome {
     pub(crate) status: u8,
-    pub(crate) printed: Vec<u8>,
-    pub(crate) said: Vec<u8>,
-    pub(crate) source: Option<Bytes>,
-    pub(crate) target: Option<Bytes>,
-    pub(crate) listing: Option<Bytes>,
+    out: MemOutlet,
+    err: MemOutlet,
+    disk: MemDisk,
+}
+
+impl Outcome {
+    pub(crate) fn printed(&self) -> &[u8] {
+        self.out.taken()
+    }
+
+    pub(crate) fn said(&self) -> &[u8] {
+        self.err.taken()
+    }
+
+    /// What a file then holds, if it is there.
+    pub(crate) fn file(&mut self, alloc: Global, name: &str) -> Option<Bytes> {
+        self.disk.read(alloc, name, ROOM).ok()
+    }
 }
 
 // The words of a line, which are parted by spaces. An empty line has none.
@@ -58,40 +72,53 @@ fn words_of(alloc: Global, line: &str) -> Result<Vec<String>, Mem> {
     Ok(words)
 }
 
-/// Calls the program with the words of a line.
-pub(crate) fn call(alloc: Global, line: &str, outside: Outside) -> Result<Outcome, Fail> {
-    let words = words_of(alloc, line)?;
-    let files = [
-        (
-            Bytes::from_slice(alloc, b"a")?,
-            Bytes::from_slice(alloc, outside.file)?,
-        ),
-        (
-            Bytes::from_slice(alloc, b"p.scm")?,
-            Bytes::from_slice(alloc, outside.file)?,
-        ),
-    ];
-    let mut disk = MemDisk::new(alloc, &files, ROOM, outside.failing)?;
-    let mut out = MemOutlet::new(alloc, outside.out, outside.room)?;
-    let mut err = MemOutlet::new(alloc, outside.err, 1000)?;
-    let status = schc(alloc, words.as_slice(), &mut disk, &mut out, &mut err);
-    let printed = Vec::from_slice(alloc, out.taken())?;
-    let said = Vec::from_slice(alloc, err.taken())?;
-    let source = disk.read(alloc, "p.scm", ROOM).ok();
-    let target = disk.read(alloc, "p", ROOM).ok();
-    let listing = disk.read(alloc, "f", ROOM).ok();
+// A file of a name, as a disk is given it.
+fn named(alloc: Global, name: &[u8], file: &[u8]) -> Result<(Bytes, Bytes), Mem> {
+    let name = Bytes::from_slice(alloc, name)?;
+    let file = Bytes::from_slice(alloc, file)?;
+    Ok((name, file))
+}
+
+fn disk_of(alloc: Global, outside: Outside) -> Result<MemDisk, Mem> {
+    let short = named(alloc, b"a", outside.file)?;
+    let long = named(alloc, b"p.scm", outside.file)?;
+    MemDisk::new(alloc, &[short, long], ROOM, outside.failing)
+}
+
+// Where nothing is called yet.
+fn begun(alloc: Global, outside: Outside) -> Result<Outcome, Mem> {
+    let disk = disk_of(alloc, outside)?;
+    let out = MemOutlet::new(alloc, outside.out, outside.room)?;
+    let err = MemOutlet::new(alloc, outside.err, 1000)?;
     Ok(Outcome {
-        status,
-        printed,
-        said,
-        source,
-        target,
-        listing,
+        status: 0,
+        out,
+        err,
+        disk,
     })
 }
 
+// Calls the program with these words.
+fn perform(alloc: Global, words: &[String], outcome: &mut Outcome) -> u8 {
+    schc(
+        alloc,
+        words,
+        &mut outcome.disk,
+        &mut outcome.out,
+        &mut outcome.err,
+    )
+}
+
+/// Calls the program with the words of a line.
+pub(crate) fn call(alloc: Global, line: &str, outside: Outside) -> Result<Outcome, Mem> {
+    let words = words_of(alloc, line)?;
+    let mut outcome = begun(alloc, outside)?;
+    outcome.status = perform(alloc, words.as_slice(), &mut outcome);
+    Ok(outcome)
+}
+
 /// Calls the program where nothing fails.
-pub(crate) fn call_well(alloc: Global, line: &str, file: &[u8]) -> Result<Outcome, Fail> {
+pub(crate) fn call_well(alloc: Global, line: &str, file: &[u8]) -> Result<Outcome, Mem> {
     call(alloc, line, Outside::of(file))
 }
 
@@ -101,9 +128,15 @@ pub(crate) type Wanted<'a> = (u8, &'a [u8], &'a [u8]);
 /// Whether a call ended so.
 pub(crate) fn ended(outcome: &Outcome, wanted: Wanted) -> bool {
     let (status, printed, said) = wanted;
-    outcome.status == status
-        && outcome.printed.as_slice() == printed
-        && outcome.said.as_slice() == said
+    outcome.status == status && outcome.printed() == printed && outcome.said() == said
+}
+
+// The failure of a call by its line and its file.
+fn differs(line: &str, file: &[u8]) -> Fail {
+    match str::from_utf8(file) {
+        Ok(text) => Fail::new(format_args!("another end or output: {line}: {text}")),
+        Err(_) => Fail::new(format_args!("another end or output: {line}")),
+    }
 }
 
 /// Calls the program: what is wanted comes of it.
@@ -117,7 +150,7 @@ pub(crate) fn check(
     if ended(&outcome, wanted) {
         return Ok(());
     }
-    Err(Fail::from("another end or output"))
+    Err(differs(line, outside.file))
 }
 
 /// Calls the program where nothing fails: an executable is written exactly where one is compiled.
@@ -127,12 +160,12 @@ pub(crate) fn check_well(
     file: &[u8],
     wanted: Wanted,
 ) -> Result<(), Fail> {
-    let outcome = call_well(alloc, line, file)?;
+    let mut outcome = call_well(alloc, line, file)?;
     let compiles = wanted.0 == 0 && line.starts_with("compile");
-    if ended(&outcome, wanted) && outcome.target.is_some() == compiles {
+    if ended(&outcome, wanted) && outcome.file(alloc, "p").is_some() == compiles {
         return Ok(());
     }
-    Err(Fail::from("another end or output"))
+    Err(differs(line, file))
 }
 
 /// Calls the program with one line and each of these files, which ends with 0: what is printed.

@@ -95,7 +95,7 @@ fn texts_at_their_limits(rt: HostRuntime) -> Result<(), Fail> {
 
 // Constants and variables whose values are dropped: a body has as many as its text has room for.
 const PARTS: &[(Repeated, Wanted)] = &[(
-    (b"(define (f x)", b" 1 x", 10_000, b" 7)(display (f 0))"),
+    (b"(define (f x)", b" 1 x", 100_000, b" 7)(display (f 0))"),
     (0, b"7", b""),
 )];
 
@@ -114,8 +114,8 @@ const PLACES: &[(usize, &[u8])] = &[
 
 #[test]
 fn program_has_its_header(rt: HostRuntime) -> Result<(), Fail> {
-    let outcome = call_well(rt.alloc(), COMPILE, b"(display -42)\n(newline)\n")?;
-    let file = outcome.target.ok_or("no file")?;
+    let mut outcome = call_well(rt.alloc(), COMPILE, b"(display -42)\n(newline)\n")?;
+    let file = outcome.file(rt.alloc(), "p").ok_or("no file")?;
     for (place, bytes) in PLACES {
         let rest = file.as_slice().get(*place..).ok_or("too short")?;
         assert!(rt; rest.starts_with(bytes), "at {place}");
@@ -185,31 +185,6 @@ const OPTIONS: &[Called] = &[
     ("compile a p --heap 1073741824", b"", DONE),
     ("compile a --depth 10000000 p", b"", DONE),
     ("run a --steps 0 --depth 1 --heap 8192", b"", SPENT),
-];
-
-#[test]
-fn words_with_options(rt: HostRuntime) -> Result<(), Fail> {
-    check_lines(rt.alloc(), OPTIONS)
-}
-
-const CAUSES: [(ErrorKind, u8, &[u8]); 2] = [
-    (ErrorKind::OutOfMemory, 10, b"out of memory\n"),
-    (ErrorKind::InvalidData, 1, USAGE),
-];
-
-#[test]
-fn words_that_the_host_does_not_give(rt: HostRuntime) -> Result<(), Fail> {
-    for (kind, status, said) in CAUSES {
-        let mut err = MemOutlet::new(rt.alloc(), &[], 1000)?;
-        assert_eq!(rt; report_words(&Error::from(kind), &mut err), status);
-        assert_eq!(rt; err.taken(), said);
-    }
-    Ok(())
-}
-
-const TWO_LINES: &[u8] = b"(display -42)(newline)";
-
-const SOURCES: &[Called] = &[
     ("run a", TWO_LINES, (0, b"-42\n", b"")),
     ("run a --heap 4096", b"", DONE),
     ("run a --steps 0", TWO_LINES, SPENT),
@@ -223,9 +198,26 @@ const SOURCES: &[Called] = &[
 ];
 
 #[test]
-fn sources_run(rt: HostRuntime) -> Result<(), Fail> {
-    check_lines(rt.alloc(), SOURCES)
+fn words_and_sources_run(rt: HostRuntime) -> Result<(), Fail> {
+    check_lines(rt.alloc(), OPTIONS)
 }
+
+const CAUSES: [(ErrorKind, u8, &[u8]); 2] = [
+    (ErrorKind::OutOfMemory, 10, b"out of memory\n"),
+    (ErrorKind::InvalidData, 1, USAGE),
+];
+
+#[test]
+fn words_that_the_host_does_not_give(rt: HostRuntime) -> Result<(), Fail> {
+    for (kind, status, said) in CAUSES {
+        let mut err = MemOutlet::new(rt.alloc(), &[], 1000)?;
+        assert!(rt; report_words(&Error::from(kind), &mut err) == status);
+        assert!(rt; err.taken() == said);
+    }
+    Ok(())
+}
+
+const TWO_LINES: &[u8] = b"(display -42)(newline)";
 
 const STEPPED: &[(&[u8], &[u8])] = &[
     (b"", b""),
@@ -239,8 +231,8 @@ const STEPPED: &[(&[u8], &[u8])] = &[
 #[test]
 fn compiled_images_step(rt: HostRuntime) -> Result<(), Fail> {
     for (source, printed) in STEPPED {
-        let compiled = call_well(rt.alloc(), "compile a p --heap 4096", source)?;
-        let image = compiled.target.ok_or("no file")?;
+        let mut compiled = call_well(rt.alloc(), "compile a p --heap 4096", source)?;
+        let image = compiled.file(rt.alloc(), "p").ok_or("no file")?;
         check_well(rt.alloc(), "step a", image.as_slice(), (0, printed, b""))?;
     }
     Ok(())
@@ -263,36 +255,33 @@ pub(crate) fn exit_with(status: u8) -> [u8; 16] {
     ]
 }
 
-const ENDINGS: &[(u8, Wanted)] = &[
-    (0, (0, b"", b"")),
-    (65, (65, b"", b"stop 65: wrong type\n")),
-    (66, (66, b"", b"stop 66: out of range\n")),
-    (67, (67, b"", b"stop 67: not a procedure\n")),
-    (68, (68, b"", b"stop 68: wrong argument count\n")),
-    (69, (69, b"", b"stop 69: division by zero\n")),
-    (70, (70, b"", b"stop 70: fixnum overflow\n")),
-    (71, (71, b"", b"stop 71: heap limit\n")),
-    (72, (72, b"", b"stop 72: depth limit\n")),
-    (73, (73, b"", b"stop 73: unset variable\n")),
-    (74, (74, b"", b"stop 74: output failed\n")),
-    (64, (8, b"", b"a: exit status 64\n")),
-    (75, (8, b"", b"a: exit status 75\n")),
-    (1, (8, b"", b"a: exit status 1\n")),
+/// A line, the status with which an image exits, and what is wanted.
+const ENDINGS: &[(&str, u8, Wanted)] = &[
+    ("step a", 0, (0, b"", b"")),
+    ("step a", 65, (65, b"", b"stop 65: wrong type\n")),
+    ("step a", 66, (66, b"", b"stop 66: out of range\n")),
+    ("step a", 67, (67, b"", b"stop 67: not a procedure\n")),
+    ("step a", 68, (68, b"", b"stop 68: wrong argument count\n")),
+    ("step a", 69, (69, b"", b"stop 69: division by zero\n")),
+    ("step a", 70, (70, b"", b"stop 70: fixnum overflow\n")),
+    ("step a", 71, (71, b"", b"stop 71: heap limit\n")),
+    ("step a", 72, (72, b"", b"stop 72: depth limit\n")),
+    ("step a", 73, (73, b"", b"stop 73: unset variable\n")),
+    ("step a", 74, (74, b"", b"stop 74: output failed\n")),
+    ("step a", 64, (8, b"", b"a: exit status 64\n")),
+    ("step a", 75, (8, b"", b"a: exit status 75\n")),
+    ("step a", 1, (8, b"", b"a: exit status 1\n")),
+    // Three instructions are three steps.
+    ("step a --steps 2", 0, SPENT),
+    ("step a --steps 3", 0, DONE),
 ];
 
 #[test]
 fn images_end(rt: HostRuntime) -> Result<(), Fail> {
-    for (exit, wanted) in ENDINGS {
-        check_image(rt.alloc(), "step a", &exit_with(*exit), *wanted)?;
+    for (line, exit, wanted) in ENDINGS {
+        check_image(rt.alloc(), line, &exit_with(*exit), *wanted)?;
     }
     Ok(())
-}
-
-// Three instructions are three steps.
-#[test]
-fn images_end_in_steps(rt: HostRuntime) -> Result<(), Fail> {
-    check_image(rt.alloc(), "step a --steps 2", &exit_with(0), SPENT)?;
-    check_image(rt.alloc(), "step a --steps 3", &exit_with(0), DONE)
 }
 
 const STUCK: &[(&[u8], &[u8])] = &[

@@ -3,7 +3,8 @@
 use crate::outside::{Called, Ended, check_files, check_lines};
 use std::test::Fail;
 
-const READER: &[Ended] = &[
+// What the reader refuses comes first.
+const TEXTS: &[Ended] = &[
     (
         b"(display (list 1 2",
         (4, b"", b"p.scm: byte 9: unclosed\n"),
@@ -26,14 +27,7 @@ const READER: &[Ended] = &[
     (b"+5a", (4, b"", b"p.scm: byte 0: bad number\n")),
     (b"\"abc", (4, b"", b"p.scm: byte 0: bad string\n")),
     (b"1 ]", (4, b"", b"p.scm: byte 2: bad token\n")),
-];
-
-#[test]
-fn texts_that_the_reader_refuses(rt: HostRuntime) -> Result<(), Fail> {
-    check_files(rt.alloc(), "run p.scm", READER)
-}
-
-const EXPANDER: &[Ended] = &[
+    // What the expander refuses.
     (b"()", (5, b"", b"p.scm: byte 0: bad form\n")),
     (b"#(1)", (5, b"", b"p.scm: byte 0: bad form\n")),
     (b"(if)", (5, b"", b"p.scm: byte 0: bad form\n")),
@@ -68,8 +62,8 @@ const EXPANDER: &[Ended] = &[
 ];
 
 #[test]
-fn texts_that_the_expander_refuses(rt: HostRuntime) -> Result<(), Fail> {
-    check_files(rt.alloc(), "run p.scm", EXPANDER)
+fn texts_that_are_refused(rt: HostRuntime) -> Result<(), Fail> {
+    check_files(rt.alloc(), "run p.scm", TEXTS)
 }
 
 const USAGE: &[u8] =

@@ -6,6 +6,7 @@ use sch_driver::{Compiled, MAX_SOURCE_SIZE, compile};
 use sch_listing::Cycle;
 use sch_word::{Bytes, Limits, MarkKind, Place};
 use std::alloc::Global;
+use std::str;
 use std::test::Fail;
 
 /// What a mark is: `s` a save, `r` a restore, `p` a spill, `t` an operand that is set aside, `a` one that is handed over, `c` a
@@ -94,41 +95,27 @@ fn gap(marks: &[Mark], body: u32) -> u64 {
     0
 }
 
+// The failure of the body of a name.
+fn failed(name: &[u8]) -> Fail {
+    match str::from_utf8(name) {
+        Ok(name) => Fail::new(format_args!("other marks of {name}")),
+        Err(_) => Fail::from("other marks"),
+    }
+}
+
 // Compiles a text: the marks of the body of this name.
 fn check_marks(alloc: Global, text: &[u8], name: &[u8], wanted: &[(u8, u32)]) -> Result<(), Fail> {
     let made = compiled(alloc, text)?;
     let body = body_of(made.listing.bodies.as_slice(), name);
     let marks = marks_of(alloc, made.listing.marks.as_slice(), body)?;
     if marks.as_slice() != wanted {
-        return Err(Fail::from("other marks"));
+        return Err(failed(name));
     }
     Ok(())
 }
 
 const ARM: &[u8] =
     b"(define (h z) z)(define (g x y) (if (and x (h y)) y (not (h x))))(display (g 1 7))(display (g #f 7))";
-
-const ARM_MARKS: &[(u8, u32)] = &[
-    (b's', 0),
-    (b's', 2),
-    (b's', 3),
-    (b'c', 0),
-    (b'r', 0),
-    (b'r', 2),
-    (b'r', 3),
-    (b'.', 0),
-    (b'c', 0),
-    (b'r', 0),
-    (b'.', 0),
-    (b'.', 0),
-];
-
-// The return address is saved at the entry, as every way through has a call behind which it is wanted, and both operands in
-// the arm of the inner call, behind which they are.
-#[test]
-fn saves_in_an_arm(rt: HostRuntime) -> Result<(), Fail> {
-    check_marks(rt.alloc(), ARM, b"g", ARM_MARKS)
-}
 
 // The test of `x` lies between them.
 #[test]
@@ -141,53 +128,71 @@ fn saves_behind_a_test(rt: HostRuntime) -> Result<(), Fail> {
 
 const ONE_ARM: &[u8] = b"(define (fact n) (if (= n 0) 1 (* n (fact (- n 1)))))(display (fact 5))";
 
-const ONE_ARM_MARKS: &[(u8, u32)] = &[
-    (b'.', 0),
-    (b's', 0),
-    (b's', 2),
-    (b'c', 0),
-    (b'r', 0),
-    (b'r', 2),
-    (b'.', 0),
-];
-
-// The arm that calls saves the return address and the operand, and the other one nothing.
-#[test]
-fn saves_in_one_arm(rt: HostRuntime) -> Result<(), Fail> {
-    check_marks(rt.alloc(), ONE_ARM, b"fact", ONE_ARM_MARKS)
-}
-
 const TWO_CALLS: &[u8] = b"(define (g x) x)(define (k x) (g 1) (g 2) (+ x 1))(display (k 4))";
-
-const TWO_CALLS_MARKS: &[(u8, u32)] = &[
-    (b's', 0),
-    (b's', 2),
-    (b'c', 0),
-    (b'c', 0),
-    (b'r', 0),
-    (b'r', 2),
-    (b'.', 0),
-];
-
-// Nothing is wanted between the two calls.
-#[test]
-fn restores_behind_the_last_call(rt: HostRuntime) -> Result<(), Fail> {
-    check_marks(rt.alloc(), TWO_CALLS, b"k", TWO_CALLS_MARKS)?;
-    check_well(rt.alloc(), RUN, TWO_CALLS, (0, b"5", b""))
-}
 
 const SWAP: &[u8] =
     b"(define (swap a b n) (if (= n 0) (display a) (swap b a (- n 1))))(swap 1 2 3)";
 
-// Two operands change places, by way of one register.
+/// A text, the name of one of its bodies, and the marks of this.
+const MARKS: &[(&[u8], &[u8], &[(u8, u32)])] = &[
+    // The return address is saved at the entry, as every way through has a call behind which it is wanted, and both operands in
+    // the arm of the inner call, behind which they are.
+    (
+        ARM,
+        b"g",
+        &[
+            (b's', 0),
+            (b's', 2),
+            (b's', 3),
+            (b'c', 0),
+            (b'r', 0),
+            (b'r', 2),
+            (b'r', 3),
+            (b'.', 0),
+            (b'c', 0),
+            (b'r', 0),
+            (b'.', 0),
+            (b'.', 0),
+        ],
+    ),
+    // The arm that calls saves the return address and the operand, and the other one nothing.
+    (
+        ONE_ARM,
+        b"fact",
+        &[
+            (b'.', 0),
+            (b's', 0),
+            (b's', 2),
+            (b'c', 0),
+            (b'r', 0),
+            (b'r', 2),
+            (b'.', 0),
+        ],
+    ),
+    // Nothing is wanted between the two calls.
+    (
+        TWO_CALLS,
+        b"k",
+        &[
+            (b's', 0),
+            (b's', 2),
+            (b'c', 0),
+            (b'c', 0),
+            (b'r', 0),
+            (b'r', 2),
+            (b'.', 0),
+        ],
+    ),
+    // Two operands change places, by way of one register.
+    (SWAP, b"swap", &[(b'j', 0), (b't', 0), (b'j', 0)]),
+];
+
 #[test]
-fn swaps_by_one_temporary(rt: HostRuntime) -> Result<(), Fail> {
-    check_marks(
-        rt.alloc(),
-        SWAP,
-        b"swap",
-        &[(b'j', 0), (b't', 0), (b'j', 0)],
-    )
+fn bodies_have_marks(rt: HostRuntime) -> Result<(), Fail> {
+    for (text, name, marks) in MARKS {
+        check_marks(rt.alloc(), text, name, marks)?;
+    }
+    check_well(rt.alloc(), RUN, TWO_CALLS, (0, b"5", b""))
 }
 
 // How many of these cycles are of RBX and R8, for the call at this site.

@@ -3,7 +3,7 @@
 use crate::outside::{Ended, RUN, Repeated, Wanted, check_files, check_printed, check_repeated};
 use std::test::Fail;
 
-const ARITHMETIC: &[(&[u8], &[u8])] = &[
+const PROGRAMS: &[(&[u8], &[u8])] = &[
     (
         b"(define x 7)(let ((y (* x 6))) (if (< y 40) (display 0) (display (- y 50))))",
         b"-8",
@@ -28,14 +28,7 @@ const ARITHMETIC: &[(&[u8], &[u8])] = &[
         b"(display (remainder -1152921504606846976 -1))(display (quotient 1152921504606846975 -1))",
         b"0-1152921504606846975",
     ),
-];
-
-#[test]
-fn arithmetic_prints(rt: HostRuntime) -> Result<(), Fail> {
-    check_printed(rt.alloc(), RUN, ARITHMETIC)
-}
-
-const COMPARISONS: &[(&[u8], &[u8])] = &[
+    // Comparisons.
     (
         b"(display (integer->char 255))(display (char->integer (integer->char 255)))",
         b"\xff255",
@@ -68,14 +61,7 @@ const COMPARISONS: &[(&[u8], &[u8])] = &[
         b"(display (eqv? 1 1))(display (null? '()))(display (char? 1))(display (boolean? #f))",
         b"#t#t#f#t",
     ),
-];
-
-#[test]
-fn comparisons_print(rt: HostRuntime) -> Result<(), Fail> {
-    check_printed(rt.alloc(), RUN, COMPARISONS)
-}
-
-const CHOICES: &[(&[u8], &[u8])] = &[
+    // Choices.
     (
         b"(display (let* ((a 1) (b (+ a 1))) (cond ((= a b) 1) ((and (< a b) (not (eq? a b))) (quotient 100 (- b 9))) (else 0))))",
         b"-14",
@@ -92,8 +78,8 @@ const CHOICES: &[(&[u8], &[u8])] = &[
 ];
 
 #[test]
-fn choices_print(rt: HostRuntime) -> Result<(), Fail> {
-    check_printed(rt.alloc(), RUN, CHOICES)
+fn straight_code_prints(rt: HostRuntime) -> Result<(), Fail> {
+    check_printed(rt.alloc(), RUN, PROGRAMS)
 }
 
 const ZERO: &[u8] = b"stop 69: division by zero\n";

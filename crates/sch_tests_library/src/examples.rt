@@ -1,6 +1,6 @@
 //! The programs of examples/, run over memory. The source of each is as in its file.
 
-use crate::program::check_printed;
+use crate::program::check_rows;
 use std::test::Fail;
 
 const CLOSURES: &[u8] = br##"; Closures: each call of a maker has variables of its own.
@@ -202,42 +202,25 @@ const STRINGS: &[u8] = br##"; Strings: reversal, palindromes, and a cipher that 
 (newline)
 "##;
 
-#[test]
-fn closures_have_variables_of_their_own(rt: HostRuntime) -> Result<(), Fail> {
-    check_printed(
-        rt.alloc(),
-        CLOSURES,
-        b"(2 20 3)\n50\n120\n70\nrefused\nunknown\n",
-    )?;
-    check_printed(rt.alloc(), COUNTERS, b"1\n2\n1\n")
-}
-
-#[test]
-fn numbers_and_recursion(rt: HostRuntime) -> Result<(), Fail> {
-    check_printed(rt.alloc(), FACTORIAL, b"121645100408832000\n")?;
-    check_printed(rt.alloc(), NUMBERS, b"-42\n")?;
-    check_printed(rt.alloc(), RECURSION, b"610\n9\n63\n111\n")
-}
-
-#[test]
-fn an_interpreter(rt: HostRuntime) -> Result<(), Fail> {
-    check_printed(
-        rt.alloc(),
-        INTERPRETER,
-        b"11\n3628800\n(5 4 3 2 1)\ndifferent\n",
-    )
-}
-
-#[test]
-fn lists_vectors_and_strings(rt: HostRuntime) -> Result<(), Fail> {
-    check_printed(
-        rt.alloc(),
+/// Each program with what it prints.
+const PROGRAMS: &[(&[u8], &[u8])] = &[
+    (CLOSURES, b"(2 20 3)\n50\n120\n70\nrefused\nunknown\n"),
+    (COUNTERS, b"1\n2\n1\n"),
+    (FACTORIAL, b"121645100408832000\n"),
+    (NUMBERS, b"-42\n"),
+    (RECURSION, b"610\n9\n63\n111\n"),
+    (INTERPRETER, b"11\n3628800\n(5 4 3 2 1)\ndifferent\n"),
+    (
         SORTING,
         b"(1 1 2 3 3 4 5 5 5 6 9)\n(\"apple\" \"date\" \"fig\" \"pear\")\n#(0 1 2 3 7 8 9)\n",
-    )?;
-    check_printed(
-        rt.alloc(),
+    ),
+    (
         STRINGS,
         b"\"emehcS\"\n#t\n\"Uryyb, Jbeyq\"\n\"Hello, World\"\n\"12-abc\"\n",
-    )
+    ),
+];
+
+#[test]
+fn programs_print(rt: HostRuntime) -> Result<(), Fail> {
+    check_rows(rt.alloc(), PROGRAMS)
 }

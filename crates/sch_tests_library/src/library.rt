@@ -31,7 +31,8 @@ fn parts_of_trees(rt: HostRuntime) -> Result<(), Fail> {
     Ok(())
 }
 
-const LISTS: &[(&[u8], &[u8])] = &[
+// Lists and numbers come first.
+const PRINTED: &[(&[u8], &[u8])] = &[
     (
         b"(write (list (list? '(1 2)) (list? '(1 . 2)) (length '(1 2 3)) (reverse '(1 2 3)) (append '(1) '(2) '(3 . 4)) (append) (list-tail '(1 2 3) 1) (list-ref '(1 2 3) 2)))",
         b"(#t #f 3 (3 2 1) (1 2 3 . 4) () (2 3) 3)",
@@ -65,14 +66,7 @@ const LISTS: &[(&[u8], &[u8])] = &[
         b"(define car 5)(display car)(display (map cdr '((1 . 2))))",
         b"5(2)",
     ),
-];
-
-#[test]
-fn lists_and_numbers(rt: HostRuntime) -> Result<(), Fail> {
-    check_rows(rt.alloc(), LISTS)
-}
-
-const STRINGS: &[(&[u8], &[u8])] = &[
+    // Characters, strings and vectors.
     (
         b"(write (list (char=? #\\a #\\a) (char<? #\\a #\\b) (char>? #\\a #\\b) (char<=? #\\b #\\b) (char>=? #\\a #\\b)))",
         b"(#t #t #f #t #f)",
@@ -104,8 +98,8 @@ const STRINGS: &[(&[u8], &[u8])] = &[
 ];
 
 #[test]
-fn characters_and_strings(rt: HostRuntime) -> Result<(), Fail> {
-    check_rows(rt.alloc(), STRINGS)
+fn library_procedures_print(rt: HostRuntime) -> Result<(), Fail> {
+    check_rows(rt.alloc(), PRINTED)
 }
 
 const STOPS: &[(&[u8], u8, &[u8])] = &[

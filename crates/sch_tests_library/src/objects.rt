@@ -106,7 +106,7 @@ const OPERANDS: &[u8] =
 fn operands_are_evaluated_whole(rt: HostRuntime) -> Result<(), Fail> {
     let listed = perform(rt.alloc(), &["list", "a"], OPERANDS)?;
     assert!(rt; listed.status == 0);
-    let places = last_of_three(listed.printed.as_slice())?;
+    let places = last_of_three(listed.printed())?;
     let first = is_one_of(places, &[b" 0 1 2", b" 1 0 2", b" 1 2 0"]);
     let second = is_one_of(places, &[b" 0 2 1", b" 2 0 1", b" 2 1 0"]);
     assert!(rt; first || second, "no order");

@@ -4,40 +4,76 @@ use sch_cli::schc;
 use sch_io::{MemDisk, MemOutlet};
 use sch_word::{Bytes, Mem};
 use std::alloc::Global;
+use std::str;
 use std::test::Fail;
 
 /// With a small heap and a small depth, so that an image has few zeros to load.
 pub(crate) const RUN: [&str; 6] = ["run", "a", "--heap", "65536", "--depth", "1000"];
 
-/// What a verb answered that runs something, what was printed, and what was said.
+/// What a call answered, and what the streams took.
 #[derive(Drop)]
 pub(crate) struct Ending {
     pub(crate) status: u8,
-    pub(crate) printed: Vec<u8>,
-    pub(crate) said: Vec<u8>,
+    out: MemOutlet,
+    err: MemOutlet,
 }
 
-/// Calls the program on a disk whose only file is `a`.
-pub(crate) fn perform(alloc: Global, words: &[&str], file: &[u8]) -> Result<Ending, Fail> {
+impl Ending {
+    pub(crate) fn printed(&self) -> &[u8] {
+        self.out.taken()
+    }
+
+    pub(crate) fn said(&self) -> &[u8] {
+        self.err.taken()
+    }
+}
+
+// Where nothing is called yet.
+fn begun(alloc: Global) -> Result<Ending, Mem> {
+    let out = MemOutlet::new(alloc, &[], 10_000)?;
+    let err = MemOutlet::new(alloc, &[], 1000)?;
+    Ok(Ending {
+        status: 0,
+        out,
+        err,
+    })
+}
+
+// A disk whose only file is `a`.
+fn disk_of(alloc: Global, file: &[u8]) -> Result<MemDisk, Mem> {
+    let name = Bytes::from_slice(alloc, b"a")?;
+    let file = Bytes::from_slice(alloc, file)?;
+    MemDisk::new(alloc, &[(name, file)], 0, &[])
+}
+
+fn words_of(alloc: Global, words: &[&str]) -> Result<Vec<String>, Mem> {
     let mut all = Vec::new(alloc);
     for word in words {
         all.push(String::from_str(alloc, word)?)?;
     }
-    let files = [(
-        Bytes::from_slice(alloc, b"a")?,
-        Bytes::from_slice(alloc, file)?,
-    )];
-    let mut disk = MemDisk::new(alloc, &files, 0, &[])?;
-    let mut out = MemOutlet::new(alloc, &[], 10_000)?;
-    let mut err = MemOutlet::new(alloc, &[], 1000)?;
-    let status = schc(alloc, all.as_slice(), &mut disk, &mut out, &mut err);
-    let printed = Vec::from_slice(alloc, out.taken())?;
-    let said = Vec::from_slice(alloc, err.taken())?;
-    Ok(Ending {
-        status,
-        printed,
-        said,
-    })
+    Ok(all)
+}
+
+// Calls the program with these words.
+fn call(alloc: Global, words: &[String], disk: &mut MemDisk, ending: &mut Ending) -> u8 {
+    schc(alloc, words, disk, &mut ending.out, &mut ending.err)
+}
+
+/// Calls the program on a disk whose only file is `a`.
+pub(crate) fn perform(alloc: Global, words: &[&str], file: &[u8]) -> Result<Ending, Mem> {
+    let words = words_of(alloc, words)?;
+    let mut disk = disk_of(alloc, file)?;
+    let mut ending = begun(alloc)?;
+    ending.status = call(alloc, words.as_slice(), &mut disk, &mut ending);
+    Ok(ending)
+}
+
+// The failure of a call with this file.
+fn differs(file: &[u8]) -> Fail {
+    match str::from_utf8(file) {
+        Ok(text) => Fail::new(format_args!("another end or output: {text}")),
+        Err(_) => Fail::from("another end or output"),
+    }
 }
 
 /// Calls the program: its status, what is printed, and what is said.
@@ -49,13 +85,10 @@ pub(crate) fn check(
 ) -> Result<(), Fail> {
     let (status, printed, said) = wanted;
     let ending = perform(alloc, words, file)?;
-    if ending.status != status
-        || ending.printed.as_slice() != printed
-        || ending.said.as_slice() != said
-    {
-        return Err(Fail::from("another end or output"));
+    if ending.status == status && ending.printed() == printed && ending.said() == said {
+        return Ok(());
     }
-    Ok(())
+    Err(differs(file))
 }
 
 /// Runs a source that ends with 0.

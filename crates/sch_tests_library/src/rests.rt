@@ -42,14 +42,7 @@ const FORMALS: &[(&[u8], &[u8])] = &[
         b"(define k 7)(define (f a b c d e g h i . l) (lambda () (list k a i l)))(write ((f 1 2 3 4 5 6 7 8 9 10)))",
         b"(7 1 8 (9 10))",
     ),
-];
-
-#[test]
-fn behind_many_formals(rt: HostRuntime) -> Result<(), Fail> {
-    check_rows(rt.alloc(), FORMALS)
-}
-
-const OPERANDS: &[(&[u8], &[u8])] = &[
+    // Calls of no and of some operands.
     (b"(define (f . l) l)(write (f))", b"()"),
     (
         b"(define (f . l) l)(write (f 1 2 3 4 5 6))",
@@ -79,8 +72,8 @@ const OPERANDS: &[(&[u8], &[u8])] = &[
 ];
 
 #[test]
-fn in_calls_of_no_and_of_some_operands(rt: HostRuntime) -> Result<(), Fail> {
-    check_rows(rt.alloc(), OPERANDS)
+fn behind_many_formals_and_in_calls(rt: HostRuntime) -> Result<(), Fail> {
+    check_rows(rt.alloc(), FORMALS)
 }
 
 /// `(define (g) (f 0 1 ... ))`, with this many operands, each the digit of its place; what `f` makes is written.

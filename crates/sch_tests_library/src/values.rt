@@ -30,16 +30,8 @@ const VALUES: &[(&[u8], &[u8])] = &[
         b"(display (cond (7 => pair?)))(display (cond (7 => integer?)))",
         b"#f#t",
     ),
-];
-
-#[test]
-fn library_procedures_are_values(rt: HostRuntime) -> Result<(), Fail> {
-    check_rows(rt.alloc(), VALUES)
-}
-
-/// A name of the library that the text defines or assigns is the text's own, and holds the procedure until then. The
-/// library keeps its own.
-const NAMES: &[(&[u8], &[u8])] = &[
+    // A name of the library that the text defines or assigns is the text's own, and holds the procedure until then. The
+    // library keeps its own.
     (b"(define (display a) 1)(display 2)", b""),
     (b"(set! not (lambda (a) 7))(display (not 1))", b"7"),
     (
@@ -67,8 +59,8 @@ const NAMES: &[(&[u8], &[u8])] = &[
 ];
 
 #[test]
-fn texts_have_names_of_the_library(rt: HostRuntime) -> Result<(), Fail> {
-    check_rows(rt.alloc(), NAMES)
+fn library_procedures_are_values(rt: HostRuntime) -> Result<(), Fail> {
+    check_rows(rt.alloc(), VALUES)
 }
 
 const COUNT: &[u8] = b"stop 68: wrong argument count\n";

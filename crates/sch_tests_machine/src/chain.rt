@@ -39,6 +39,16 @@ fn links(pieces: &mut List<Piece>) -> Result<(), Mem>
     bytes_behind_120(pieces, 5)
 }
 
+fn count_true(all: &[bool]) -> usize {
+    let mut count = 0usize;
+    for one in all {
+        if *one {
+            count = count.saturating_add(1);
+        }
+    }
+    count
+}
+
 // How many jumps are long where the last one goes over so many bytes and 120.
 #[tactic(auto, using(crate::proofs::JoinedPieces::are_pieces_behind))]
 fn long_ones(alloc: Global, count: u8) -> Result<usize, Mem>
@@ -51,7 +61,7 @@ fn long_ones(alloc: Global, count: u8) -> Result<usize, Mem>
     bytes_behind_120(&mut pieces, count)?;
     pieces.push(Piece::Label(LINKS))?;
     let longs = long_jumps(alloc, pieces.as_slice())?;
-    Ok(longs.iter().filter(|is_long| **is_long).count())
+    Ok(count_true(longs.as_slice()))
 }
 
 /// A jump over 128 bytes makes all before it long; one over 127 leaves all of them short.

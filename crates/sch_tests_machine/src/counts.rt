@@ -1,12 +1,10 @@
 //! A small run, counted.
-ghost use Rattle.std.specs.Prelude.{◌≤◌, length};
 
+use crate::machine::machine;
 use sch_asm::Mark;
-use sch_count::{Extent, Row, count};
-use sch_elf::program_image;
+use sch_count::{CountError, Counts, Extent, Row, count};
 use sch_io::NullOutlet;
-use sch_step::{Machine, load};
-use sch_word::{List, MarkKind};
+use sch_word::MarkKind;
 use std::alloc::Global;
 use std::test::Fail;
 
@@ -17,12 +15,6 @@ const TEXT: [u8; 39] = [
     0xC2, 0x00, 0x00, 0x00, 0x00, 0x0F, 0x05, 0x48, 0xC7, 0xC7, 0x07, 0x00, 0x00, 0x00, 0x48, 0xC7,
     0xC0, 0x3C, 0x00, 0x00, 0x00, 0x0F, 0x05,
 ];
-
-fn machine(alloc: Global) -> Result<Machine, Fail> {
-    let words = List::from_slice(alloc, &[0u8; 8])?;
-    let image = program_image(alloc, List::from_slice(alloc, &TEXT)?, words, 8)?;
-    Ok(load(alloc, &image)?)
-}
 
 // Whether a row has these activations, leaves, saves and saves of leaves.
 fn has(row: &Row, wanted: [u128; 4]) -> bool {
@@ -65,20 +57,29 @@ const MARKS: [Mark; 7] = [
     },
 ];
 
+const EXTENT: Extent = Extent {
+    bodies: 2,
+    steps: 7,
+};
+
+// What is counted of the run.
+fn counted(alloc: Global) -> Result<Counts, CountError> {
+    let mut m = machine(alloc, &TEXT, &[0; 8], 8)?;
+    count(alloc, &mut m, &mut NullOutlet::new(), &MARKS, EXTENT)
+}
+
+fn are_rows(rows: &[Row]) -> bool {
+    match rows {
+        [first, last] => has(first, [1, 0, 2, 0]) && has(last, [1, 1, 1, 1]),
+        _ => false,
+    }
+}
+
 // Body 0 saves, calls body 1, which saves and returns, and saves again.
 #[test]
 fn counts(rt: HostRuntime) -> Result<(), Fail> {
-    let mut m = machine(rt.alloc())?;
-    let mut out = NullOutlet::new();
-    let extent = Extent {
-        bodies: 2,
-        steps: 7,
-    };
-    let counts = count(rt.alloc(), &mut m, &mut out, &MARKS, extent)?;
+    let counts = counted(rt.alloc())?;
     assert!(rt; counts.status == 7);
-    match counts.rows.as_slice() {
-        [first, last] => assert!(rt; has(first, [1, 0, 2, 0]) && has(last, [1, 1, 1, 1])),
-        _ => return Err(Fail::from("other rows")),
-    }
+    assert!(rt; are_rows(counts.rows.as_slice()));
     Ok(())
 }

@@ -1,7 +1,7 @@
 //! Files of executables, by bytes that another program made from the words of ELF-64 and GNU readelf read.
 
-use sch_elf::{ImageError, Segment, program_image, read_image, write_image};
-use sch_word::{Bytes, Mem};
+use sch_elf::{Image, ImageError, Segment, program_image, read_image, write_image};
+use sch_word::{Bytes, List, Mem};
 use std::alloc::Global;
 use std::test::Fail;
 
@@ -27,27 +27,55 @@ fn small_program(alloc: Global) -> Result<Bytes, Mem> {
     write_image(alloc, &image)
 }
 
+/// The parts of the file of a small program behind its headers: how many zeros there are, and what follows them.
+const PARTS: [(usize, &[u8]); 2] = [(3_920, &[0xC3]), (4_095, &[1, 2, 3])];
+
+// Whether bytes begin with as many zeros and then some bytes: what is behind these.
+fn behind<'a>(bytes: &'a [u8], zeros: usize, wanted: &[u8]) -> Option<&'a [u8]> {
+    let (first, rest) = bytes.split_at_checked(zeros)?;
+    for byte in first {
+        if *byte != 0 {
+            return None;
+        }
+    }
+    rest.strip_prefix(wanted)
+}
+
+// Whether a file is that of the small program.
+fn is_small(file: &[u8]) -> bool {
+    let mut rest = file.strip_prefix(HEADERS.as_slice());
+    for (zeros, wanted) in PARTS {
+        rest = match rest {
+            Some(bytes) => behind(bytes, zeros, wanted),
+            None => None,
+        };
+    }
+    matches!(rest, Some([]))
+}
+
 #[test]
 fn a_small_program_is_written(rt: HostRuntime) -> Result<(), Fail> {
     let file = small_program(rt.alloc())?;
-    let file = file.as_slice();
     assert!(rt; file.len() == 8195);
-    assert!(rt; file.starts_with(&HEADERS) && file.ends_with(&[1, 2, 3]));
-    assert!(rt; file[4096] == 0xC3);
-    let zeros = file[176..4096].iter().chain(file[4097..8192].iter());
-    assert!(rt; zeros.copied().all(|byte| byte == 0));
+    assert!(rt; is_small(file.as_slice()));
     Ok(())
 }
 
 // The file of `a_small_program_is_written`, with some bytes changed.
-fn changed(alloc: Global, changes: &[(usize, u8)]) -> Result<Vec<u8>, Mem> {
+fn changed(alloc: Global, changes: [(usize, u8); 2]) -> Result<Vec<u8>, Mem> {
     let mut file = small_program(alloc)?.into_vec();
     for (place, byte) in changes {
-        if *place < file.len() {
-            file[*place] = *byte;
+        if let Some(at) = file.get_mut(place) {
+            *at = byte;
         }
     }
     Ok(file)
+}
+
+// What is read of it.
+fn changed_image(alloc: Global, changes: [(usize, u8); 2]) -> Result<Image, ImageError> {
+    let file = changed(alloc, changes)?;
+    read_image(alloc, file.as_slice())
 }
 
 fn is_text(segment: &Segment) -> bool {
@@ -60,31 +88,62 @@ fn is_data(segment: &Segment) -> bool {
         && segment.write
 }
 
+fn are_segments(segments: &[Segment]) -> bool {
+    match segments {
+        [text, data] => is_text(text) && is_data(data),
+        _ => false,
+    }
+}
+
+/// What does not matter: bytes 7 to 15, e_shoff, other bits of p_flags, p_paddr, a third header of another type.
+const SAME: [[(usize, u8); 2]; 3] = [[(7, 3), (40, 1)], [(68, 0x0D), (88, 1)], [(56, 3), (15, 1)]];
+
 #[test]
 fn a_small_program_is_read(rt: HostRuntime) -> Result<(), Fail> {
-    let alloc = rt.alloc();
-    // what does not matter: bytes 7 to 15, e_shoff, other bits of p_flags, p_paddr, a third header of
-    // another type
-    for changes in [[(7, 3), (40, 1)], [(68, 0x0D), (88, 1)], [(56, 3), (15, 1)]] {
-        let file = changed(alloc, &changes)?;
-        let image = read_image(alloc, &file)?;
-        assert!(rt; image.entry == 0x400000);
-        match image.segments.as_slice() {
-            [text, data] => assert!(rt; is_text(text) && is_data(data)),
-            _ => return Err(Fail::from("other segments")),
-        }
+    for changes in SAME {
+        let image = changed_image(rt.alloc(), changes)?;
+        assert!(rt; image.entry == 0x400000, "at {}", changes[0].0);
+        assert!(rt;
+            are_segments(image.segments.as_slice()),
+            "at {}",
+            changes[0].0
+        );
     }
     Ok(())
 }
 
+/// Changes, and the fault that is found.
+const FAULTS: [([(usize, u8); 2], ImageError); 3] = [
+    ([(18, 3), (64, 2)], ImageError::NotThisMachine),
+    ([(120, 3), (163, 0xC0)], ImageError::BadSegment(1)),
+    ([(163, 0xC0), (163, 0xC0)], ImageError::TooLarge),
+];
+
+// A fault by a number: that of a segment behind 100.
+fn number(fault: ImageError) -> u16 {
+    match fault {
+        ImageError::NotThisMachine => 1,
+        ImageError::TooLarge => 2,
+        ImageError::BadSegment(k) => k.saturating_add(100),
+        _ => 0,
+    }
+}
+
+// The fault of the changed file.
+fn fault_of(alloc: Global, changes: [(usize, u8); 2]) -> u16 {
+    match changed_image(alloc, changes) {
+        Err(fault) => number(fault),
+        Ok(_) => 0,
+    }
+}
+
 #[test]
-fn a_file_is_refused_for_its_fault(rt: HostRuntime) -> Result<(), Fail> {
-    let alloc = rt.alloc();
-    let other = changed(alloc, &[(18, 3), (64, 2)])?;
-    assert!(rt; matches!(read_image(alloc, &other), Err(ImageError::NotThisMachine)));
-    let unsound = changed(alloc, &[(120, 3), (163, 0xC0)])?;
-    assert!(rt; matches!(read_image(alloc, &unsound), Err(ImageError::BadSegment(1))));
-    let large = changed(alloc, &[(163, 0xC0)])?;
-    assert!(rt; matches!(read_image(alloc, &large), Err(ImageError::TooLarge)));
-    Ok(())
+fn a_file_is_refused_for_its_fault(rt: HostRuntime) {
+    for (changes, fault) in FAULTS {
+        assert!(rt;
+            fault_of(rt.alloc(), changes) == number(fault),
+            "at {}",
+            changes[0].0
+        );
+    }
 }

@@ -1,16 +1,15 @@
 //! The routines that fill, run: elements are filled in behind eight of forty bytes, which are then put.
 
-ghost use Rattle.std.specs.Prelude.{◌≡◌, [], false, IfOk, IsTrue};
+ghost use Rattle.std.specs.Prelude.{[], false, IfOk, IsTrue};
 ghost use Rattle.sch_asm.specs.Items.{AreItems, AreKnown, AreOwn, IsEachOnce, labels_in, marks_arrive};
 
-use sch_asm::{Asm, Item, resolve};
-use sch_elf::program_image;
+use crate::machine::{machine, runs_so};
+use crate::routines::resolved;
+use sch_asm::{Asm, Item};
 use sch_insn::register::{R11, RAX, RCX, RDX};
 use sch_insn::{Arg, Insn};
 use sch_io::MemOutlet;
-use sch_runtime::routines;
-use sch_step::{RunEnd, load, run};
-use sch_word::{Limits, List, MAX_TEXT_SIZE, Mem};
+use sch_word::{List, Mem};
 use std::alloc::Global;
 use std::test::Fail;
 
@@ -46,18 +45,6 @@ macro_rules! filling {
     };
 }
 
-const NO_WORD: [Item; 12] = filling!(FILL_WORDS, 0);
-
-const ONE_WORD: [Item; 12] = filling!(FILL_WORDS, 1);
-
-const THREE_WORDS: [Item; 12] = filling!(FILL_WORDS, 3);
-
-const NO_BYTE: [Item; 12] = filling!(FILL_BYTES, 0);
-
-const ONE_BYTE: [Item; 12] = filling!(FILL_BYTES, 1);
-
-const THREE_BYTES: [Item; 12] = filling!(FILL_BYTES, 3);
-
 // A program of these items, without words.
 pub(crate) fn program(alloc: Global, items: &[Item]) -> Result<Asm, Mem>
     requires own { AreOwn items.now }
@@ -65,9 +52,7 @@ pub(crate) fn program(alloc: Global, items: &[Item]) -> Result<Asm, Mem>
     requires once { IsEachOnce (labels_in items.now) }
     requires known { AreKnown items.now [] }
     requires marked { IsTrue (marks_arrive false items.now) }
-    ensures own { IfOk result (λ a. AreOwn a.items) }
-    ensures words { IfOk result (λ a. a.words ≡ []) }
-    ensures zeros { IfOk result (λ a. a.zeros ≡ 552) }
+    ensures { IfOk result (λ a. AreOwn a.items) }
 {
     let items = List::from_slice(alloc, items)?;
     Ok(Asm {
@@ -77,45 +62,73 @@ pub(crate) fn program(alloc: Global, items: &[Item]) -> Result<Asm, Mem>
     })
 }
 
+fn words_program(alloc: Global, count: i32) -> Result<Asm, Mem>
+    ensures { IfOk result (λ a. AreOwn a.items) }
+{
+    program(alloc, &filling!(FILL_WORDS, count))
+}
+
+fn bytes_program(alloc: Global, count: i32) -> Result<Asm, Mem>
+    ensures { IfOk result (λ a. AreOwn a.items) }
+{
+    program(alloc, &filling!(FILL_BYTES, count))
+}
+
 // What is put after a fill.
 fn check_filled(alloc: Global, program: &Asm, wanted: &[u8]) -> Result<(), Fail>
-    requires own { AreOwn program.now.items }
-    requires words { program.now.words ≡ [] }
-    requires zeros { program.now.zeros ≡ 552 }
+    requires { AreOwn program.now.items }
 {
-    let limits = Limits::new(4_096, 1).ok_or("no limits")?;
-    let routines = routines(alloc, limits)?;
-    let resolved = resolve(alloc, program, &routines)?;
+    let resolved = resolved(alloc, program)?;
     let text = resolved.code.into_bytes();
-    if text.len() as u64 > MAX_TEXT_SIZE {
-        return Err("too large".into());
-    }
-    let image = program_image(alloc, text, resolved.words, resolved.zeros)?;
-    let mut machine = load(alloc, &image)?;
+    let words = resolved.words.as_slice();
+    let mut machine = machine(alloc, text.as_slice(), words, resolved.zeros)?;
     let mut out = MemOutlet::new(alloc, &[], 100)?;
-    let ends = matches!(run(&mut machine, &mut out, 999), RunEnd::Exited(0));
-    if ends && out.taken() == wanted {
+    if runs_so(&mut machine, &mut out, &[(999, Some(0))]) && out.taken() == wanted {
         return Ok(());
     }
-    Err("another end or output".into())
+    Err(Fail::from("another end or output"))
 }
+
+/// How many words of "ABCDEFGH" are filled in, and what is then put.
+const WORDS: &[(i32, &[u8])] = &[
+    (0, &[0; 40]),
+    (
+        1,
+        b"\0\0\0\0\0\0\0\0ABCDEFGH\0\0\0\0\0\0\0\0\0\0\0\0\0\0\0\0\0\0\0\0\0\0\0\0",
+    ),
+    (
+        3,
+        b"\0\0\0\0\0\0\0\0ABCDEFGHABCDEFGHABCDEFGH\0\0\0\0\0\0\0\0",
+    ),
+];
 
 #[test]
 fn words_are_filled(rt: HostRuntime) -> Result<(), Fail> {
-    let alloc = rt.alloc();
-    let one = b"\0\0\0\0\0\0\0\0ABCDEFGH\0\0\0\0\0\0\0\0\0\0\0\0\0\0\0\0\0\0\0\0\0\0\0\0";
-    let three = b"\0\0\0\0\0\0\0\0ABCDEFGHABCDEFGHABCDEFGH\0\0\0\0\0\0\0\0";
-    check_filled(alloc, &program(alloc, &NO_WORD)?, &[0; 40])?;
-    check_filled(alloc, &program(alloc, &ONE_WORD)?, one)?;
-    check_filled(alloc, &program(alloc, &THREE_WORDS)?, three)
+    for (count, wanted) in WORDS {
+        let program = words_program(rt.alloc(), *count)?;
+        check_filled(rt.alloc(), &program, wanted)?;
+    }
+    Ok(())
 }
+
+/// How many bytes of "A" are filled in, and what is then put.
+const BYTES: &[(i32, &[u8])] = &[
+    (0, &[0; 40]),
+    (
+        1,
+        b"\0\0\0\0\0\0\0\0A\0\0\0\0\0\0\0\0\0\0\0\0\0\0\0\0\0\0\0\0\0\0\0\0\0\0\0\0\0\0\0",
+    ),
+    (
+        3,
+        b"\0\0\0\0\0\0\0\0AAA\0\0\0\0\0\0\0\0\0\0\0\0\0\0\0\0\0\0\0\0\0\0\0\0\0\0\0\0\0",
+    ),
+];
 
 #[test]
 fn bytes_are_filled(rt: HostRuntime) -> Result<(), Fail> {
-    let alloc = rt.alloc();
-    let one = b"\0\0\0\0\0\0\0\0A\0\0\0\0\0\0\0\0\0\0\0\0\0\0\0\0\0\0\0\0\0\0\0\0\0\0\0\0\0\0\0";
-    let three = b"\0\0\0\0\0\0\0\0AAA\0\0\0\0\0\0\0\0\0\0\0\0\0\0\0\0\0\0\0\0\0\0\0\0\0\0\0\0\0";
-    check_filled(alloc, &program(alloc, &NO_BYTE)?, &[0; 40])?;
-    check_filled(alloc, &program(alloc, &ONE_BYTE)?, one)?;
-    check_filled(alloc, &program(alloc, &THREE_BYTES)?, three)
+    for (count, wanted) in BYTES {
+        let program = bytes_program(rt.alloc(), *count)?;
+        check_filled(rt.alloc(), &program, wanted)?;
+    }
+    Ok(())
 }

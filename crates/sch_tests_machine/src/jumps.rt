@@ -3,12 +3,11 @@
 ghost use Rattle.sch_asm.specs.Items.{AreOwn};
 
 use crate::fills::program;
-use sch_asm::{Asm, Item, resolve};
+use crate::routines::resolved;
+use sch_asm::{Asm, Item};
 use sch_insn::condition::L;
 use sch_insn::register::RAX;
 use sch_insn::{Arg, Insn};
-use sch_runtime::routines;
-use sch_word::Limits;
 use std::alloc::Global;
 use std::test::Fail;
 
@@ -70,9 +69,7 @@ const TO_ITSELF: [Item; 2] = [Item::Label(1024), Item::Jump(1024)];
 fn check_begin(alloc: Global, program: &Asm, bytes: &[u8]) -> Result<(), Fail>
     requires { AreOwn program.now.items }
 {
-    let limits = Limits::new(4_096, 1).ok_or("no limits")?;
-    let routines = routines(alloc, limits)?;
-    let resolved = resolve(alloc, program, &routines)?;
+    let resolved = resolved(alloc, program)?;
     if resolved.code.into_bytes().as_slice().starts_with(bytes) {
         return Ok(());
     }

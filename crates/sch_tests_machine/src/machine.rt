@@ -1,10 +1,9 @@
 //! Whole runs of small programs, with the statuses that a processor and Linux gave for them.
-ghost use Rattle.std.specs.Prelude.{◌≤◌, length};
 
 use sch_elf::program_image;
-use sch_io::{MemOutlet, NullOutlet};
+use sch_io::{MemOutlet, NullOutlet, Outlet};
 use sch_step::{Machine, RunEnd, StepEnd, load, run, step};
-use sch_word::{Answer, List};
+use sch_word::{Answer, List, Mem};
 use std::alloc::Global;
 use std::test::Fail;
 
@@ -48,55 +47,95 @@ const WRITING: [u8; 44] = [
     0xC7, 0x48, 0xC7, 0xC0, 0x3C, 0x00, 0x00, 0x00, 0x0F, 0x05, 0x48, 0x69,
 ];
 
-fn machine(alloc: Global, text: &[u8]) -> Result<Machine, Fail>
-    requires { length text.now ≤ 999 }
-{
-    let words = List::from_slice(alloc, &[0x88u8, 0x77, 0x66, 0x55, 0x44, 0x33, 0x22, 0x11])?;
-    let image = program_image(alloc, List::from_slice(alloc, text)?, words, 8)?;
-    Ok(load(alloc, &image)?)
+/// More bytes than any of these programs has in its text or its data.
+const MANY: usize = 10_000;
+
+/// A machine before a program of this text, these words and so many zeros.
+pub(crate) fn machine(
+    alloc: Global,
+    text: &[u8],
+    words: &[u8],
+    zeros: u64,
+) -> Result<Machine, Mem> {
+    if text.len() > MANY || words.len() > MANY || zeros as usize > MANY {
+        return Err(Mem);
+    }
+    let text = List::from_slice(alloc, text)?;
+    let words = List::from_slice(alloc, words)?;
+    let image = program_image(alloc, text, words, zeros)?;
+    load(alloc, &image)
 }
+
+const WORD: [u8; 8] = [0x88, 0x77, 0x66, 0x55, 0x44, 0x33, 0x22, 0x11];
+
+/// Some steps, and the status with which the run exits in them, if it does.
+type Stretch = (u64, Option<u8>);
+
+// Whether a run is spent, or exits with this status.
+fn is_end(end: RunEnd, wanted: Option<u8>) -> bool {
+    match end {
+        RunEnd::Spent => wanted.is_none(),
+        RunEnd::Exited(status) => wanted == Some(status),
+        RunEnd::Stuck(_) => false,
+    }
+}
+
+// Whether a machine runs in these stretches, one after the other.
+pub(crate) fn runs_so<O: Outlet>(m: &mut Machine, out: &mut O, stretches: &[Stretch]) -> bool {
+    for (steps, wanted) in stretches {
+        if !is_end(run(m, out, *steps), *wanted) {
+            return false;
+        }
+    }
+    true
+}
+
+const COMPUTES: &[Stretch] = &[(10, None), (999, Some(145)), (0, Some(145))];
 
 #[test]
 fn computes(rt: HostRuntime) -> Result<(), Fail> {
-    let mut m = machine(rt.alloc(), &ARITHMETIC)?;
-    let mut out = NullOutlet::new();
+    let mut m = machine(rt.alloc(), &ARITHMETIC, &WORD, 8)?;
     assert!(rt; m.at() == 0x40_0000);
-    assert!(rt; matches!(run(&mut m, &mut out, 10), RunEnd::Spent));
-    assert!(rt; matches!(run(&mut m, &mut out, 999), RunEnd::Exited(145)));
-    assert!(rt; matches!(run(&mut m, &mut out, 0), RunEnd::Exited(145)));
+    let mut out = NullOutlet::new();
+    assert!(rt; runs_so(&mut m, &mut out, COMPUTES));
     assert!(rt; matches!(step(&mut m, &mut out), StepEnd::Exited(145)));
     Ok(())
 }
 
 #[test]
 fn computes_in_short_forms(rt: HostRuntime) -> Result<(), Fail> {
-    let mut m = machine(rt.alloc(), &SHORT_FORMS)?;
+    let mut m = machine(rt.alloc(), &SHORT_FORMS, &WORD, 8)?;
     let mut out = NullOutlet::new();
-    assert!(rt; matches!(run(&mut m, &mut out, 2), RunEnd::Spent));
+    assert!(rt; runs_so(&mut m, &mut out, &[(2, None)]));
     assert!(rt; m.at() == 0x40_0016);
-    assert!(rt; matches!(run(&mut m, &mut out, 40), RunEnd::Spent));
-    assert!(rt; matches!(run(&mut m, &mut out, 1), RunEnd::Exited(232)));
+    assert!(rt; runs_so(&mut m, &mut out, &[(40, None), (1, Some(232))]));
     Ok(())
+}
+
+// Whether the program that writes runs so over an outlet with this plan, and what is then taken.
+fn writes_so(
+    alloc: Global,
+    plan: &[Answer],
+    stretches: &[Stretch],
+    taken: &[u8],
+) -> Result<bool, Mem> {
+    let mut m = machine(alloc, &WRITING, &WORD, 8)?;
+    let mut out = MemOutlet::new(alloc, plan, 100)?;
+    Ok(runs_so(&mut m, &mut out, stretches) && out.taken() == taken)
 }
 
 #[test]
 fn writes(rt: HostRuntime) -> Result<(), Fail> {
-    let mut m = machine(rt.alloc(), &WRITING)?;
-    let mut out = MemOutlet::new(rt.alloc(), &[], 100)?;
-    assert!(rt; matches!(run(&mut m, &mut out, 7), RunEnd::Spent));
-    assert!(rt; matches!(run(&mut m, &mut out, 1), RunEnd::Exited(2)));
-    assert!(rt; out.taken() == b"Hi".as_slice());
+    let stretches = [(7, None), (1, Some(2))];
+    assert!(rt; writes_so(rt.alloc(), &[], &stretches, b"Hi")?);
     Ok(())
 }
 
 #[test]
 fn writes_less(rt: HostRuntime) -> Result<(), Fail> {
-    let mut m = machine(rt.alloc(), &WRITING)?;
-    let mut out = MemOutlet::new(rt.alloc(), &[Answer::Took(1)], 100)?;
-    assert!(rt; matches!(run(&mut m, &mut out, 8), RunEnd::Exited(1)));
-    assert!(rt; out.taken() == b"H".as_slice());
-    let mut m = machine(rt.alloc(), &WRITING)?;
-    let mut out = MemOutlet::new(rt.alloc(), &[Answer::Failed], 100)?;
-    assert!(rt; matches!(run(&mut m, &mut out, 8), RunEnd::Exited(251)));
+    let one = [Answer::Took(1)];
+    assert!(rt; writes_so(rt.alloc(), &one, &[(8, Some(1))], b"H")?);
+    let none = [Answer::Failed];
+    assert!(rt; writes_so(rt.alloc(), &none, &[(8, Some(251))], b"")?);
     Ok(())
 }

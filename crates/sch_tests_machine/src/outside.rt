@@ -1,46 +1,71 @@
 //! Disks and outlets: that calls succeed, and what the host's files and streams do.
 
 use sch_io::{
-    Disk, DiskRead, Failed, FirmDisk, HostDisk, MemDisk, MemOutlet, NullOutlet, StdOutlet, put_all,
+    Disk, DiskRead, Failed, FirmDisk, HostDisk, MemDisk, MemOutlet, NullOutlet, Outlet, StdOutlet,
+    put_all,
 };
-use sch_word::{Answer, Bytes};
+use sch_word::{Answer, Bytes, Mem};
+use std::alloc::Global;
 use std::fs;
 use std::fs::{File, OpenOptions};
 use std::test::Fail;
 
-// Whether a file was read and holds these bytes.
-fn holds(file: Result<Bytes, DiskRead>, bytes: &[u8]) -> bool {
-    match file {
+// Whether a file is read within a limit and holds these bytes.
+fn holds<D: Disk>(alloc: Global, disk: &mut D, name: &str, limit: u64, bytes: &[u8]) -> bool {
+    match disk.read(alloc, name, limit) {
         Ok(file) => file.as_slice() == bytes,
         Err(_) => false,
     }
 }
 
+// Whether a file is longer than a limit.
+fn is_too_large<D: Disk>(alloc: Global, disk: &mut D, name: &str, limit: u64) -> bool {
+    matches!(disk.read(alloc, name, limit), Err(DiskRead::TooLarge))
+}
+
+// Whether a file is not read.
+fn is_absent<D: Disk>(alloc: Global, disk: &mut D, name: &str) -> bool {
+    matches!(disk.read(alloc, name, 3), Err(DiskRead::Failed))
+}
+
+// Whether a file is written.
+fn writes<D: Disk>(disk: &mut D, name: &str, bytes: &[u8]) -> bool {
+    match disk.write(name, bytes) {
+        Ok(()) => true,
+        Err(Failed) => false,
+    }
+}
+
+// Whether all of a piece is taken.
+fn takes<O: Outlet>(out: &mut O, piece: &[u8]) -> bool {
+    put_all(out, piece)
+}
+
+// A disk whose file `a` has three bytes.
+fn small_disk(alloc: Global) -> Result<MemDisk, Mem> {
+    let name = Bytes::from_slice(alloc, b"a")?;
+    let file = Bytes::from_slice(alloc, b"xyz")?;
+    MemDisk::new(alloc, &[(name, file)], 10, &[])
+}
+
 #[test]
 fn a_disk_in_memory_is_read_and_written(rt: HostRuntime) -> Result<(), Fail> {
-    let alloc = rt.alloc();
-    let file = (
-        Bytes::from_slice(alloc, b"a")?,
-        Bytes::from_slice(alloc, b"xyz")?,
-    );
-    let files = vec![in alloc; file]?;
-    let mut disk = MemDisk::new(alloc, &files, 10, &[])?;
-    assert!(rt; holds(disk.read(alloc, "a", 3), b"xyz"));
-    assert!(rt; disk.write("b", b"1234").is_ok());
-    assert!(rt; holds(disk.read(alloc, "b", 4), b"1234"));
+    let mut disk = small_disk(rt.alloc())?;
+    assert!(rt; holds(rt.alloc(), &mut disk, "a", 3, b"xyz"));
+    assert!(rt; writes(&mut disk, "b", b"1234"));
+    assert!(rt; holds(rt.alloc(), &mut disk, "b", 4, b"1234"));
     Ok(())
 }
 
 // A name that is not there is read as the empty file, and a file without room is dropped.
 #[test]
 fn a_firm_disk_never_fails(rt: HostRuntime) -> Result<(), Fail> {
-    let alloc = rt.alloc();
-    let mut disk = FirmDisk::new(alloc, &[], 5)?;
-    assert!(rt; disk.write("a", b"1234").is_ok());
-    assert!(rt; holds(disk.read(alloc, "a", 4), b"1234"));
-    assert!(rt; matches!(disk.read(alloc, "a", 3), Err(DiskRead::TooLarge)));
-    assert!(rt; disk.write("b", b"").is_ok());
-    assert!(rt; holds(disk.read(alloc, "b", 4), b""));
+    let mut disk = FirmDisk::new(rt.alloc(), &[], 5)?;
+    assert!(rt; writes(&mut disk, "a", b"1234"));
+    assert!(rt; holds(rt.alloc(), &mut disk, "a", 4, b"1234"));
+    assert!(rt; is_too_large(rt.alloc(), &mut disk, "a", 3));
+    assert!(rt; writes(&mut disk, "b", b""));
+    assert!(rt; holds(rt.alloc(), &mut disk, "b", 4, b""));
     Ok(())
 }
 
@@ -48,36 +73,41 @@ fn a_firm_disk_never_fails(rt: HostRuntime) -> Result<(), Fail> {
 fn an_outlet_in_memory_answers_by_its_plan(rt: HostRuntime) -> Result<(), Fail> {
     let plan = [Answer::Took(1), Answer::Took(9)];
     let mut outlet = MemOutlet::new(rt.alloc(), &plan, 4)?;
-    assert!(rt; put_all(&mut outlet, b"abc"));
+    assert!(rt; takes(&mut outlet, b"abc"));
     assert!(rt; outlet.taken() == b"abc".as_slice());
-    assert!(rt; put_all(&mut NullOutlet::new(), b"abc"));
+    assert!(rt; takes(&mut NullOutlet::new(), b"abc"));
     Ok(())
+}
+
+// Whether a file of the host holds these bytes.
+fn is_on_host(rt: &HostRuntime, name: &str, bytes: &[u8]) -> bool {
+    match fs::read(rt, name) {
+        Ok(file) => file.as_slice() == bytes,
+        Err(_) => false,
+    }
 }
 
 #[test]
 fn the_hosts_files_are_read_and_written(rt: HostRuntime) -> Result<(), Fail> {
-    let alloc = rt.alloc();
     let mut disk = HostDisk::new(&rt);
-    assert!(rt; disk.write("io-test-file", b"xyz").is_ok());
-    assert!(rt; fs::read(&rt, "io-test-file")?.as_slice() == b"xyz".as_slice());
-    assert!(rt; holds(disk.read(alloc, "io-test-file", 3), b"xyz"));
-    let longer = disk.read(alloc, "io-test-file", 2);
-    assert!(rt; matches!(longer, Err(DiskRead::TooLarge)));
+    assert!(rt; writes(&mut disk, "io-test-file", b"xyz"));
+    assert!(rt; is_on_host(&rt, "io-test-file", b"xyz"));
+    assert!(rt; holds(rt.alloc(), &mut disk, "io-test-file", 3, b"xyz"));
+    assert!(rt; is_too_large(rt.alloc(), &mut disk, "io-test-file", 2));
     fs::remove_file(&rt, "io-test-file")?;
-    let absent = disk.read(alloc, "io-test-file", 3);
-    assert!(rt; matches!(absent, Err(DiskRead::Failed)));
-    assert!(rt; matches!(disk.write("/dev/full", b"xyz"), Err(Failed)));
+    assert!(rt; is_absent(rt.alloc(), &mut disk, "io-test-file"));
+    assert!(rt; !writes(&mut disk, "/dev/full", b"xyz"));
     Ok(())
 }
 
 #[test]
 fn the_hosts_streams_take_bytes_and_may_fail(rt: HostRuntime) -> Result<(), Fail> {
     let mut outlet = StdOutlet::new(File::create(&rt, "io-test-stream")?);
-    assert!(rt; put_all(&mut outlet, b"abc"));
-    assert!(rt; fs::read(&rt, "io-test-stream")?.as_slice() == b"abc".as_slice());
+    assert!(rt; takes(&mut outlet, b"abc"));
+    assert!(rt; is_on_host(&rt, "io-test-stream", b"abc"));
     fs::remove_file(&rt, "io-test-stream")?;
-    assert!(rt; put_all(&mut StdOutlet::new(rt.stdout()), b""));
+    assert!(rt; takes(&mut StdOutlet::new(rt.stdout()), b""));
     let full = OpenOptions::new().write(true).open(&rt, "/dev/full")?;
-    assert!(rt; !put_all(&mut StdOutlet::new(full), b"abc"));
+    assert!(rt; !takes(&mut StdOutlet::new(full), b"abc"));
     Ok(())
 }

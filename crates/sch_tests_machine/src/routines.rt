@@ -1,24 +1,43 @@
 //! The run-time routines, and a program resolved with them.
 
-use sch_asm::{Asm, Word, resolve};
+ghost use Rattle.std.specs.Prelude.{IfOk};
+ghost use Rattle.sch_asm.specs.Items.{AreOwn};
+
+use sch_asm::{Asm, AsmError, Resolved, Word, resolve};
 use sch_runtime::routines;
-use sch_word::{Limits, List};
+use sch_word::{List, Mem};
+use std::alloc::Global;
 use std::test::Fail;
 
-#[test]
-fn routines_are_resolved(rt: HostRuntime) -> Result<(), Fail> {
-    let alloc = rt.alloc();
+/// Where the heap ends, of which these programs take nothing.
+const HEAP_END: u32 = 0x1000_1000;
+
+/// A program resolved with the routines.
+pub(crate) fn resolved(alloc: Global, program: &Asm) -> Result<Resolved, AsmError>
+    requires { AreOwn program.now.items }
+{
+    let routines = routines(alloc, HEAP_END)?;
+    resolve(alloc, program, &routines)
+}
+
+// No items, a word and a zero.
+fn one_word(alloc: Global) -> Result<Asm, Mem>
+    ensures { IfOk result (λ a. AreOwn a.items) }
+{
     let mut words = List::new(alloc);
     words.push(Word::Fixed(258))?;
-    let program = Asm {
+    Ok(Asm {
         items: List::new(alloc),
         words,
         zeros: 8,
-    };
-    let limits = Limits::new(4_096, 1).ok_or("no limits")?;
-    let routines = routines(alloc, limits)?;
-    let resolved = resolve(alloc, &program, &routines)?;
-    assert!(rt; resolved.code.len() == 89);
+    })
+}
+
+#[test]
+fn routines_are_resolved(rt: HostRuntime) -> Result<(), Fail> {
+    let program = one_word(rt.alloc())?;
+    let resolved = resolved(rt.alloc(), &program)?;
+    assert!(rt; resolved.code.len() == 339);
     assert!(rt; resolved.words.as_slice() == [2, 1, 0, 0, 0, 0, 0, 0].as_slice());
     Ok(())
 }

@@ -1,43 +1,36 @@
 //! Each kind of binding, its cells, and its closures, of programs of one form.
 
-ghost use Rattle.std.specs.Prelude.{◌<◌, ◌^◌, length, IfOk};
-ghost use Rattle.sch_cells.specs.Bodies.{bodies_of};
-ghost use Rattle.sch_cells.specs.ProgramView.{source};
-
 use crate::texts::{control_of, small_program_of};
 use sch_assign::convert_assign;
-use sch_cells::{Boxed, CellProgram, Exp as Cell, Unboxed};
+use sch_cells::{Boxed, CellProgram, Exp as Cell};
 use sch_closure::close;
 use sch_core::CoreError;
-use sch_flat::{Body, Exp as Flat, FlatProgram, Variable};
+use sch_flat::{Body, Exp as Flat, Variable};
 use sch_rename::rename;
 use sch_word::List;
 use std::alloc::Global;
 use std::test::Fail;
 
-// The program of a text in which each variable has a number.
-fn renamed(alloc: Global, text: &[u8]) -> Result<CellProgram<Unboxed>, CoreError>
-    ensures variables { IfOk result (λ q. q.variables < 2 ^ 30) }
-    ensures bodies { IfOk result (λ q. length (bodies_of (source q)) < 2 ^ 30) }
-{
+// What the first passes make of a program: how many variables have a number, how many cells its one form makes, and whether
+// its closures are three, one in another.
+#[derive(Drop)]
+struct Made {
+    variables: u32,
+    cells: usize,
+    is_nest: bool,
+}
+
+// What they make of the program of a text.
+fn made_of(alloc: Global, text: &[u8]) -> Result<Made, CoreError> {
     let program = small_program_of(alloc, text)?;
     let renamed = rename(alloc, &program)?;
-    Ok(renamed)
-}
-
-// The same with cells.
-fn converted(alloc: Global, text: &[u8]) -> Result<CellProgram<Boxed>, CoreError>
-    ensures { IfOk result (λ q. length (bodies_of (source q)) < 2 ^ 30) }
-{
-    let program = renamed(alloc, text)?;
-    let converted = convert_assign(alloc, &program)?;
-    Ok(converted)
-}
-
-// The same with flat closures.
-fn closed(alloc: Global, text: &[u8]) -> Result<FlatProgram, CoreError> {
-    let program = converted(alloc, text)?;
-    Ok(close(alloc, &program)?)
+    let converted = convert_assign(alloc, &renamed)?;
+    let closed = close(alloc, &converted)?;
+    Ok(Made {
+        variables: renamed.variables,
+        cells: cells_of(&converted),
+        is_nest: is_nest(closed.bodies.as_slice()),
+    })
 }
 
 // How many new cells an expression makes at its top.
@@ -83,40 +76,9 @@ fn makes(b: &Body, label: u32, bound: bool) -> bool {
     }
 }
 
-#[test]
-fn renames_each_kind_of_binding(rt: HostRuntime) -> Result<(), Fail> {
-    let text =
-        b"(letrec ((f (lambda () (letrec ((x x)) (let ((y x)) (lambda (a . b) (set! b a))))))) f)";
-    let p = renamed(rt.alloc(), text)?;
-    assert!(rt; p.variables == 5);
-    Ok(())
-}
-
-// A rest list and a variable of a `let` that are assigned, an init that reads itself unset, groups of procedures in which
-// nothing is assigned, and a variable that is free in a procedure in a procedure.
-#[test]
-fn gives_cells_to_what_is_assigned(rt: HostRuntime) -> Result<(), Fail> {
-    let rows: [(&[u8], usize); 5] = [
-        (b"(lambda (x . y) (set! y x))", 1),
-        (b"(let ((x '())) (set! x x))", 1),
-        (b"(letrec ((x x)) x)", 1),
-        (
-            b"(letrec ((f (lambda () (letrec ((g (lambda () g))) f)))) f)",
-            0,
-        ),
-        (b"(lambda (x) (lambda () (lambda () (set! x x))))", 1),
-    ];
-    for (text, cells) in rows {
-        let p = converted(rt.alloc(), text)?;
-        assert!(rt; cells_of(&p) == cells);
-    }
-    Ok(())
-}
-
-#[test]
-fn a_free_variable_of_a_free_variable(rt: HostRuntime) -> Result<(), Fail> {
-    let q = closed(rt.alloc(), b"(lambda (x . y) (lambda () (lambda () x)))")?;
-    let made = match q.bodies.as_slice() {
+// Whether a procedure with a rest list makes one that makes one, whose value is its free variable.
+fn is_nest(bodies: &[Body]) -> bool {
+    match bodies {
         [outer, middle, inner] => {
             makes(outer, 1, true)
                 && makes(middle, 2, false)
@@ -125,8 +87,44 @@ fn a_free_variable_of_a_free_variable(rt: HostRuntime) -> Result<(), Fail> {
                 && matches!(&inner.code, Flat::Var(Variable::Free(0)))
         }
         _ => false,
-    };
-    assert!(rt; made);
+    }
+}
+
+#[test]
+fn renames_each_kind_of_binding(rt: HostRuntime) -> Result<(), Fail> {
+    let text =
+        b"(letrec ((f (lambda () (letrec ((x x)) (let ((y x)) (lambda (a . b) (set! b a))))))) f)";
+    let made = made_of(rt.alloc(), text)?;
+    assert!(rt; made.variables == 5);
+    Ok(())
+}
+
+// A rest list and a variable of a `let` that are assigned, an init that reads itself unset, groups of procedures in which
+// nothing is assigned, and a variable that is free in a procedure in a procedure.
+const CELLS: &[(&str, usize)] = &[
+    ("(lambda (x . y) (set! y x))", 1),
+    ("(let ((x '())) (set! x x))", 1),
+    ("(letrec ((x x)) x)", 1),
+    (
+        "(letrec ((f (lambda () (letrec ((g (lambda () g))) f)))) f)",
+        0,
+    ),
+    ("(lambda (x) (lambda () (lambda () (set! x x))))", 1),
+];
+
+#[test]
+fn gives_cells_to_what_is_assigned(rt: HostRuntime) -> Result<(), Fail> {
+    for (text, cells) in CELLS {
+        let made = made_of(rt.alloc(), text.as_bytes())?;
+        assert!(rt; made.cells == *cells, "at {text}");
+    }
+    Ok(())
+}
+
+#[test]
+fn a_free_variable_of_a_free_variable(rt: HostRuntime) -> Result<(), Fail> {
+    let made = made_of(rt.alloc(), b"(lambda (x . y) (lambda () (lambda () x)))")?;
+    assert!(rt; made.is_nest);
     Ok(())
 }
 
@@ -141,22 +139,23 @@ fn variables_in(alloc: Global, text: &[u8]) -> Result<List<u32>, CoreError> {
 }
 
 // Procedures have their return address, their closure and their formals.
+const BODIES: &[(&str, &[u32])] = &[
+    ("(lambda (x . y) (lambda () (lambda () x)))", &[2, 4, 2, 2]),
+    // The cell of the rest list is one variable more.
+    ("(lambda (x . y) (set! y x))", &[2, 5]),
+    // A cell that holds nothing yet, its value, and what is read of it.
+    ("(letrec ((x x)) x)", &[4]),
+    (
+        "(letrec ((f (lambda () (letrec ((g (lambda () g))) f)))) f)",
+        &[3, 3, 2],
+    ),
+];
+
 #[test]
 fn normalizes_each_body(rt: HostRuntime) -> Result<(), Fail> {
-    let rows: [(&[u8], &[u32]); 4] = [
-        (b"(lambda (x . y) (lambda () (lambda () x)))", &[2, 4, 2, 2]),
-        // The cell of the rest list is one variable more.
-        (b"(lambda (x . y) (set! y x))", &[2, 5]),
-        // A cell that holds nothing yet, its value, and what is read of it.
-        (b"(letrec ((x x)) x)", &[4]),
-        (
-            b"(letrec ((f (lambda () (letrec ((g (lambda () g))) f)))) f)",
-            &[3, 3, 2],
-        ),
-    ];
-    for (text, variables) in rows {
-        let found = variables_in(rt.alloc(), text)?;
-        assert!(rt; found.as_slice() == variables);
+    for (text, variables) in BODIES {
+        let found = variables_in(rt.alloc(), text.as_bytes())?;
+        assert!(rt; found.as_slice() == *variables, "at {text}");
     }
     Ok(())
 }

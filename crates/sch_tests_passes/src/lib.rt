@@ -5,6 +5,8 @@
 #[cfg(test)]
 mod closures;
 #[cfg(test)]
+mod deep_literals;
+#[cfg(test)]
 mod expander;
 #[cfg(test)]
 mod frames;

@@ -1,27 +1,38 @@
 //! Libraries: the text that goes with the compiler, one that a text uses, and texts that are none.
 
+use crate::texts::MOST_BYTES;
 use sch_core::{CoreError, core, library};
 use sch_lang::Program;
 use sch_prelude::LIBRARY;
 use sch_read::read_all;
-use std::alloc::Global;
+use std::alloc::{AllocError, Global};
 use std::test::Fail;
 
-// The longest text that is read.
-const MOST_BYTES: usize = 1_048_576;
-
-// How many definitions the library of a text has, or why it is none.
-fn definitions_in(alloc: Global, text: &[u8]) -> Result<usize, CoreError> {
+// The data of a text, and the size of the library that they are.
+fn library_of(alloc: Global, text: &[u8]) -> Result<(usize, usize), CoreError> {
     if text.len() > MOST_BYTES {
         return Err(CoreError::Memory);
     }
-    match read_all(alloc, text) {
-        Ok(items) => {
-            let made = library(alloc, items.as_slice())?;
-            Ok(made.definitions.len())
-        }
-        Err(_) => Err(CoreError::Memory),
+    let Ok(items) = read_all(alloc, text) else {
+        return Err(CoreError::Memory);
+    };
+    let made = library(alloc, items.as_slice())?;
+    Ok((items.len(), made.definitions.len()))
+}
+
+// How many data and definitions the library of a text has, or the line of its fault.
+fn answer_of(alloc: Global, text: &[u8]) -> Result<String, AllocError> {
+    match library_of(alloc, text) {
+        Ok((data, definitions)) => format!(in alloc; "data {data}, definitions {definitions}"),
+        Err(fault) => format!(in alloc; "{fault}"),
     }
+}
+
+#[test]
+fn reads_the_library(rt: HostRuntime) -> Result<(), Fail> {
+    let answer = answer_of(rt.alloc(), LIBRARY)?;
+    assert!(rt; answer.as_str() == "data 182, definitions 182");
+    Ok(())
 }
 
 // The program of a text that uses the library of another.
@@ -39,57 +50,47 @@ fn program_with(alloc: Global, definitions: &[u8], text: &[u8]) -> Result<Progra
     core(alloc, &made, forms.as_slice())
 }
 
-#[test]
-fn reads_the_library(rt: HostRuntime) -> Result<(), Fail> {
-    let items = read_all(rt.alloc(), LIBRARY)?;
-    assert!(rt; items.as_slice().len() == 182);
-    let count = definitions_in(rt.alloc(), LIBRARY)?;
-    assert!(rt; count == 182);
-    Ok(())
-}
+const DEFINITIONS: &[u8] =
+    b"(define (twice x) (+ x x))(define (other x) x)(define (four x) (twice (twice x)))";
 
 // Of three definitions the text needs two, one of them by the other, and has two globals and a form.
 #[test]
 fn keeps_what_is_named(rt: HostRuntime) -> Result<(), Fail> {
-    let definitions =
-        b"(define (twice x) (+ x x))(define (other x) x)(define (four x) (twice (twice x)))";
-    let program = program_with(rt.alloc(), definitions, b"(+ (four 1) 1)")?;
-    assert!(rt; program.library.len() == 2);
-    assert!(rt; program.globals.len() == 2);
-    assert!(rt; program.forms.len() == 1);
+    let program = program_with(rt.alloc(), DEFINITIONS, b"(+ (four 1) 1)")?;
+    let counts = (
+        program.library.len(),
+        program.globals.len(),
+        program.forms.len(),
+    );
+    assert!(rt; counts == (2, 2, 1));
     Ok(())
 }
 
-// The place at which the library of a text is badly formed.
-fn refused(alloc: Global, text: &[u8]) -> Option<u32> {
-    match definitions_in(alloc, text) {
-        Err(CoreError::BadForm(at)) => Some(at),
-        _ => None,
+// The fault of a text that is no library.
+fn check_fault(alloc: Global, text: &str, wanted: &str) -> Result<(), Fail> {
+    let answer = answer_of(alloc, text.as_bytes())?;
+    if answer.as_str() == wanted {
+        return Ok(());
     }
+    Err(Fail::new(format_args!("{answer}: {text}")))
 }
+
+const FAULTS: &[(&str, &str)] = &[
+    ("(define x 1)", "byte 0: bad form"),
+    ("(define (f x) x) (display 1)", "byte 17: bad form"),
+    ("(define (f) 1)(define (f) 2)", "byte 14: bad form"),
+    ("(begin (define (f) 1))", "byte 0: bad form"),
+    ("(define (f x) x) 7", "byte 17: bad form"),
+    ("(define (f 1) 2)", "byte 0: bad form"),
+    // Other causes.
+    ("(define (f x) (g x))(define (g x) x)", "byte 15: unbound"),
+    ("(define (f) 1)(define (if) 1)", "byte 14: keyword defined"),
+];
 
 #[test]
 fn refuses_each_item(rt: HostRuntime) -> Result<(), Fail> {
-    let rows: [(&[u8], u32); 6] = [
-        (b"(define x 1)", 0),
-        (b"(define (f x) x) (display 1)", 17),
-        (b"(define (f) 1)(define (f) 2)", 14),
-        (b"(begin (define (f) 1))", 0),
-        (b"(define (f x) x) 7", 17),
-        (b"(define (f 1) 2)", 0),
-    ];
-    for (text, at) in rows {
-        assert!(rt; matches!(refused(rt.alloc(), text), Some(p) if p == at));
+    for (text, wanted) in FAULTS {
+        check_fault(rt.alloc(), text, wanted)?;
     }
-    Ok(())
-}
-
-#[test]
-fn refuses_other_causes(rt: HostRuntime) -> Result<(), Fail> {
-    let alloc = rt.alloc();
-    let later = definitions_in(alloc, b"(define (f x) (g x))(define (g x) x)");
-    assert!(rt; matches!(later, Err(CoreError::Unbound(15, _))));
-    let keyword = definitions_in(alloc, b"(define (f) 1)(define (if) 1)");
-    assert!(rt; matches!(keyword, Err(CoreError::KeywordDefined(14))));
     Ok(())
 }

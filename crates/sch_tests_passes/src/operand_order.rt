@@ -1,121 +1,93 @@
 //! The parts of a call: each is bound whole before the next, the operands from left to right and the operator last.
 
 use crate::texts::control_of;
-use sch_control::{Atom, Exp as Control, Operand, Operation};
+use crate::trees::write_number;
+use sch_control::{Application, Atom, ControlProgram, Exp as Control, Operand, Operation};
+use sch_word::{Bytes, List, Mem};
+use std::alloc::Global;
 use std::test::Fail;
 
-// Whether an expression is the primitive at a site.
-fn is_at(e: &Control<()>, site: u32) -> bool {
-    match e {
-        Control::Do(Operation::Prim(at, _, _)) => *at == site,
-        _ => false,
+// An operation: a primitive by its site, and a value, what a cell holds, a cell that is set and a field by a word.
+fn write_operation(operation: &Operation<u32>, out: &mut Bytes) -> Result<(), Mem> {
+    match operation {
+        Operation::Prim(site, _, _) => write_number(*site, out),
+        Operation::Operand(_) => out.extend_from_slice(b" value"),
+        Operation::CellGet(_) => out.extend_from_slice(b" get"),
+        Operation::CellSet(_, _) => out.extend_from_slice(b" set"),
+        Operation::Field(1, 0) => out.extend_from_slice(b" field"),
+        _ => out.extend_from_slice(b" other"),
     }
 }
 
-// Whether a variable has what its cell holds, another what `car` gives, and the sum follows.
-fn is_sum(e: &Control<()>) -> bool {
+fn write_operand(operand: &Operand<u32>, out: &mut Bytes) -> Result<(), Mem> {
+    match operand {
+        Operand::Atom(Atom::Variable(x)) => write_number(*x, out),
+        _ => out.extend_from_slice(b" other"),
+    }
+}
+
+// A call by its operator and its operands.
+fn write_call(a: &Application<u32>, out: &mut Bytes) -> Result<(), Mem> {
+    write_operand(&a.operator, out)?;
+    for operand in a.operands.as_slice() {
+        write_operand(operand, out)?;
+    }
+    Ok(())
+}
+
+// `( 5 ..)` for what is bound to variable 5, `;` behind what is done for its effect, and ` call` for a tail call.
+fn write_parts(e: &Control<()>, out: &mut Bytes) -> Result<(), Mem> {
     match e {
-        Control::Bind(6, cell, rest) => {
-            matches!(cell.as_ref(), Control::Do(Operation::CellGet(_))) && is_car_and_sum(rest)
+        Control::Do(operation) => write_operation(operation, out),
+        Control::Bind(x, first, rest) => {
+            out.push(b'(')?;
+            write_number(*x, out)?;
+            write_parts(first, out)?;
+            out.push(b')')?;
+            write_parts(rest, out)
         }
-        _ => false,
-    }
-}
-
-fn is_car_and_sum(e: &Control<()>) -> bool {
-    match e {
-        Control::Bind(7, car, sum) => is_at(car, 2) && is_at(sum, 1),
-        _ => false,
-    }
-}
-
-// Whether the cell is set, then the pair, and a constant is the value.
-fn is_sequence(e: &Control<()>) -> bool {
-    match e {
-        Control::Seq(set, rest) => {
-            matches!(set.as_ref(), Control::Do(Operation::CellSet(_, _))) && is_set_car(rest)
+        Control::Seq(first, rest) => {
+            write_parts(first, out)?;
+            out.push(b';')?;
+            write_parts(rest, out)
         }
-        _ => false,
-    }
-}
-
-fn is_set_car(e: &Control<()>) -> bool {
-    match e {
-        Control::Seq(set_car, value) => {
-            is_at(set_car, 3) && matches!(value.as_ref(), Control::Do(Operation::Operand(_)))
+        Control::TailCall(a) => {
+            out.extend_from_slice(b" call")?;
+            write_call(a, out)
         }
-        _ => false,
+        _ => out.extend_from_slice(b" other"),
     }
 }
 
-fn binds_after_cell(e: &Control<()>) -> bool {
-    match e {
-        Control::Bind(4, _, rest) => binds_operands(rest),
-        _ => false,
+const TEXT: &[u8] =
+    b"(lambda (f) (lambda (x p) (f (+ x (car p)) (begin (set! x 20) (set-car! p 5) 0))))";
+
+// The cell of x is variable 4. What it holds and what `car` gives are bound before they are added; then the cell is set, and
+// the pair, and a constant is the value; then the operator is a field of the closure.
+const PARTS: &[u8] = b"( 4 other)( 5( 6 get)( 7 2) 1)( 8 set; 3; value)( 9 field) call 9 5 8";
+
+// The parts of the one procedure inside another.
+fn parts_of(alloc: Global, q: &ControlProgram) -> Result<Bytes, Mem> {
+    let mut out = List::new(alloc);
+    if let [_, _, procedure] = q.bodies.as_slice() {
+        write_parts(&procedure.exp, &mut out)?;
     }
+    Ok(out)
 }
 
-// Whether the operands are bound, each whole, then the operator, and then the call is made.
-fn binds_operands(e: &Control<()>) -> bool {
-    match e {
-        Control::Bind(5, first, rest) => is_sum(first) && binds_second(rest),
-        _ => false,
-    }
-}
-
-fn binds_second(e: &Control<()>) -> bool {
-    match e {
-        Control::Bind(8, second, rest) => is_sequence(second) && binds_operator(rest),
-        _ => false,
-    }
-}
-
-fn binds_operator(e: &Control<()>) -> bool {
-    match e {
-        Control::Bind(9, operator, call) => {
-            matches!(operator.as_ref(), Control::Do(Operation::Field(1, 0))) && is_call(call)
-        }
-        _ => false,
-    }
-}
-
-fn is_variable(o: &Operand<u32>, x: u32) -> bool {
-    match o {
-        Operand::Atom(Atom::Variable(y)) => x == *y,
-        _ => false,
-    }
-}
-
-fn is_call(e: &Control<()>) -> bool {
-    match e {
-        Control::TailCall(a) => is_variable(&a.operator, 9) && are_operands(a.operands.as_slice()),
-        _ => false,
-    }
-}
-
-fn are_operands(operands: &[Operand<u32>]) -> bool {
-    match operands {
-        [first, second] => is_variable(first, 5) && is_variable(second, 8),
-        _ => false,
-    }
-}
-
-// x has a cell: variable 4.
-#[test]
-fn binds_each_operand_whole(rt: HostRuntime) -> Result<(), Fail> {
-    let text =
-        b"(lambda (f) (lambda (x p) (f (+ x (car p)) (begin (set! x 20) (set-car! p 5) 0))))";
-    let q = control_of(rt.alloc(), text)?;
-    let bound = match q.bodies.as_slice() {
-        [_, _, procedure] => binds_after_cell(&procedure.exp),
-        _ => false,
-    };
-    assert!(rt; bound);
-    // Of the call: both operands, and then the operator.
-    let parts = match q.bound.as_slice() {
+// Of the call: both operands, and then the operator.
+fn is_order(q: &ControlProgram) -> bool {
+    match q.bound.as_slice() {
         [call, ..] => call.as_slice() == [1, 2, 0].as_slice(),
         _ => false,
-    };
-    assert!(rt; parts);
+    }
+}
+
+#[test]
+fn binds_each_operand_whole(rt: HostRuntime) -> Result<(), Fail> {
+    let q = control_of(rt.alloc(), TEXT)?;
+    let parts = parts_of(rt.alloc(), &q)?;
+    assert!(rt; parts.as_slice() == PARTS);
+    assert!(rt; is_order(&q));
     Ok(())
 }

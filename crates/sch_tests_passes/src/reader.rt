@@ -1,6 +1,6 @@
 //! Texts that are read, and data that are printed and let go of.
 
-use crate::texts::wrapped;
+use crate::texts::{Piece, joined};
 use sch_print::print;
 use sch_read::{Atom, Datum, Node, ReadError, read_all};
 use sch_word::{List, Mem};
@@ -41,36 +41,46 @@ fn deeper(alloc: Global, d: Datum, kind: u32) -> Result<Datum, Mem> {
     Ok(Datum { at: 0, node })
 }
 
+// What is printed of a text.
+fn check_printed(alloc: Global, text: &str, printed: &str) -> Result<(), Fail> {
+    let out = rewritten(alloc, text.as_bytes())?;
+    if out.as_slice() == printed.as_bytes() {
+        return Ok(());
+    }
+    Err(Fail::from(text))
+}
+
+const PRINTED: &[(&str, &str)] = &[
+    (" ; only a comment", ""),
+    (
+        "'ABC #(a \"b\\\\\\n\\t\\\"\")",
+        "(quote abc)\n#(a \"b\\\\\n\t\\\"\")\n",
+    ),
+    ("(a b . (c . (d e . ((f) . g))))", "(a b c d e (f) . g)\n"),
+    (
+        "#\\a #\\NEWLINE #T () ...",
+        "#\\a\n#\\newline\n#t\n()\n...\n",
+    ),
+    (
+        "#xFf #b-101 +5 -0 -1152921504606846976",
+        "255\n-5\n5\n0\n-1152921504606846976\n",
+    ),
+];
+
 #[test]
 fn reads_what_it_prints(rt: HostRuntime) -> Result<(), Fail> {
-    let rows: [(&[u8], &[u8]); 5] = [
-        (b" ; only a comment", b""),
-        (
-            b"'ABC #(a \"b\\\\\\n\\t\\\"\")",
-            b"(quote abc)\n#(a \"b\\\\\n\t\\\"\")\n",
-        ),
-        (b"(a b . (c . (d e . ((f) . g))))", b"(a b c d e (f) . g)\n"),
-        (
-            b"#\\a #\\NEWLINE #T () ...",
-            b"#\\a\n#\\newline\n#t\n()\n...\n",
-        ),
-        (
-            b"#xFf #b-101 +5 -0 -1152921504606846976",
-            b"255\n-5\n5\n0\n-1152921504606846976\n",
-        ),
-    ];
-    for (text, printed) in rows {
-        let out = rewritten(rt.alloc(), text)?;
-        assert!(rt; out.as_slice() == printed);
+    for (text, printed) in PRINTED {
+        check_printed(rt.alloc(), text, printed)?;
     }
     Ok(())
 }
 
+const THOUSAND: &[Piece] = &[("(", 1000), (")", 1000)];
+
 #[test]
 fn reads_a_thousand_levels(rt: HostRuntime) -> Result<(), Fail> {
-    let alloc = rt.alloc();
-    let deep = wrapped(alloc, b"(", 1000, b"", b")")?;
-    let out = rewritten(alloc, deep.as_slice())?;
+    let deep = joined(rt.alloc(), THOUSAND)?;
+    let out = rewritten(rt.alloc(), deep.as_bytes())?;
     assert!(rt; out.len() == 2001);
     Ok(())
 }

@@ -5,17 +5,20 @@ ghost use Rattle.sch_lang.specs.Measures.{nodes_and_bound};
 ghost use Rattle.sch_lang.specs.ProgramView.{source};
 ghost use Rattle.sch_control.specs.Covered.{is_covered_program};
 ghost use Rattle.sch_control.specs.ProgramView as control;
+ghost use Rattle.sch_frames.specs.Covered as frames;
+ghost use Rattle.sch_frames.specs.ProgramView as view;
 
 use sch_control::ControlProgram;
 use sch_core::{CoreError, Library, core};
+use sch_frames::FrameProgram;
 use sch_lang::Program;
 use sch_passes::control_program;
 use sch_read::read_all;
-use sch_word::{Bytes, List, Mem};
-use std::alloc::Global;
+use sch_registers::frame_program;
+use std::alloc::{AllocError, Global};
 
-// The longest text that is read.
-const MOST_BYTES: usize = 1_048_576;
+/// The longest text that is read.
+pub(crate) const MOST_BYTES: usize = 1_048_576;
 
 // The longest text whose program goes through all passes: what is made of it has fewer procedures than a library may have.
 const FEW_BYTES: usize = 8_192;
@@ -54,34 +57,31 @@ pub(crate) fn control_of(alloc: Global, text: &[u8]) -> Result<ControlProgram, C
     Ok(control)
 }
 
-// A text many times over.
-pub(crate) fn repeated(alloc: Global, text: &[u8], times: u32) -> Result<Bytes, Mem> {
-    let mut out = List::new(alloc);
+// The frame program of a short text.
+pub(crate) fn frames_of(alloc: Global, text: &[u8]) -> Result<FrameProgram, CoreError>
+    ensures { IfOk result (λ f. IsTrue (frames.is_covered_program (view.source f))) }
+{
+    let control = control_of(alloc, text)?;
+    let made = frame_program(alloc, &control)?;
+    Ok(made.frames)
+}
+
+/// A text, and how often it stands there.
+pub(crate) type Piece<'a> = (&'a str, u32);
+
+// Pushes a text so often.
+fn repeat(out: &mut String, (text, times): Piece) -> Result<(), AllocError> {
     for _ in 0..times {
-        out.extend_from_slice(text)?;
+        out.push_str(text)?;
     }
-    Ok(out)
+    Ok(())
 }
 
-// A text in many parentheses: each opens with one text and closes with another.
-pub(crate) fn wrapped(
-    alloc: Global,
-    open: &[u8],
-    times: u32,
-    inside: &[u8],
-    close: &[u8],
-) -> Result<Bytes, Mem> {
-    let mut out = repeated(alloc, open, times)?;
-    out.extend_from_slice(inside)?;
-    out.append(repeated(alloc, close, times)?)?;
-    Ok(out)
-}
-
-// A procedure that calls another in an arm of a test and then again, where its second formal is bound anew this many times.
-pub(crate) fn behind_bindings(alloc: Global, times: u32) -> Result<Bytes, Mem> {
-    let mut out = List::from_slice(alloc, b"(define (h z) z)(define (g x y) ")?;
-    let inside = b"(if (and x (h y)) y (not (h x)))";
-    out.append(wrapped(alloc, b"(let ((y y)) ", times, inside, b")")?)?;
-    out.push(b')')?;
+/// One text of some, which stand one behind the other.
+pub(crate) fn joined(alloc: Global, pieces: &[Piece]) -> Result<String, AllocError> {
+    let mut out = String::new(alloc);
+    for piece in pieces {
+        repeat(&mut out, *piece)?;
+    }
     Ok(out)
 }

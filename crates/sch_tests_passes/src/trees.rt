@@ -1,12 +1,17 @@
 //! Bodies of a text, and their trees as texts: each region with what it saves, and each call with what is said of it.
 
 use crate::texts::control_of;
-use sch_control::{Body, ControlProgram, Exp, LiveBody, Restoring};
+use sch_control::{Body, ControlProgram, Exp, LiveBody, PlacedBody, Restoring, SavedBody};
 use sch_core::CoreError;
 use sch_live::live;
+use sch_regs::assign_places;
+use sch_restores::place_restores;
+use sch_saves::place_saves;
 use sch_sets::Set;
-use sch_word::{Bytes, List, Mem};
+use sch_word::{Bytes, List, Mem, Place};
 use std::alloc::Global;
+use std::str;
+use std::test::Fail;
 
 // The body that stands last in a program.
 fn last_body(p: &ControlProgram) -> Result<&Body, Mem> {
@@ -16,34 +21,25 @@ fn last_body(p: &ControlProgram) -> Result<&Body, Mem> {
     }
 }
 
-// The last body of a text, with what is live after its calls in sets of one word.
-pub(crate) fn live_by_one(alloc: Global, text: &[u8]) -> Result<LiveBody<1>, CoreError> {
+// The last body of a text, with what is live after its calls.
+fn last_live<const N: usize>(alloc: Global, text: &[u8]) -> Result<LiveBody<N>, CoreError> {
     let p = control_of(alloc, text)?;
     let b = last_body(&p)?;
-    if b.variables > 64 {
+    if b.variables as usize / 64 >= N {
         return Err(CoreError::Memory);
     }
-    Ok(live::<1>(alloc, b)?)
+    Ok(live::<N>(alloc, b)?)
 }
 
-// The same in sets of four words.
-pub(crate) fn live_by_four(alloc: Global, text: &[u8]) -> Result<LiveBody<4>, CoreError> {
-    let p = control_of(alloc, text)?;
-    let b = last_body(&p)?;
-    if b.variables > 256 {
-        return Err(CoreError::Memory);
-    }
-    Ok(live::<4>(alloc, b)?)
-}
-
-// The same in sets of sixteen words.
-pub(crate) fn live_by_sixteen(alloc: Global, text: &[u8]) -> Result<LiveBody<16>, CoreError> {
-    let p = control_of(alloc, text)?;
-    let b = last_body(&p)?;
-    if b.variables > 1_024 {
-        return Err(CoreError::Memory);
-    }
-    Ok(live::<16>(alloc, b)?)
+// The body with its regions, and then with what its calls restore and where its variables live.
+fn placed<const N: usize>(
+    alloc: Global,
+    b: &LiveBody<N>,
+) -> Result<(SavedBody<N>, PlacedBody<N>), Mem> {
+    let saved = place_saves(alloc, b)?;
+    let restored = place_restores(alloc, &saved)?;
+    let placed = assign_places(alloc, &restored)?;
+    Ok((saved, placed))
 }
 
 fn digit(x: u32) -> u8 {
@@ -62,15 +58,15 @@ pub(crate) fn write_number(x: u32, out: &mut Bytes) -> Result<(), Mem> {
     out.push(digit(x))
 }
 
-fn write_numbers(xs: &[u32], out: &mut Bytes) -> Result<(), Mem> {
+pub(crate) fn write_numbers(xs: &[u32], out: &mut Bytes) -> Result<(), Mem> {
     for x in xs {
         write_number(*x, out)?;
     }
     Ok(())
 }
 
-/// The variables that are said of a call.
-pub(crate) trait Said {
+// The variables that are said of a call.
+trait Said {
     fn write(&self, out: &mut Bytes) -> Result<(), Mem>;
 }
 
@@ -127,19 +123,100 @@ fn write_tree<C: Said + Drop>(e: &Exp<C>, out: &mut Bytes) -> Result<(), Mem> {
     }
 }
 
-// A tree as a text.
-fn written<C: Said + Drop>(alloc: Global, e: &Exp<C>) -> Result<Bytes, Mem> {
+// The places in the order of the variables' numbers: a register by its number, a slot by its number behind an `s`.
+fn write_places(places: &[Place], out: &mut Bytes) -> Result<(), Mem> {
+    for place in places {
+        match place {
+            Place::Reg(r) => write_number(*r as u32, out)?,
+            Place::Slot(j) => {
+                out.extend_from_slice(b" s")?;
+                write_number(*j, out)?;
+            }
+        }
+    }
+    Ok(())
+}
+
+// A line of a tree behind its name.
+fn write_line<C: Said + Drop>(name: &[u8], e: &Exp<C>, out: &mut Bytes) -> Result<(), Mem> {
+    out.extend_from_slice(name)?;
+    write_tree(e, out)?;
+    out.push(b'\n')
+}
+
+// Four lines: what is live after the calls of a body, where it saves, what its calls restore, and the places of its variables.
+fn write_body<const N: usize>(
+    b: &LiveBody<N>,
+    saved: &SavedBody<N>,
+    placed: &PlacedBody<N>,
+    out: &mut Bytes,
+) -> Result<(), Mem> {
+    write_line(b"live", &b.exp, out)?;
+    write_line(b"saves", &saved.exp, out)?;
+    write_line(b"restores", &placed.exp, out)?;
+    out.extend_from_slice(b"places")?;
+    write_places(placed.places.as_slice(), out)?;
+    out.push(b'\n')
+}
+
+// These lines of a body.
+fn shown<const N: usize>(
+    alloc: Global,
+    b: &LiveBody<N>,
+    saved: &SavedBody<N>,
+    placed: &PlacedBody<N>,
+) -> Result<Bytes, Mem> {
     let mut out = List::new(alloc);
-    write_tree(e, &mut out)?;
+    write_body(b, saved, placed, &mut out)?;
     Ok(out)
 }
 
-// Whether a tree has this text.
-pub(crate) fn is_written<C: Said + Drop>(
-    alloc: Global,
-    e: &Exp<C>,
-    text: &[u8],
-) -> Result<bool, Mem> {
-    let out = written(alloc, e)?;
-    Ok(out.as_slice() == text)
+// The lines of a text's last body, in sets of one word.
+fn by_one(alloc: Global, text: &[u8]) -> Result<Bytes, CoreError> {
+    let b = last_live::<1>(alloc, text)?;
+    let (saved, placed) = placed(alloc, &b)?;
+    Ok(shown(alloc, &b, &saved, &placed)?)
+}
+
+// The same in sets of four words.
+fn by_four(alloc: Global, text: &[u8]) -> Result<Bytes, CoreError> {
+    let b = last_live::<4>(alloc, text)?;
+    let (saved, placed) = placed(alloc, &b)?;
+    Ok(shown(alloc, &b, &saved, &placed)?)
+}
+
+// The same in sets of sixteen words.
+fn by_sixteen(alloc: Global, text: &[u8]) -> Result<Bytes, CoreError> {
+    let b = last_live::<16>(alloc, text)?;
+    let (saved, placed) = placed(alloc, &b)?;
+    Ok(shown(alloc, &b, &saved, &placed)?)
+}
+
+// The same in sets of so many words.
+fn shown_by(alloc: Global, words: u32, text: &[u8]) -> Result<Bytes, CoreError> {
+    match words {
+        1 => by_one(alloc, text),
+        4 => by_four(alloc, text),
+        _ => by_sixteen(alloc, text),
+    }
+}
+
+/// These lines are among those of a text's last body, in sets of so many words.
+pub(crate) fn check_shown(alloc: Global, words: u32, text: &str, lines: &str) -> Result<(), Fail> {
+    let out = shown_by(alloc, words, text.as_bytes())?;
+    let found = str::from_utf8(out.as_slice()).ok().ok_or("no text")?;
+    if found.contains(lines) {
+        return Ok(());
+    }
+    Err(Fail::new(format_args!("{text}, by {words}: {found}")))
+}
+
+/// Texts, each with some of the lines of its last body, in sets of each size.
+pub(crate) fn check_each(alloc: Global, rows: &[(&str, &str)]) -> Result<(), Fail> {
+    for (text, lines) in rows {
+        for words in [1, 4, 16] {
+            check_shown(alloc, words, text, lines)?;
+        }
+    }
+    Ok(())
 }

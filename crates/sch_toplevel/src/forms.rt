@@ -1,7 +1,8 @@
 //! The top-level forms of a text.
 
-ghost use Rattle.std.specs.Prelude.{◌≡◌, ◌++◌, map, IfOk, OnOk};
+ghost use Rattle.std.specs.Prelude.{◌≡◌, ◌+◌, ◌<◌, ◌++◌, map, IfOk, OnOk};
 ghost use Rattle.sch_read.specs.Parts.{offset};
+ghost use Rattle.sch_read.specs.Valid.{weight, weights};
 ghost use Rattle.sch_read.specs.Views.{tree_of, data_of};
 ghost use Rattle.sch_names.specs.Words.{keyword_of};
 ghost use Rattle.sch_names.specs.NamesView.{names_of};
@@ -14,7 +15,7 @@ use sch_form_bodies::row_define;
 use sch_names::{Globals, Keyword, Names, keyword_of};
 use sch_read::Datum;
 use sch_sketch::{Kind, Sketch, text};
-use sch_word::{List, Mem};
+use sch_word::{List, Mem, ToVisit};
 use std::alloc::Global;
 
 /// A form at top level (R5RS 5.1).
@@ -75,26 +76,36 @@ impl<'a> Form<'a> {
     }
 }
 
-/// Adds the forms that a datum at top level is.
-#[cycle(adding)]
-fn add_form<'a>(d: &'a Datum, forms: &mut List<Form<'a>>) -> Result<(), Mem>
-    ensures sketches { OnOk result (sketches_at forms.new ≡ sketches_at forms.old ++ map form_sketch (forms_of (tree_of d.now))) }
-    ensures places { OnOk result (places_at forms.new ≡ places_at forms.old ++ map offset (forms_of (tree_of d.now))) }
+/// Adds the form that a datum at top level is; the parts of a `begin` are put before what is left to visit.
+fn add_form<'a>(
+    d: &'a Datum,
+    left: &mut ToVisit<'a, Datum>,
+    forms: &mut List<Form<'a>>,
+) -> Result<(), Mem>
+    ensures sketches { OnOk result (sketches_at forms.new ++ map form_sketch (forms_in (data_of left.new))
+        ≡ sketches_at forms.old ++ map form_sketch (forms_of (tree_of d.now) ++ forms_in (data_of left.old))) }
+    ensures places { OnOk result (places_at forms.new ++ map offset (forms_in (data_of left.new))
+        ≡ places_at forms.old ++ map offset (forms_of (tree_of d.now) ++ forms_in (data_of left.old))) }
+    ensures less { OnOk result (weights (data_of left.new) < weight (tree_of d.now) + weights (data_of left.old)) }
 {
     match top_level(d) {
-        TopLevel::Begin(items) => add_forms(items, forms),
+        TopLevel::Begin(items) => left.enter(items),
         TopLevel::Form(form) => forms.push(form),
     }
 }
 
 /// Adds the forms that data at top level are.
-#[cycle(adding)]
-pub(crate) fn add_forms<'a>(items: &'a [Datum], forms: &mut List<Form<'a>>) -> Result<(), Mem>
+pub(crate) fn add_forms<'a>(
+    alloc: Global,
+    items: &'a [Datum],
+    forms: &mut List<Form<'a>>,
+) -> Result<(), Mem>
     ensures sketches { OnOk result (sketches_at forms.new ≡ sketches_at forms.old ++ map form_sketch (forms_in (data_of items.now))) }
     ensures places { OnOk result (places_at forms.new ≡ places_at forms.old ++ map offset (forms_in (data_of items.now))) }
 {
-    for d in items {
-        add_form(d, forms)?;
+    let mut left = ToVisit::new(alloc, items);
+    'each: while let Some(d) = left.next() {
+        add_form(d, &mut left, forms)?;
     }
     Ok(())
 }

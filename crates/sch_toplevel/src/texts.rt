@@ -90,7 +90,7 @@ pub fn read_text<'a>(alloc: Global, seen: &[&[u8]], items: &'a [Datum]) -> Resul
 {
     let room = Vec::with_capacity(alloc, items.len())?;
     let mut forms = List::from_vec(room);
-    add_forms(items, &mut forms)?;
+    add_forms(alloc, items, &mut forms)?;
     let places = places_of(alloc, forms.as_slice())?;
     let mut globals = defined_globals(alloc, seen, forms.as_slice())?;
     let mut fault = None;

@@ -102,3 +102,12 @@ drop_reversed xs n = go (nat_le n (length xs)) refl
 
 pub left_scope : (xs ys : List Bool) (n len less : ℕ) → len ≡ length xs → less ≡ len - n → ys ≡ take less xs → reverse ys ≡ drop n (reverse xs)
 left_scope xs ys n len less e h k = rw (k, h, e) (drop_reversed xs n)
+
+-- a stack on which marks stand is not empty
+pub none_bound : (f : ℕ → Bool) (a n : ℕ) (rest items : List Bool) → 0 < n → items ≡ [] → reverse items ≡ map f (numbers a n) ++ rest → ⊥
+none_bound f a zero rest items l e h = omega (arith, l)
+none_bound f a (suc n) rest items l e h = let k = rw e at h in cc
+
+pub none_marked : (test : ℕ → Bool) (n : ℕ) (rest items : List Bool) → 0 < n → items ≡ [] → reverse items ≡ marks_of n test rest → ⊥
+none_marked test zero rest items l e h = omega (arith, l)
+none_marked test (suc n) rest items l e h = let k = rw e at h in cc

@@ -27,7 +27,7 @@ fn close(count: usize, scope: &mut Vec<bool>, stack: &mut Vec<bool>) -> Result<(
     while left > 0 {
         left -= 1;
         let Some(mark) = scope.pop() else {
-            return Err(Mem);
+            return Ok(());
         };
         stack.push(mark)?;
     }

@@ -112,7 +112,7 @@ fn bind_assigned(count: usize, marks: &mut Vec<bool>, once: &mut Vec<bool>) -> R
     while left > 0 {
         left -= 1;
         let Some(mark) = marks.pop() else {
-            return Err(Mem);
+            return Ok(total);
         };
         total = plus(total, twice_if(mark));
         once.push(!mark)?;

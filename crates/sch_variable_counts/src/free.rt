@@ -5,7 +5,7 @@
 
 ghost use Rattle.std.specs.Prelude.{◌≡◌, ◌&&◌, [], nat_le, length, reverse, IfOk, OnOk};
 ghost use Rattle.sch_word.specs.trees.Shape.{max_free_variables};
-ghost use Rattle.sch_word.specs.trees.NumberSets.{has, insert, union};
+ghost use Rattle.sch_word.specs.trees.NumberSets.{union};
 ghost use Rattle.sch_lang.specs.Variables.{free, outside};
 ghost use Rattle.sch_lang.specs.View.{expression, expressions_of, lambdas_of};
 ghost use Rattle.sch_variable_counts.specs.Walked.{found, found_each, found_lambdas};
@@ -13,30 +13,10 @@ ghost use Rattle.sch_variable_counts.specs.Within.{has_few_free, each_procedure_
 
 use crate::lengths::{both, count, count_lambdas};
 use sch_lang::{Exp, Lambda};
-use sch_word::{List, Mem, is_in};
+use sch_word::{List, Mem, insert_number, insert_numbers};
 use std::alloc::Global;
 
 const MAX_FREE: usize = 1000;
-
-/// Puts a variable before others unless it is one of them.
-fn insert_variable(x: u32, xs: &mut Vec<u32>) -> Result<(), Mem>
-    ensures { OnOk result (reverse xs.new.items ≡ insert x (reverse xs.old.items)) }
-{
-    if !is_in(x, xs.as_slice()) {
-        xs.push(x)?;
-    }
-    Ok(())
-}
-
-/// Puts each of some variables before others.
-fn insert_each(more: &[u32], xs: &mut Vec<u32>) -> Result<(), Mem>
-    ensures { OnOk result (reverse xs.new.items ≡ union (reverse more.now) (reverse xs.old.items)) }
-{
-    for x in more {
-        insert_variable(*x, xs)?;
-    }
-    Ok(())
-}
 
 /// The same, where each of those put before others stands once: before none they are as they are.
 fn insert_list(more: Vec<u32>, xs: &mut Vec<u32>) -> Result<(), Mem>
@@ -47,7 +27,7 @@ fn insert_list(more: Vec<u32>, xs: &mut Vec<u32>) -> Result<(), Mem>
         *xs = more;
         return Ok(());
     }
-    insert_each(more.as_slice(), xs)
+    insert_numbers(more.as_slice(), xs)
 }
 
 /// Variables as they are seen from outside a binding of n of them.
@@ -79,7 +59,7 @@ pub(crate) fn find_procedure(
     let few = find(alloc, e, &mut inside)?;
     let own = outside_group(alloc, formals as usize, inside.as_slice())?;
     let outer = own.as_slice();
-    insert_each(outer, xs)?;
+    insert_numbers(outer, xs)?;
     let here = outer.len() <= MAX_FREE;
     Ok(both(here, few))
 }
@@ -94,12 +74,12 @@ fn find(alloc: Global, e: &Exp, xs: &mut Vec<u32>) -> Result<bool, Mem>
     match e {
         Exp::Constant(_) | Exp::Literal(_) | Exp::Global(_) => Ok(true),
         Exp::Local(k) => {
-            insert_variable(*k, xs)?;
+            insert_number(*k, xs)?;
             Ok(true)
         }
         Exp::SetLocal(k, value) => {
             let few = find(alloc, value, xs)?;
-            insert_variable(*k, xs)?;
+            insert_number(*k, xs)?;
             Ok(few)
         }
         Exp::SetGlobal(_, value) | Exp::Define(_, value) => find(alloc, value, xs),

@@ -7,6 +7,7 @@ pub mod Shaped
 pub mod Similar
 pub mod Steady
 pub mod Walking
+pub mod Visits
 pub mod worked
 pub mod facts
 pub mod values

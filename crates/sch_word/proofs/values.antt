@@ -1,3 +1,5 @@
 pub mod Fixnums
+pub mod LiteralEffort
 pub mod LiteralObjects
+pub mod LiteralSteps
 pub mod StopStatus

@@ -5,3 +5,4 @@ mod CoveredRows
 mod TypeRows
 mod WeightRows
 mod RegisterRows
+mod OrderRows

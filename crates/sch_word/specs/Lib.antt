@@ -1,3 +1,4 @@
+pub mod ToVisit
 pub mod formers
 pub mod trees
 pub mod values

@@ -1,6 +1,7 @@
 pub mod Bindings
 pub mod BoundVariables
 pub mod Growth
+pub mod InOrder
 pub mod NumberSets
 pub mod Shape
 pub mod Covered

@@ -1,9 +1,14 @@
 pub mod CellBytes
 pub mod Checked
+pub mod Effort
 pub mod Fixnum
+pub mod LiteralParts
 pub mod LiteralView
 pub mod Literals
+pub mod MadeView
 pub mod Memory
+pub mod Options
+pub mod Places
 pub mod PrimitiveRows
 pub mod Primitives
 pub mod Put

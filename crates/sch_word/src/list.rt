@@ -1,6 +1,6 @@
 //! Growing lists.
 
-ghost use Rattle.std.specs.Prelude.{◌≡◌, [], ◌∷◌, ◌++◌, ◌<◌, length, slice_get, take, ◌↔◌, IsTrue, IfOk, OnOk, OnErr, OnSome, MatchOption};
+ghost use Rattle.std.specs.Prelude.{◌≡◌, [], ◌∷◌, ◌++◌, ◌<◌, length, reverse, slice_get, take, ◌↔◌, IsTrue, IfOk, OnOk, OnErr, OnSome, MatchOption};
 ghost use Rattle.std.specs.Option.{option_copied};
 
 use crate::mem::Mem;
@@ -86,6 +86,15 @@ impl<T> List<T> {
         ensures { MatchOption result ((self.old ≡ []) × (self.new ≡ [])) (λ last. self.old ≡ self.new ++ last ∷ []) }
     {
         self.items.pop()
+    }
+
+    /// The same elements, the last one first.
+    pub fn reversed(self) -> List<T>
+        ensures { result ≡ reverse self }
+    {
+        let List { mut items } = self;
+        items.reverse();
+        List { items }
     }
 }
 

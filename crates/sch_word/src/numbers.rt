@@ -1,7 +1,7 @@
-//! Numbers: whether one is in a list, and sums that a type has.
+//! Numbers: whether one is in a list, finite sets of them in lists, sums that a type has, and counts in 32 bits.
 
-ghost use Rattle.std.specs.Prelude.{◌≡◌, ◌+◌, IfOk};
-ghost use Rattle.sch_word.specs.trees.NumberSets.{has};
+ghost use Rattle.std.specs.Prelude.{◌≡◌, ◌+◌, reverse, IfOk, OnOk};
+ghost use Rattle.sch_word.specs.trees.NumberSets.{has, insert, union};
 
 use crate::mem::Mem;
 
@@ -15,6 +15,26 @@ pub fn is_in(x: u32, xs: &[u32]) -> bool
         }
     }
     false
+}
+
+/// Puts a number before others unless it is one of them.
+pub fn insert_number(x: u32, xs: &mut Vec<u32>) -> Result<(), Mem>
+    ensures { OnOk result (reverse xs.new.items ≡ insert x (reverse xs.old.items)) }
+{
+    if !is_in(x, xs.as_slice()) {
+        xs.push(x)?;
+    }
+    Ok(())
+}
+
+/// Puts each of some numbers before others.
+pub fn insert_numbers(more: &[u32], xs: &mut Vec<u32>) -> Result<(), Mem>
+    ensures { OnOk result (reverse xs.new.items ≡ union (reverse more.now) (reverse xs.old.items)) }
+{
+    for x in more {
+        insert_number(*x, xs)?;
+    }
+    Ok(())
 }
 
 /// The sum of two numbers. One past the numbers of 32 bits is out of memory.
@@ -34,5 +54,15 @@ pub fn add_counts(a: usize, b: usize) -> Result<usize, Mem>
     match a.checked_add(b) {
         Some(n) => Ok(n),
         None => Err(Mem),
+    }
+}
+
+/// A count as a number of 32 bits. A larger one is out of memory.
+pub fn number_of_count(n: usize) -> Result<u32, Mem>
+    ensures { IfOk result (λ m. m ≡ n) }
+{
+    match u32::try_from(n) {
+        Ok(m) => Ok(m),
+        Err(_) => Err(Mem),
     }
 }

@@ -1,11 +1,15 @@
 //! What stands ready when a program starts, the same in every language, and copies of it.
 
-ghost use Rattle.std.specs.Prelude.{◌≡◌, IfOk};
+ghost use Rattle.std.specs.Prelude.{◌≡◌, ◌++◌, IfOk, OnOk};
+ghost use Rattle.sch_word.specs.values.LiteralParts.{parts, AreReady};
 ghost use Rattle.sch_word.specs.values.LiteralView.{literal, literals_of};
+ghost use Rattle.sch_word.specs.values.MadeView.{made};
 ghost use Rattle.sch_word.specs.values.StaticsView.{statics, statics_of};
 
 use crate::list::{Bytes, List};
 use crate::literal::Lit;
+use crate::literal_order::literals_in_order;
+use crate::made_literals::MadeLiterals;
 use crate::mem::Mem;
 use std::alloc::Global;
 
@@ -56,9 +60,11 @@ fn copy_names(alloc: Global, names: &List<Bytes>) -> Result<List<Bytes>, Mem>
     Ok(all)
 }
 
-#[cycle(copying)]
-fn copy_literal(alloc: Global, l: &Lit) -> Result<Lit, Mem>
-    ensures { IfOk result (λ made. literal made ≡ literal l.now) }
+// A copy of a literal, of the copies of its parts. Those are taken away from the front of the copies.
+fn copy_literal(alloc: Global, l: &Lit, copies: &mut MadeLiterals) -> Result<Lit, Mem>
+    requires { AreReady (literal l.now) (made copies.old) }
+    ensures same { IfOk result (λ copy. literal copy ≡ literal l.now) }
+    ensures taken { OnOk result (made copies.old ≡ parts (literal l.now) ++ made copies.new) }
 {
     match l {
         Lit::Constant(c) => Ok(Lit::Constant(*c)),
@@ -66,25 +72,26 @@ fn copy_literal(alloc: Global, l: &Lit) -> Result<Lit, Mem>
             let bytes = List::from_slice(alloc, bytes.as_slice())?;
             Ok(Lit::Text(bytes))
         }
-        Lit::List(ls, tail) => {
-            let ls = copy_literals(alloc, ls)?;
-            let tail = Box::new(alloc, copy_literal(alloc, tail)?)?;
-            Ok(Lit::List(ls, tail))
+        Lit::List(items, _) => {
+            let items = copies.take(items.len())?;
+            let tail = Box::new(alloc, copies.pop())?;
+            Ok(Lit::List(items, tail))
         }
-        Lit::Vector(ls) => {
-            let ls = copy_literals(alloc, ls)?;
-            Ok(Lit::Vector(ls))
+        Lit::Vector(items) => {
+            let items = copies.take(items.len())?;
+            Ok(Lit::Vector(items))
         }
     }
 }
 
-#[cycle(copying)]
 fn copy_literals(alloc: Global, ls: &List<Lit>) -> Result<List<Lit>, Mem>
-    ensures { IfOk result (λ made. literals_of made ≡ literals_of ls.now) }
+    ensures { IfOk result (λ copies. literals_of copies ≡ literals_of ls.now) }
 {
-    let mut all = List::new(alloc);
-    for l in ls.as_slice() {
-        all.push(copy_literal(alloc, l)?)?;
+    let mut order = literals_in_order(alloc, ls.as_slice())?;
+    let mut copies = MadeLiterals::new(alloc);
+    'each: while let Some(l) = order.pop() {
+        let copy = copy_literal(alloc, l, &mut copies)?;
+        copies.push(copy)?;
     }
-    Ok(all)
+    copies.take(ls.len())
 }

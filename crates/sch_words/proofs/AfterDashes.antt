@@ -4,6 +4,7 @@ use Rattle.std.specs.Prelude.{option_and_then, ◌&&◌}
 use Rattle.std.specs.Str.{bytes_eq}
 use Rattle.clap.specs.Words.{Row}
 use Rattle.clap.specs.Walk.{Walk, arg_by_id, idle, walked}
+use Rattle.sch_word.proofs.facts.Booleans.{and_false}
 use Rattle.sch_words.specs.GivenTexts.{Text}
 use Rattle.sch_words.specs.PlainReading.{Given, positionals_in}
 use Rattle.sch_words.proofs.GivenInTurn.{take_all, take_all_first, take_one}
@@ -32,10 +33,6 @@ pub data Free : ℕ → List Text → Type 0 where
   two : Free 2 (codes "name" ∷ codes "second" ∷ [])
   one : Free 3 (codes "second" ∷ [])
   none : Free 4 []
-
-pub and_false : (b : Bool) → (b && false) ≡ false
-and_false true = refl
-and_false false = refl
 
 pub never : {X Y : Type 0} (o : Option X) (nothing : Option Y) → nothing ≡ None → nothing ≡ option_and_then (λ x. nothing) o
 never None nothing e = e

@@ -10,7 +10,8 @@ use Rattle.clap.specs.Walk.{Walk, arg_by_id, bundle_met, option, used, used_by_i
 use Rattle.clap.specs.Faults.{flags_fault, use_fault}
 use Rattle.sch_words.specs.GivenTexts.{Text}
 use Rattle.sch_words.specs.PlainReading.{Given}
-use Rattle.sch_words.proofs.AfterDashes.{Free, and_false, behind, between, never, none, one, three, trailing_settles, two}
+use Rattle.sch_words.proofs.AfterDashes.{Free, behind, between, never, none, one, three, trailing_settles, two}
+use Rattle.sch_word.proofs.facts.Booleans.{and_false}
 use Rattle.sch_words.proofs.GivenInTurn.{take_one}
 use Rattle.sch_words.proofs.GivenRows.{pending_takes, row_of, rule_for}
 use Rattle.sch_words.proofs.OneWalk.{passing, passing_or_else, run, top}

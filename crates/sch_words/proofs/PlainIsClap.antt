@@ -8,7 +8,8 @@ use Rattle.clap.specs.Faults.{flags_fault, use_fault}
 use Rattle.sch_words.specs.GivenTexts.{Text}
 use Rattle.sch_words.specs.PlainReading.{Given, are_once, given_in, look_of, option, plain, plain_reading, texts_given}
 use Rattle.sch_words.specs.SimpleCommand.{clap_reading, texts_of_rows}
-use Rattle.sch_words.proofs.AfterDashes.{Free, and_false, between, none, one, three, trailing_agrees, two}
+use Rattle.sch_words.proofs.AfterDashes.{Free, between, none, one, three, trailing_agrees, two}
+use Rattle.sch_word.proofs.facts.Booleans.{and_false}
 use Rattle.sch_words.proofs.GivenInTurn.{take_all, take_all_first, take_each_from_none}
 use Rattle.sch_words.proofs.GivenRows.{row_of, rule_for, texts_in_rows, used_takes}
 use Rattle.sch_words.proofs.OneWalk.{clap_reading_run, run, top}

@@ -15,6 +15,7 @@ use sch_control::Application;
 use sch_frames::Instruction;
 use sch_word::{
     ARGUMENT_REGISTERS, CLOSURE_REGISTER, LINK_REGISTER, MarkKind, Mem, Place, add_numbers,
+    number_of_count,
 };
 use std::alloc::Global;
 
@@ -72,16 +73,6 @@ pub fn target(tail: bool, limit: u32, argument: u32) -> Result<Place, Mem>
     operand_target(tail, limit, argument - 1)
 }
 
-/// A number of 32 bits; one past them is out of memory.
-fn short(n: usize) -> Result<u32, Mem>
-    ensures { IfOk result (λ m. m ≡ n) }
-{
-    match u32::try_from(n) {
-        Ok(m) => Ok(m),
-        Err(_) => Err(Mem),
-    }
-}
-
 /// The moves of a call, and how many operands it has.
 fn prepare<P: VariablePlaces>(
     alloc: Global,
@@ -95,7 +86,7 @@ fn prepare<P: VariablePlaces>(
     ensures labels { OnOk result (out.new.labels ≡ out.old.labels) }
     ensures count { IfOk result (λ n. n ≡ length a.now.operands) }
 {
-    let count = short(a.operands.len())?;
+    let count = number_of_count(a.operands.len())?;
     let moves = places.moves(alloc, tail, a)?;
     write_moves(places.limit(), moves, out)?;
     Ok(count)

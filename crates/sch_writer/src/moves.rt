@@ -3,7 +3,7 @@
 ghost use Rattle.std.specs.Prelude.{◌≡◌, ◌∷◌, OnOk};
 ghost use Rattle.sch_control.specs.declared.operation.Operation.TheVariants as operation;
 ghost use Rattle.sch_frames.specs.declared.instruction.Instruction.TheVariants.{Do};
-ghost use Rattle.sch_frames.specs.Meaning.{same_place};
+ghost use Rattle.sch_word.specs.values.Places.{same_place};
 ghost use Rattle.sch_layout.specs.BodyLayout.{is_direct, move_all, move_into, move_mark, under, writing, Writes};
 ghost use Rattle.sch_writer.specs.View.{move_of, moves_of};
 

@@ -1,19 +1,18 @@
 -- An order in which some parts come first gives the values of all parts, where the others change nothing.
-use Rattle.std.proofs.Common.{◌≡◌, ℕ, zero, suc, ◌+◌, ◌<◌, ◌≤◌, Bool, true, false, not, List, [], ◌∷◌, ◌++◌, length, Some, refl, sym, ap, ◌∙◌, arith}
+use Rattle.std.proofs.Common.{◌≡◌, ℕ, zero, suc, ◌+◌, ◌<◌, Bool, true, false, not, List, [], ◌∷◌, ◌++◌, length, Some, refl, sym, ap, ◌∙◌, arith}
 use Rattle.std.specs.Prelude.{slice_get, slice_set, nat_eq, nat_lt, ◌||◌}
-use Rattle.std.specs.List.{list_all}
 use Rattle.std.proofs.lemmas.Bool.{eq-eqb, eqb-true, eqb-false, ltb-true, ltb-false}
 use Rattle.std.proofs.lemmas.List.{length-set}
 use Rattle.std.proofs.lemmas.Option.{slice_get_past, slice_get_within}
 use Rattle.sch_word.specs.values.Values.{Value, unspecified}
 use Rattle.sch_word.specs.trees.NumberSets.{has}
-use Rattle.sch_word.specs.trees.Bindings.{numbers}
 use Rattle.sch_word.specs.runs.Computation.{Outcome, gives, at_place, in_order}
 use Rattle.sch_word.specs.runs.Orders.{is_permutation}
 use Rattle.sch_word.proofs.facts.Lists.{set_here, set_elsewhere}
 use Rattle.sch_word.proofs.facts.Booleans.{and_left, and_right}
-use Rattle.sch_word.proofs.facts.Occurrences.{times, times_append, times_has, times_none}
+use Rattle.sch_word.proofs.facts.Occurrences.{times_append, times_has, times_none}
 use Rattle.sch_control.specs.Fits.{begins_with}
+use Rattle.sch_control.proofs.NumberRows.{permutation_times}
 
 -- ## Lists
 
@@ -62,26 +61,6 @@ in_any_order (p ∷ rest) cs vs us s l g h = rw a.is (in_any_order rest cs (slic
     next q true e i = let m : q ≡ p = eqb-true q p e in rw m (at (nat_lt p (length us)) refl)
     next q false e i = set_elsewhere vs p q a.value (eqb-false q p e) ∙ h q (rw e i)
 
--- ## Permutations
-
-pub each_number : (f : ℕ → Bool) (x n k : ℕ) → list_all f (numbers x n) ≡ true → x ≤ k → k < x + n → f k ≡ true
-each_number f x zero k h l u = absurd (omega (arith, l, u))
-each_number f x (suc n) k h l u = go (λ l. each_number f (suc x) n k (and_right (f x) (list_all f (numbers (suc x) n)) h) l (omega (arith, u))) (nat_eq k x) refl
-  where
-    go : (suc x ≤ k → f k ≡ true) → (b : Bool) → nat_eq k x ≡ b → f k ≡ true
-    go more true e = let m : k ≡ x = eqb-true k x e in rw m (and_left (f x) (list_all f (numbers (suc x) n)) h)
-    go more false e = let m = eqb-false k x e in more (above (nat_lt x k) refl m)
-      where
-        above : (c : Bool) → nat_lt x k ≡ c → (k ≡ x → ⊥) → suc x ≤ k
-        above true e m = ltb-true x k e
-        above false e m = absurd (m (let g = ltb-false x k e in omega (arith, g, l)))
-
--- each place of a permutation stands once
-stands_once : (width : ℕ) (order : List ℕ) (k : ℕ) → is_permutation width order ≡ true → k < width → times k order ≡ 1
-stands_once width order k h l =
-    eqb-true (times k order) 1 (each_number (λ k. nat_eq (times k order) 1) 0 width k (and_right (nat_eq (length order) width) (list_all (λ k. nat_eq (times k order) 1) (numbers 0 width)) h)
-    (omega arith) (omega (arith, l)))
-
 -- ## Parts
 
 -- What is known of some computations and of values for them: a simple part gives its value and changes nothing,
@@ -121,14 +100,14 @@ module _ {S : Type 0} {s : S} where
     where
       complex : (p : ℕ) → has p rest ≡ true → slice_get simple p ≡ Some false → ⊥
       complex p i e =
-          let once = stands_once (length simple) (first ++ rest) p permutation (slice_get_within simple p false e) in
+          let once = permutation_times (length simple) (first ++ rest) permutation p (slice_get_within simple p false e) in
           let a = times_has p first (places p false e) in
           let b = times_has p rest i in
           omega (arith, once, a, b, times_append p first rest)
 
       missing : (q : ℕ) → has q rest ≡ false → slice_get simple q ≡ Some true → ⊥
       missing q i e =
-          let once = stands_once (length simple) (first ++ rest) q permutation (slice_get_within simple q true e) in
+          let once = permutation_times (length simple) (first ++ rest) permutation q (slice_get_within simple q true e) in
           let a = times_none q first (places q true e) in
           let b = times_none q rest i in
           omega (arith, once, a, b, times_append q first rest)

@@ -25,6 +25,7 @@ use Rattle.sch_flat.specs.Meaning.{Closure, value_in, values_in, and_values, clo
 use Rattle.sch_flat.specs.Valid.{is_known, is_content, is_made, has_fields, cells_scope}
 use Rattle.sch_word.specs.declared.mark.MarkKind.{MarkKind}
 use Rattle.sch_word.specs.declared.mark.MarkKind.TheVariants.{Call, Return, Tail}
+use Rattle.sch_word.specs.values.Options.{when_some}
 use Rattle.sch_control.specs.declared.operation.Atom.TheVariants as atom
 use Rattle.sch_control.specs.declared.operation.Operand.TheVariants as operand
 use Rattle.sch_control.specs.declared.operation.Member.{Member}
@@ -721,7 +722,7 @@ module _ (a : Setting) (start : State Closure) (fields : ℕ) (enter : from.Ente
       read (operations.atom_value environment s.store x) h
     where
       read : (v : Option Value)
-          → Same a start o (to.on_ending marks (operations.with_some v (λ v. Some (gives v (state_of a.starts s)))) (λ v w. result rest environment saved w next))
+          → Same a start o (to.on_ending marks (when_some v (λ v. Some (gives v (state_of a.starts s)))) (λ v w. result rest environment saved w next))
           → Same a start o (result rest environment saved (world s marks) next)
       read None h = absurd (never o h)
       read (Some v) h = h
@@ -729,7 +730,7 @@ module _ (a : Setting) (start : State Closure) (fields : ℕ) (enter : from.Ente
       read (operations.field (environment v) k (images a.starts s.procedures)) h
     where
       read : (v : Option Value)
-          → Same a start o (to.on_ending marks (operations.with_some v (λ v. Some (gives v (state_of a.starts s)))) (λ v w. result rest environment saved w next))
+          → Same a start o (to.on_ending marks (when_some v (λ v. Some (gives v (state_of a.starts s)))) (λ v w. result rest environment saved w next))
           → Same a start o (result rest environment saved (world s marks) next)
       read None h = absurd (never o h)
       read (Some v) h = h

@@ -18,8 +18,8 @@ use Rattle.sch_flat.specs.Tree.{Tree, Trees, Body, Source, constant, literal, va
 use Rattle.sch_flat.specs.Measures.{over_bodies, sites_of}
 use Rattle.sch_flat.specs.Valid.{sited}
 use Rattle.sch_control.specs.Fits.{begins_with, fits}
+use Rattle.sch_control.proofs.NumberRows.{each_number}
 use Rattle.sch_anf_laws.specs.Normal.{bound_rows, bound_rows_each, bound_rows_bodies, bound_rows_source, bound_parts}
-use Rattle.sch_anf_laws.proofs.runs.Orders.{each_number}
 use Rattle.sch_anf_laws.proofs.runs.Fine.{FitsSite}
 use Rattle.sch_anf_laws.proofs.runs.Ready.{Every, every_of, sites_in, sites_in_each}
 

@@ -4,13 +4,12 @@ use Rattle.std.specs.Prelude.{nat_lt, nat_le, ◌&&◌}
 use Rattle.std.specs.List.{list_all}
 use Rattle.std.proofs.lemmas.Bool.{le-leb, lt-ltb}
 use Rattle.sch_word.specs.trees.Bindings.{numbers}
-use Rattle.sch_word.proofs.facts.NumberSets.{below_numbers}
 use Rattle.sch_flat.specs.Tree as flat
 use Rattle.sch_flat.specs.Tree.{Tree, Trees, Made, NewCell, constant, literal, variable, global, set_global, define, branch, sequence, bind, make_closure, fix_closures, call, operation, new_cells, cell_get, cell_set, no_trees, and_tree, count}
 use Rattle.sch_flat.specs.Measures.{one_unless_simple, variables, variables_each, variables_operands, variables_parts}
 use Rattle.sch_control.specs.Tree as tree
 use Rattle.sch_control.specs.Tree.{Expression}
-use Rattle.sch_control.specs.Valid.{bound_in, member_variables, without_repeats}
+use Rattle.sch_control.specs.Valid.{bound_in, member_variables}
 use Rattle.sch_anf_laws.specs.Normal.{Scope, is_simple, unless_atom, ends_in_call, part_binds, binds, binds_parts, operands_bind, inits_bind, finished, called, bound_unless, normal, normal_parts, with_operands, with_inits, with_new_cells, members_of}
 use Rattle.sch_anf_laws.proofs.DroppedAtoms.{dropped_as, of_atom}
 
@@ -214,7 +213,3 @@ mutual
 pub within_numbers : (x n low high : ℕ) → low ≤ x → x + n ≤ high → list_all (λ y. nat_le low y && nat_lt y high) (numbers x n) ≡ true
 within_numbers x zero low high l h = refl
 within_numbers x (suc n) low high l h = rw (le-leb low x l, lt-ltb x high (omega (arith, h))) (within_numbers (suc x) n low high (omega (arith, l)) (omega (arith, h)))
-
-pub numbers_once : (x n : ℕ) → without_repeats (numbers x n) ≡ true
-numbers_once x zero = refl
-numbers_once x (suc n) = rw (below_numbers x (suc x) n (omega arith)) (numbers_once (suc x) n)

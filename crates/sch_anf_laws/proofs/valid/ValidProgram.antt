@@ -21,6 +21,7 @@ use Rattle.sch_control.specs.BoundParts as control_parts
 use Rattle.sch_control.specs.BoundParts.{parts_in_turn}
 use Rattle.sch_control.specs.Valid as to
 use Rattle.sch_control.specs.Valid.{Names, entries_of, names_of, sites_of_each, enters, without_fields, without_repeats, code_known}
+use Rattle.sch_control.proofs.NumberLists.{below_from, once_from}
 use Rattle.sch_anf_laws.specs.Normal as normal
 use Rattle.sch_anf_laws.specs.Normal.{is_simple, new_label, procedure_code, form_code, normal_bodies, normal_source, bound_places, operator_place, bound_rows, bound_rows_each, bound_rows_bodies, bound_rows_source}
 use Rattle.sch_anf_laws.proofs.runs.Fine.{bound_below}
@@ -31,7 +32,6 @@ use Rattle.sch_anf_laws.proofs.runs.Sites.{keyed_times, rows_listed, width_withi
 use Rattle.sch_anf_laws.proofs.valid.Parts.{node_good, joint_source, entry_for}
 use Rattle.sch_anf_laws.proofs.valid.PartsInTurn.{Listed, normal_turns, procedures_turn}
 use Rattle.sch_anf_laws.proofs.valid.SitesKept.{sites_in, sites_in_each, kept, fewer, fewer_each}
-use Rattle.sch_anf_laws.proofs.valid.Numbered.{numbers_once}
 use Rattle.sch_anf_laws.proofs.valid.ValidBodies.{Sound, procedure_sound, form_sound}
 
 -- ## Lists
@@ -169,13 +169,6 @@ each_there all before (x ∷ xs) e = (
 abbrev Good : ℕ → List ℕ → Type 0
 Good width parts = (list_all (λ k. nat_lt k width) parts ≡ true) × (without_repeats parts ≡ true)
 
-row_numbers : (x n width : ℕ) → x + n ≤ width → list_all (λ k. nat_lt k width) (numbers x n) ≡ true
-row_numbers x zero width l = refl
-row_numbers x (suc n) width l = and_of (nat_lt x width) _ (lt-ltb x width (omega (arith, l))) (row_numbers (suc x) n width (omega (arith, l)))
-
-row_once : (x n : ℕ) → without_repeats (numbers x n) ≡ true
-row_once x n = numbers_once x n
-
 places_few : (es : Trees) (place width : ℕ) (last : List ℕ) → place + count es ≤ width → list_all (λ k. nat_lt k width) last ≡ true → list_all (λ k. nat_lt k width) (bound_places place es last) ≡ true
 places_few no_trees place width last l h = h
 places_few (and_tree e es) place width last l h = go (is_simple e) (places_few es (suc place) width last (omega (arith, l)) h)
@@ -231,7 +224,7 @@ module _ (listed : List ℕ) where
         (rows_good z (every_right Width (ready.sites_in y) (ready.sites_in z) k)))
     rows_good (sequence es) h = rows_good_each es h
     rows_good (bind site first es e) h = (
-      row_good site (count es) (numbers 0 (count es)) h.0 (row_numbers 0 (count es) (count es) (omega arith), row_once 0 (count es)),
+      row_good site (count es) (numbers 0 (count es)) h.0 (below_from 0 (count es) (count es) (omega arith), once_from 0 (count es)),
       every_append RowGood (bound_rows_each es) (bound_rows e) (rows_good_each es (every_left Width (ready.sites_in_each es) (ready.sites_in e) h.1))
           (rows_good e (every_right Width (ready.sites_in_each es) (ready.sites_in e) h.1)),
     )

@@ -10,10 +10,12 @@ use Rattle.sch_cells.specs.Variables.{without_each, cells_bound, cells_used, fre
 use Rattle.sch_cells.specs.Clear.{In}
 use Rattle.sch_assign.specs.Converted.{cells_for, empty_cells, wrapped, reading, filling, converted, converted_each, converted_lambdas, Low, AllAre, Right, RightEach, RightLambdas}
 use Rattle.sch_assign.proofs.Lookups.{Where, inside, outside, where_is, in_outside, low_next, low_first, all_next, all_first, no_cells}
-use Rattle.sch_assign.proofs.Moved.{Under, shift, moved, group_moved, lambda_moved}
+use Rattle.sch_assign.proofs.Moved.{shift, moved, group_moved, lambda_moved}
 use Rattle.sch_assign.proofs.Sets.{drop, drop_union, drop_map, drop_twice, without_is, each_is, distinct_union, distinct_drop, union_nothing}
 use Rattle.sch_word.proofs.facts.NumberTests.{differ, same_test}
 use Rattle.sch_word.proofs.facts.Lists.{map_length}
+use Rattle.sch_word.proofs.facts.NumberSets.{Under, unless_under, union_under}
+use Rattle.sch_word.proofs.facts.Booleans.{or_right}
 
 -- ## Each free variable once
 
@@ -48,17 +50,9 @@ mutual
 
 -- ## Numbers below n
 
-under_unless : (b : Bool) (x : ℕ) (xs : List ℕ) (n : ℕ) → x < n → Under xs n → Under (unless b x xs) n
-under_unless true x xs n l h = h
-under_unless false x xs n l h = (l, h)
-
-under_union : (xs ys : List ℕ) (n : ℕ) → Under xs n → Under ys n → Under (union xs ys) n
-under_union [] ys n g h = h
-under_union (x ∷ xs) ys n g h = under_unless (has x (union xs ys)) x (union xs ys) n g.0 (under_union xs ys n g.1 h)
-
 under_drop : (p : ℕ → Bool) (xs : List ℕ) (n : ℕ) → Under xs n → Under (drop p xs) n
 under_drop p [] n h = tt
-under_drop p (x ∷ xs) n h = under_unless (p x) x (drop p xs) n h.0 (under_drop p xs n h.1)
+under_drop p (x ∷ xs) n h = unless_under (p x) x (drop p xs) n h.0 (under_drop p xs n h.1)
 
 under_without : (x m : ℕ) (xs : List ℕ) (n : ℕ) → Under xs n → Under (without x m xs) n
 under_without x m xs n h = rw (without_is x m xs) (under_drop (λ z. has z (numbers x m)) xs n h)
@@ -93,25 +87,25 @@ module _ (has_cell : ℕ → Bool) (n : ℕ) where
     free_under (literal k) S r h = tt
     free_under (variable x) S r h = (h.at x r, tt)
     free_under (global g) S r h = tt
-    free_under (set_variable x e) S r h = under_union (x ∷ []) (free e) n (h.at x r.1, tt) (free_under e S r.2 h)
+    free_under (set_variable x e) S r h = union_under (x ∷ []) (free e) n (h.at x r.1, tt) (free_under e S r.2 h)
     free_under (set_global g e) S r h = free_under e S r h
     free_under (define g e) S r h = free_under e S r h
     free_under (branch a b c) S r h =
-        under_union (free a) (union (free b) (free c)) n (free_under a S r.0 h) (under_union (free b) (free c) n (free_under b S r.1 h) (free_under c S r.2 h))
+        union_under (free a) (union (free b) (free c)) n (free_under a S r.0 h) (union_under (free b) (free c) n (free_under b S r.1 h) (free_under c S r.2 h))
     free_under (sequence es) S r h = each_under es S r h
     free_under (bind site x es e) S r h =
         let m = count es in
-        under_union (free_each es) (without x m (free e)) n (each_under es S r.0 h) (under_without x m (free e) n (free_under e (scope_with x m S) r.3 (low_with x m S r.2 h)))
+        union_under (free_each es) (without x m (free e)) n (each_under es S r.0 h) (under_without x m (free e) n (free_under e (scope_with x m S) r.3 (low_with x m S r.2 h)))
     free_under (fix x ls e) S r h =
         let m = count_lambdas ls in
         let g = low_with x m S r.1 h in
-        under_without x m (union (free_lambdas ls) (free e)) n (under_union (free_lambdas ls) (free e) n (lambdas_under ls (scope_with x m S) r.2 g) (free_under e (scope_with x m S) r.3 g))
+        under_without x m (union (free_lambdas ls) (free e)) n (union_under (free_lambdas ls) (free e) n (lambdas_under ls (scope_with x m S) r.2 g) (free_under e (scope_with x m S) r.3 g))
     free_under (letrec site x es e) S r h =
         let m = count es in
         let g = low_with x m S r.1 h in
-        under_without x m (union (free_each es) (free e)) n (under_union (free_each es) (free e) n (each_under es (scope_with x m S) r.2 g) (free_under e (scope_with x m S) r.3 g))
+        under_without x m (union (free_each es) (free e)) n (union_under (free_each es) (free e) n (each_under es (scope_with x m S) r.2 g) (free_under e (scope_with x m S) r.3 g))
     free_under (lambda name x m rest e) S r h = under_without x m (free e) n (free_under e (scope_with x m S) r.2 (low_with x m S r.1 h))
-    free_under (call site spread f es) S r h = under_union (free f) (free_each es) n (free_under f S r.0 h) (each_under es S r.1 h)
+    free_under (call site spread f es) S r h = union_under (free f) (free_each es) n (free_under f S r.0 h) (each_under es S r.1 h)
     free_under (operation site which es) S r h = each_under es S r h
     free_under (new_cells cs e) S r h = absurd r
     free_under (cell_get x) S r h = absurd r
@@ -119,12 +113,12 @@ module _ (has_cell : ℕ → Bool) (n : ℕ) where
 
     pub each_under : (es : Trees) (S : List ℕ) → RightEach has_cell n es S → AllLow S → Under (free_each es) n
     each_under no_trees S r h = tt
-    each_under (and_tree e es) S r h = under_union (free e) (free_each es) n (free_under e S r.0 h) (each_under es S r.1 h)
+    each_under (and_tree e es) S r h = union_under (free e) (free_each es) n (free_under e S r.0 h) (each_under es S r.1 h)
 
     pub lambdas_under : (ls : Lambdas) (S : List ℕ) → RightLambdas has_cell n ls S → AllLow S → Under (free_lambdas ls) n
     lambdas_under no_lambdas S r h = tt
     lambdas_under (and_lambda name x m rest e ls) S r h =
-        under_union (without x m (free e)) (free_lambdas ls) n (under_without x m (free e) n (free_under e (scope_with x m S) r.0.2 (low_with x m S r.0.1 h))) (lambdas_under ls S r.1 h)
+        union_under (without x m (free e)) (free_lambdas ls) n (under_without x m (free e) n (free_under e (scope_with x m S) r.0.2 (low_with x m S r.0.1 h))) (lambdas_under ls S r.1 h)
 
   -- ## Moved sets
 
@@ -144,7 +138,7 @@ module _ (has_cell : ℕ → Bool) (n : ℕ) where
   moved_union : (xs ys : List ℕ) → Under xs n → Under ys n → union (map (moved has_cell n) xs) (map (moved has_cell n) ys) ≡ map (moved has_cell n) (union xs ys)
   moved_union [] ys g h = refl
   moved_union (x ∷ xs) ys g h =
-      rw (moved_union xs ys g.1 h, moved_has x (union xs ys) g.0 (under_union xs ys n g.1 h)) (go (has x (union xs ys)))
+      rw (moved_union xs ys g.1 h, moved_has x (union xs ys) g.0 (union_under xs ys n g.1 h)) (go (has x (union xs ys)))
     where
       go : (b : Bool) → unless b (moved has_cell n x) (map (moved has_cell n) (union xs ys)) ≡ map (moved has_cell n) (unless b x (union xs ys))
       go true = refl
@@ -171,19 +165,15 @@ module _ (has_cell : ℕ → Bool) (n : ℕ) where
   empty_used x zero = refl
   empty_used x (suc m) = empty_used (suc x) m
 
-  or_true : (b : Bool) {c : Bool} → c ≡ true → (b || c) ≡ true
-  or_true true k = refl
-  or_true false k = k
-
   pub keys_have : (x m i z : ℕ) → i < m → z ≡ x + i + n → has z (cells_bound (empty_cells n x m)) ≡ true
   keys_have x zero i z l e = absurd (omega (arith, l))
   keys_have x (suc m) zero z l e = let t : nat_eq z (x + n) ≡ true = eq-eqb z (x + n) (omega (arith, e)) in rw t refl
-  keys_have x (suc m) (suc i) z l e = or_true (nat_eq z (x + n)) (keys_have (suc x) m i z (omega (arith, l)) (omega (arith, e)))
+  keys_have x (suc m) (suc i) z l e = or_right (nat_eq z (x + n)) _ (keys_have (suc x) m i z (omega (arith, l)) (omega (arith, e)))
 
   pub group_has : (x m i z : ℕ) → i < m → z ≡ x + i → has z (numbers x m) ≡ true
   group_has x zero i z l e = absurd (omega (arith, l))
   group_has x (suc m) zero z l e = let t : nat_eq z x ≡ true = eq-eqb z x (omega (arith, e)) in rw t refl
-  group_has x (suc m) (suc i) z l e = or_true (nat_eq z x) (group_has (suc x) m i z (omega (arith, l)) (omega (arith, e)))
+  group_has x (suc m) (suc i) z l e = or_right (nat_eq z x) _ (group_has (suc x) m i z (omega (arith, l)) (omega (arith, e)))
 
   -- the variables that fill the cells are taken away
   filled : (p : ℕ → Bool) (x m : ℕ) (e : Tree) → ((i : ℕ) → i < m → p (x + i) ≡ true) → ((i : ℕ) → i < m → p (x + i + n) ≡ true) → drop p (free_each (filling n x m e)) ≡ drop p (union (free e) [])
@@ -210,7 +200,7 @@ module _ (has_cell : ℕ → Bool) (n : ℕ) where
       drop_map K (moved has_cell n) fs ∙ ap (map (moved has_cell n)) (drop_under (λ z. K (moved has_cell n z)) G fs n uf (λ z l. keys_moved x m z all low l)) in
       let second : drop K (without x m whole) ≡ map (moved has_cell n) (drop G gs) =
       ap (drop K) (without_is x m whole) ∙ drop_twice K G whole
-      ∙ filled P x m e (λ i l. rw (group_has x m i (x + i) l refl) refl) (λ i l. or_true (G (x + i + n)) (keys_have x m i (x + i + n) l refl))
+      ∙ filled P x m e (λ i l. rw (group_has x m i (x + i) l refl) refl) (λ i l. or_right (G (x + i + n)) _ (keys_have x m i (x + i + n) l refl))
       ∙ ap (λ l. drop P (union l [])) h ∙ ap (drop P) (moved_union gs [] ug tt ∙ ap (map (moved has_cell n)) (union_nothing gs d))
       ∙ drop_map P (moved has_cell n) gs
       ∙ ap (map (moved has_cell n)) (drop_under (λ z. P (moved has_cell n z)) G gs n ug (λ z l. rw (group_not_moved x m z all low l, keys_moved x m z all low l) refl)) in
@@ -236,7 +226,7 @@ module _ (has_cell : ℕ → Bool) (n : ℕ) where
     free_moved (define g e) S r h = free_moved e S r h
     free_moved (branch a b c) S r h =
         rw (free_moved a S r.0 h, free_moved b S r.1 h, free_moved c S r.2 h, moved_union (free b) (free c) (free_under b S r.1 h) (free_under c S r.2 h))
-        (moved_union (free a) (union (free b) (free c)) (free_under a S r.0 h) (under_union (free b) (free c) n (free_under b S r.1 h) (free_under c S r.2 h)))
+        (moved_union (free a) (union (free b) (free c)) (free_under a S r.0 h) (union_under (free b) (free c) n (free_under b S r.1 h) (free_under c S r.2 h)))
     free_moved (sequence es) S r h = each_moved es S r h
     free_moved (bind site x es e) S r h =
         let m = count es in
@@ -250,7 +240,7 @@ module _ (has_cell : ℕ → Bool) (n : ℕ) where
         let ue = free_under e (scope_with x m S) r.3 g in
         rw (count_lambdas_same ls, lambdas_moved ls (scope_with x m S) r.2 g, free_moved e (scope_with x m S) r.3 g, moved_union (free_lambdas ls) (free e) ul ue)
         (ap (λ cs. without x m (without_each (cells_bound cs) (map (moved has_cell n) (union (free_lambdas ls) (free e))))) (sym (no_cells has_cell n x m r.0))
-        ∙ group_moved has_cell n x m (union (free_lambdas ls) (free e)) r.1 (under_union (free_lambdas ls) (free e) n ul ue))
+        ∙ group_moved has_cell n x m (union (free_lambdas ls) (free e)) r.1 (union_under (free_lambdas ls) (free e) n ul ue))
     free_moved (letrec site x es e) S r h =
         let m = count es in
         let g = low_with x m S r.1 h in

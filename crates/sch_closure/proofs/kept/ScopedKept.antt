@@ -24,7 +24,7 @@ use Rattle.sch_closure.proofs.Same.{made_length}
 use Rattle.sch_word.proofs.facts.NumberTests.{same}
 use Rattle.sch_word.proofs.facts.NumberSets.{in_more, in_here, union_left, union_right}
 use Rattle.sch_word.proofs.facts.Lists.{map_length}
-use Rattle.sch_word.proofs.facts.Booleans.{not_true}
+use Rattle.sch_word.proofs.facts.Booleans.{not_true, is_not_true}
 
 -- ## Variables that are known
 
@@ -86,15 +86,11 @@ contents_known fs own (c ∷ cs) k = go (λ k. contents_known fs own cs k) c.con
 record New (xs own : List ℕ) : Type 0 where
   at : (y : ℕ) → In y xs → has y own ≡ false
 
-truth : (b : Bool) → b ≡ false → IsTrue (not b)
-truth true h = absurd (cc)
-truth false h = refl
-
 all_are_new : (xs own : List ℕ) → IsTrue (distinct xs) → New xs own → IsTrue (all_new xs own)
 all_are_new [] own d n = refl
 all_are_new (x ∷ xs) own d n =
     let p = parts (not (has x xs)) (distinct xs) d in
-    both_true (truth (has x own) (n.at x (in_here x xs))) (all_are_new xs (x ∷ own) p.1 (record { at = λ y i. go y i (nat_eq y x) refl (not_true (has x xs) p.0) }))
+    both_true (is_not_true (has x own) (n.at x (in_here x xs))) (all_are_new xs (x ∷ own) p.1 (record { at = λ y i. go y i (nat_eq y x) refl (not_true (has x xs) p.0) }))
   where
     go : (y : ℕ) → In y xs → (b : Bool) → nat_eq y x ≡ b → has x xs ≡ false → (nat_eq y x || has y own) ≡ false
     go y i true e f = absurd (let q : y ≡ x = eqb-true y x e in let r : has x xs ≡ true = subst (λ z. has z xs ≡ true) q i in cc)

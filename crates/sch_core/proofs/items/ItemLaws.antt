@@ -13,15 +13,9 @@ use Rattle.sch_link_tables.specs.Programs.{Definition, names_of_each}
 use Rattle.sch_core.specs.LibraryDefinitions.{procedure_of, AreNamedProcedures}
 use Rattle.sch_toplevel.specs.Forms.{form_sketch}
 use Rattle.sch_toplevel.specs.Items.{behind, name_in, names_by, item_globals, procedure_in, item_names, ItemsExpand, ItemHasFault, ItemsRead}
-use Rattle.sch_core.proofs.DataLaws.{some_some}
 use Rattle.sch_core.proofs.items.ItemShapes.{defines, shaped}
 use Rattle.sch_core.proofs.drafts.Soundness.{procedure}
-
-head_is : {A : Type 0} {x y : A} {xs ys : List A} → x ∷ xs ≡ y ∷ ys → x ≡ y
-head_is e = cc
-
-tail_is : {A : Type 0} {x y : A} {xs ys : List A} → x ∷ xs ≡ y ∷ ys → xs ≡ ys
-tail_is e = cc
+use Rattle.sch_word.proofs.facts.Lists.{some_same, head_same, tail_same}
 
 nothing_here : {A : Type 0} {x : A} {xs : List A} → [] ≡ x ∷ xs → ⊥
 nothing_here e = cc
@@ -45,11 +39,11 @@ items_expand before none [] a r n = tt
 items_expand before none (x ∷ xs) a r n = absurd (nothing_here n)
 items_expand before (cons d items) [] a r n = absurd (nothing_here (sym n))
 items_expand before (cons d items) (x ∷ xs) a (m, e, more, w, q, y) n =
-    let others = subst (λ l. ItemsRead (names_by before d) items m None l) (sym (tail_is w)) y in
+    let others = subst (λ l. ItemsRead (names_by before d) items m None l) (sym (tail_same w)) y in
     let here = here_made before d items a m e more q y in (
-      head_is n,
-      subst (λ z. Expands (item_globals before d) 1 [] Value (procedure_in before d) z) (sym (head_is w)) here,
-      items_expand (names_by before d) items xs m others (tail_is n),
+      head_same n,
+      subst (λ z. Expands (item_globals before d) 1 [] Value (procedure_in before d) z) (sym (head_same w)) here,
+      items_expand (names_by before d) items xs m others (tail_same n),
     )
 
 -- items that are read without a fault have definitions
@@ -96,7 +90,7 @@ items_one before none (x ∷ xs) ys p q = absurd p
 items_one before (cons d items) [] ys p q = absurd p
 items_one before (cons d items) (x ∷ xs) [] p q = absurd q
 items_one before (cons d items) (x ∷ xs) (y ∷ ys) p q =
-    let i = definition_is x y (some_some (sym p.0 ∙ q.0)) (unique (item_globals before d) p.1 q.1) in
+    let i = definition_is x y (some_same (sym p.0 ∙ q.0)) (unique (item_globals before d) p.1 q.1) in
     let j = items_one (names_by before d) items xs ys p.2 q.2 in
     λ k. i k ∷ j k
 

@@ -15,8 +15,9 @@ use Rattle.sch_core.specs.declared.error.CoreError.{CoreError}
 use Rattle.sch_core.specs.declared.error.CoreError.TheVariants as errors
 use Rattle.sch_core.specs.declared.error.Kind.{Kind}
 use Rattle.sch_core.specs.declared.error.Kind.TheVariants as kinds
-use Rattle.sch_core.proofs.DataLaws.{none_some, some_some, left_is, right_is, excess_counted, place_counted, IsCounted, error_for, named_by}
+use Rattle.sch_core.proofs.DataLaws.{none_some, left_is, right_is, excess_counted, place_counted, IsCounted, error_for, named_by}
 use Rattle.sch_core.proofs.items.ItemLaws.{items_best, items_expand, items_named, items_made, items_one, items_clean, reading_one, items_read}
+use Rattle.sch_word.proofs.facts.Lists.{some_same}
 
 pub definitions_counted : (places : List ℕ) (ds : List Definition) (k : Kind) (at : ℕ) → first_definition_excess places ds ≡ Some (k, at) → IsCounted k
 definitions_counted [] ds k at e = absurd (none_some e)
@@ -31,7 +32,7 @@ module _ (items : Data) where
       let best = items_best [] items None (Some f) es r in
       record {
         there = elim (best.from f refl) [ inl i ↦ absurd (none_some i) | inr h ↦ h ];
-        least = λ g h. let m = best.below g h in subst (λ k. rank k ≤ rank g) (sym (some_some m.is)) m.below;
+        least = λ g h. let m = best.below g h in subst (λ k. rank k ≤ rank g) (sym (some_same m.is)) m.below;
         drafts = es;
         first = r;
       }
@@ -127,7 +128,7 @@ module _ (items : Data) where
   cause (errors.Limit kinds.Free at) n h = excessive kinds.Free at h
 
   fault_one : {f g : Fault} → IsLibraryFault items f → IsLibraryFault items g → f ≡ g
-  fault_one {f} {g} a b = some_some (reading_one [] items None (Some f) (Some g) a.drafts b.drafts a.first b.first)
+  fault_one {f} {g} a b = some_same (reading_one [] items None (Some f) (Some g) a.drafts b.drafts a.first b.first)
 
   exceeds_faultless : (k : Kind) (at : ℕ) (f : Fault) → LibraryExceedsAt items k at → IsLibraryFault items f → ⊥
   exceeds_faultless k at f a b = items_clean [] items a.definitions f a.expands b.there

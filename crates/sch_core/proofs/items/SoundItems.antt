@@ -1,7 +1,7 @@
 -- The definitions that items stand for are those of valid programs: sound, in order, and small.
 use Rattle.std.proofs.Common.{◌≡◌, inl, inr, ◌≤◌, ℕ, ◌+◌, ◌*◌, Bool, true, false, cond, List, [], ◌∷◌, ◌++◌, length, Some, None, refl, sym, ◌∙◌, subst, arith}
 use Rattle.std.specs.Str.{bytes_eq}
-use Rattle.std.proofs.lemmas.Bool.{le-leb, and_from}
+use Rattle.std.proofs.lemmas.Bool.{le-leb, and_from, or_cases}
 use Rattle.sch_word.specs.trees.Shape.{max_operands}
 use Rattle.sch_read.specs.Grammar.{Datum, Data, atom, list, dotted, vector, none, cons}
 use Rattle.sch_read.specs.Parts.{offset}
@@ -27,14 +27,14 @@ use Rattle.sch_core.specs.Excess.{AreFew, definition_excess, first_definition_ex
 use Rattle.sch_core.specs.LibraryDefinitions.{IsSoundLibrary}
 use Rattle.sch_core.proofs.items.ItemShapes.{shaped}
 use Rattle.sch_word.proofs.facts.Booleans.{and_parts}
-use Rattle.sch_core.proofs.Nesting.{all_quotable}
+use Rattle.sch_core.proofs.DataKnown.{all_quotable}
 use Rattle.sch_core.proofs.texts.TextSizes.{sized}
-use Rattle.sch_core.proofs.texts.ValidTexts.{some_left, either_there, place_none}
+use Rattle.sch_core.proofs.texts.ValidTexts.{either_there, place_none}
 
 -- ## What follows the word of an item
 
 behind_quotable : (d : Datum) → IsQuotable d → AllQuotable (behind d)
-behind_quotable (list at (cons o xs)) h = all_quotable xs (omega (arith, h.1)) (and_parts _ _ h.0).1
+behind_quotable (list at (cons o xs)) h = all_quotable xs (and_parts _ _ h).1
 behind_quotable (list at none) h = tt
 behind_quotable (atom at a) h = tt
 behind_quotable (dotted at xs x) h = tt
@@ -75,7 +75,7 @@ one_more bound before v w x h = go (is_among v bound) h
     go : (b : Bool) → is_among x (cond b bound (bound ++ v ∷ [])) ≡ true → is_among x (v ∷ before) ≡ true
     go true k = among_cons x v before (w x k)
     go false k =
-        elim (some_left _ _ (sym (among_append x bound (v ∷ [])) ∙ k)) [
+        elim (or_cases _ _ (sym (among_append x bound (v ∷ [])) ∙ k)) [
           | inl m ↦ among_cons x v before (w x m)
           | inr m ↦ either_there (bytes_eq x v) false (is_among x before) m (λ e. cc)
         ]

@@ -1,6 +1,5 @@
 -- What stands for data in range has the constants, the quotations and the symbols that a program may have.
-use Rattle.std.proofs.Common.{arith, ◌≡◌, true, refl}
-use Rattle.std.specs.Prelude.{◌≤◌}
+use Rattle.std.proofs.Common.{◌≡◌, true, refl}
 use Rattle.sch_word.proofs.facts.Booleans.{and_parts}
 use Rattle.sch_word.specs.values.Values.{is_constant, are_bytes}
 use Rattle.sch_word.specs.declared.primitive.Primitive.{Primitive}
@@ -8,8 +7,6 @@ use Rattle.sch_word.specs.declared.primitive.Primitive.TheVariants.{Multiply}
 use Rattle.sch_word.specs.values.Fixnum.{is_fixnum}
 use Rattle.sch_read.specs.Grammar.{Datum, Data, atom, list, dotted, vector, none, cons, boolean, integer, character, symbol as symbol_atom}
 use Rattle.sch_read.specs.Grammar as grammar
-use Rattle.sch_read.specs.Levels.{depths}
-use Rattle.sch_read.specs.Text.{max_nesting}
 use Rattle.sch_names.specs.Operations.{unit_of}
 use Rattle.sch_names.specs.Scope.{Globals}
 use Rattle.sch_sketch.specs.Draft.{Draft, Drafts, constant, symbol, literal, local, global, set_local, set_global, define, branch, sequence, bind, letrec, lambda, call, operation, no_drafts, and_draft}
@@ -33,9 +30,9 @@ pub all_good : (xs : Data) → AllQuotable xs → AllGood in_range xs
 all_good none h = tt
 all_good (cons x xs) h = (h.0, all_good xs h.1)
 
-data_parts : (xs : Data) → data_in_range xs ≡ true → depths xs ≤ max_nesting → AllGood in_range xs
-data_parts none h l = tt
-data_parts (cons x xs) h l = let k = and_parts (datum_in_range x) _ h in ((k.0, omega (arith, l)), data_parts xs k.1 (omega (arith, l)))
+data_parts : (xs : Data) → data_in_range xs ≡ true → AllGood in_range xs
+data_parts none h = tt
+data_parts (cons x xs) h = let k = and_parts (datum_in_range x) _ h in (k.0, data_parts xs k.1)
 
 unit_in_range : (p : Primitive) → is_fixnum (unit_of p) ≡ true
 unit_in_range Multiply = refl
@@ -43,11 +40,11 @@ unit_in_range _ = refl
 
 pub in_range_kept : (globals : Globals) → IsKept globals in_range
 in_range_kept globals = record {
-  parts = λ at xs h. data_parts xs h.0 (omega (arith, h.1));
+  parts = λ at xs h. data_parts xs h;
   truth = λ b. refl;
-  integer_is = λ at z h. h.0;
-  character_is = λ at k h. h.0;
-  symbol_is = λ at x h. h.0;
+  integer_is = λ at z h. h;
+  character_is = λ at k h. h;
+  symbol_is = λ at x h. h;
   empty = refl;
   nothing = refl;
   unit = unit_in_range;
@@ -122,7 +119,7 @@ mutual
   bytes : (e : Draft) → FitsDraft in_range e → AreBytes (symbols_in e)
   bytes (constant c) h = tt
   bytes (symbol x) h = (h, tt)
-  bytes (literal d) h = datum_bytes d h.0
+  bytes (literal d) h = datum_bytes d h
   bytes (local k) h = tt
   bytes (global x) h = tt
   bytes (set_local k e) h = bytes e h

@@ -35,7 +35,7 @@ use Rattle.sch_core.proofs.numbered.Limits.{fitting_each, levels_each_kept}
 use Rattle.sch_core.proofs.sizes.NodesOfDrafts.{nodes_group, all_nodes_kept}
 use Rattle.sch_core.proofs.numbered.Constants.{all_constants_kept}
 use Rattle.sch_core.proofs.numbered.Names.{left, right, all_among, named_each}
-use Rattle.sch_core.proofs.sizes.StaticsOfPrograms.{firsts_size, firsts_length, firsts_bytes, bytes_append, all_bytes, sizes, quotable_append, count_quotes, sizes_append, AreNamed, named_append, quotes_known, quotes_each_named, quotes_range, quotes_levels, all_statics_below}
+use Rattle.sch_core.proofs.sizes.StaticsOfPrograms.{firsts_size, firsts_length, firsts_bytes, bytes_append, all_bytes, sizes, quotable_append, count_quotes, sizes_append, AreNamed, named_append, quotes_known, quotes_each_named, quotes_range, all_statics_below}
 use Rattle.sch_core.proofs.programs.KeptDefinitions.{given, procedures_are, widths_are, quotes_are, globals_are, symbols_are, all_procedures, count_definitions, sound_definitions, level_definitions, constant_definitions, quotable_definitions, bytes_definitions, kept_sound, kept_nodes, kept_statics}
 use Rattle.sch_core.proofs.programs.Starts.{AreReady, known_starts, starts_length, globals_ready}
 
@@ -104,12 +104,11 @@ module _ (ds : List Definition) (own hs : List (List ℕ)) (forms : Drafts) wher
   program_constants d f c w =
       let b = firsts_bytes (symbols_of_each ds ++ symbols_in_each forms) [] tt (bytes_append (symbols_of_each ds) _ (bytes_definitions ds d) w.1) in
       let q = quotable_append (quotes_of_each ds) _ (quotable_definitions ds d) w.0 in
-      let levels = quotes_levels symbols (quotes_of_each ds ++ quotes_in_each forms) q in
       and_from _ _
       (and_from _ _
       (library_holds (λ e. constant_in_range (shape e)) (all_constants_kept [] globals symbols (procedures_of_each ds) (given ds) 0 0 0 (sound_definitions ds d) (constant_definitions ds d)))
       (all_constants_kept own globals symbols forms [] 0 _ _ f c))
-      (and_from _ _ (all_bytes symbols b) (and_from _ _ (quotes_range symbols _ q) (le-leb _ _ (omega (arith, levels)))))
+      (and_from _ _ (all_bytes symbols b) (quotes_range symbols _ q))
 
   -- ## Shapes and limits
 

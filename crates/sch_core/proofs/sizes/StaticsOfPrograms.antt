@@ -1,17 +1,14 @@
 -- What the symbols, the literals and the globals of a program take, and that they are in range.
 use Rattle.std.proofs.Common.{◌≡◌, ◌≤◌, ℕ, suc, ◌+◌, Bool, true, false, cond, List, [], ◌∷◌, ◌++◌, map, length, refl, ap, arith, length-append, lt-ltb}
-use Rattle.std.specs.Prelude.{max}
 use Rattle.std.specs.List.{list_all}
 use Rattle.std.proofs.lemmas.Bool.{and_from}
 use Rattle.sch_word.proofs.facts.Booleans.{and_parts}
 use Rattle.sch_word.specs.runs.Runs.{names_size}
 use Rattle.sch_word.specs.values.Literals as words
-use Rattle.sch_word.specs.values.Literals.{Literals, no_literals, and_literal, literals, count_literals, literals_size, literals_known, literal_known, literal_in_range, literals_in_range, literal_levels, literals_levels}
+use Rattle.sch_word.specs.values.Literals.{Literals, no_literals, and_literal, literals, count_literals, literals_size, literals_known, literal_known, literal_in_range, literals_in_range}
 use Rattle.sch_word.specs.values.Values.{are_bytes}
 use Rattle.sch_read.specs.Grammar.{Datum, Data, atom, list, dotted, vector, none, cons, boolean, integer, character, symbol as symbol_atom}
 use Rattle.sch_read.specs.Grammar as grammar
-use Rattle.sch_read.specs.Levels.{depth, depths}
-use Rattle.sch_read.specs.Text.{max_nesting}
 use Rattle.sch_names.specs.Scope.{is_among}
 use Rattle.sch_names.specs.NamesView.{with_name}
 use Rattle.sch_sketch.specs.Draft.{Draft, Drafts, constant, symbol, literal, local, global, set_local, set_global, define, branch, sequence, bind, letrec, lambda, call, operation, no_drafts, and_draft}
@@ -188,32 +185,9 @@ module _ (symbols : List (List ℕ)) where
     data_ranges none h = refl
     data_ranges (cons x xs) h = let k = and_parts (datum_in_range x) _ h in and_from _ _ (datum_ranges x k.0) (data_ranges xs k.1)
 
-  list_levels : (ls : Literals) → literal_levels (list_of ls) ≤ max (1 + literals_levels ls) 2
-  list_levels no_literals = omega arith
-  list_levels (and_literal l ls) = omega arith
-
-  mutual
-    datum_levels : (d : Datum) → literal_levels (literal_of symbols d) ≤ 1 + depth d
-    datum_levels (atom at (boolean b)) = omega arith
-    datum_levels (atom at (integer z)) = omega arith
-    datum_levels (atom at (character c)) = omega arith
-    datum_levels (atom at (grammar.text bs)) = omega arith
-    datum_levels (atom at (symbol_atom x)) = omega arith
-    datum_levels (list at xs) = omega (arith, list_levels (literals_of_data symbols xs), data_levels xs)
-    datum_levels (dotted at xs x) = omega (arith, data_levels xs, datum_levels x)
-    datum_levels (vector at xs) = omega (arith, data_levels xs)
-
-    data_levels : (xs : Data) → literals_levels (literals_of_data symbols xs) ≤ 1 + depths xs
-    data_levels none = omega arith
-    data_levels (cons x xs) = omega (arith, datum_levels x, data_levels xs)
-
   pub quotes_range : (qs : List Datum) → AreQuotable qs → literals_in_range (all_literals qs) ≡ true
   quotes_range [] h = refl
-  quotes_range (d ∷ qs) h = and_from _ _ (datum_ranges d h.0.0) (quotes_range qs h.1)
-
-  pub quotes_levels : (qs : List Datum) → AreQuotable qs → literals_levels (all_literals qs) ≤ 1 + max_nesting
-  quotes_levels [] h = omega arith
-  quotes_levels (d ∷ qs) h = omega (arith, datum_levels d, h.0.1, quotes_levels qs h.1)
+  quotes_range (d ∷ qs) h = and_from _ _ (datum_ranges d h.0) (quotes_range qs h.1)
 
 -- ## Drafts
 

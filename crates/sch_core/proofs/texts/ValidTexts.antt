@@ -1,6 +1,7 @@
 -- The program of a library and of a text without a fault is valid.
-use Rattle.std.proofs.Common.{◌≡◌, ◌⊎◌, inl, inr, ◌≤◌, ℕ, ◌+◌, ◌*◌, Bool, true, false, cond, ◌||◌, List, [], ◌∷◌, ◌++◌, length, map, Option, Some, None, refl, sym, ap, ◌∙◌, subst, arith, append_assoc}
+use Rattle.std.proofs.Common.{◌≡◌, inl, inr, ◌≤◌, ℕ, ◌+◌, ◌*◌, Bool, true, false, cond, List, [], ◌∷◌, ◌++◌, length, map, Option, Some, None, refl, sym, ap, ◌∙◌, subst, arith, append_assoc}
 use Rattle.std.specs.Str.{bytes_eq}
+use Rattle.std.proofs.lemmas.Bool.{or_cases}
 use Rattle.sch_word.proofs.facts.Booleans.{and_parts}
 use Rattle.sch_lang.specs.Tree.{Expressions, no_expressions, and_expression, count}
 use Rattle.sch_lang.specs.Valid.{is_valid}
@@ -34,15 +35,11 @@ use Rattle.sch_toplevel.specs.Forms.{is_begin_word, forms_of, forms_in, form_ske
 use Rattle.sch_toplevel.specs.Texts.{FormsExpand, SketchesExpand}
 use Rattle.sch_core.specs.declared.error.Kind.{Kind}
 use Rattle.sch_core.specs.Excess.{excess, at_place, first_excess, LambdasAreFew, FormsAreFew, definition_excess, AreFew}
-use Rattle.sch_core.proofs.Nesting.{all_quotable}
+use Rattle.sch_core.proofs.DataKnown.{all_quotable}
 use Rattle.sch_core.proofs.DataLaws.{none_some}
 use Rattle.sch_core.proofs.ExcessWithoutNumbers.{same_excess, alike}
 
 -- ## Names
-
-pub some_left : (a b : Bool) → (a || b) ≡ true → (a ≡ true) ⊎ (b ≡ true)
-some_left true b h = inl refl
-some_left false b h = inr h
 
 -- what is in a list of names that are all among others is among those
 within : (all xs : List (List ℕ)) (x : List ℕ) → AreAmong all xs → is_among x xs ≡ true → is_among x all ≡ true
@@ -60,7 +57,7 @@ from_table x (y ∷ names) before h = go (is_among y before) (from_table x names
   where
     go : (b : Bool) → is_among x (cond b before (before ++ y ∷ []) ++ names) ≡ true → is_among x (before ++ y ∷ names) ≡ true
     go true k =
-        elim (some_left _ _ (sym (among_append x before names) ∙ k)) [
+        elim (or_cases _ _ (sym (among_append x before names) ∙ k)) [
           | inl m ↦ among_left x before (y ∷ names) m
           | inr m ↦ among_right x before (y ∷ names) (among_cons x y names m)
         ]
@@ -75,7 +72,7 @@ either_there false a b h f = f h
 
 names_there : (ds : List Definition) (items : Data) (assigned : List (List ℕ)) → HasNames ds (own_names items assigned) (text_globals (seen ds) items assigned)
 names_there ds items assigned x h =
-    elim (some_left _ _ (sym (among_append x (seen ds) (defined items)) ∙ from_table x (seen ds ++ defined items) [] h)) [
+    elim (or_cases _ _ (sym (among_append x (seen ds) (defined items)) ∙ from_table x (seen ds ++ defined items) [] h)) [
       | inl m ↦ among_right x (own_names items assigned) (names_of_each ds) (seen_named x ds m)
       | inr m ↦ among_left x (own_names items assigned) (names_of_each ds) (into_table x (defined items ++ assigned) (among_left x (defined items) assigned m))
     ]
@@ -230,7 +227,7 @@ quotable_append [] b h k = k
 quotable_append (d ∷ a) b h k = one_quotable (form_of d) (map form_of a) (map form_of (a ++ b)) h (λ i. quotable_append a b i k)
 
 inner_quotable : (at q : ℕ) (x : List ℕ) (xs : Data) → IsQuotable (list at (cons (atom q (symbol x)) xs)) → AllQuotable xs
-inner_quotable at q x xs h = all_quotable xs (omega (arith, h.1)) (and_parts _ _ h.0).1
+inner_quotable at q x xs h = all_quotable xs (and_parts _ _ h).1
 
 chosen_quotable : (b : Bool) (at q : ℕ) (x : List ℕ) (xs : Data) → IsQuotable (list at (cons (atom q (symbol x)) xs)) →
     AreOfData (chosen_form b at xs (list at (cons (atom q (symbol x)) xs)) ∷ [])

@@ -97,17 +97,6 @@ no_number_of_literal : is_valid (ready [] (literals.list (and_literal (literals.
     (literals.constant Nil))) ≡ false
 no_number_of_literal = refl
 
--- a vector that holds a vector, and so on
-abbrev vectors_of : ℕ → Literal
-vectors_of zero = literals.constant Nil
-vectors_of (suc n) = literals.elements (and_literal (vectors_of n) no_literals)
-
-four_thousand_literal_levels : is_valid (ready [] (vectors_of 3999)) ≡ true
-four_thousand_literal_levels = refl
-
-more_literal_levels : is_valid (ready [] (vectors_of 4000)) ≡ false
-more_literal_levels = refl
-
 -- ## Parts
 
 empty_sequence : is_valid (program 0 [] (sequence (expressions []) ∷ [])) ≡ false

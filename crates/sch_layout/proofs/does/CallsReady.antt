@@ -21,7 +21,8 @@ use Rattle.sch_control.specs.Meaning.{Environment, Callee, Result}
 use Rattle.sch_control.specs.Operations.{Procedure, and_value, operand_value, operand_values}
 use Rattle.sch_frames.specs.declared.instruction.Instruction.{Instruction}
 use Rattle.sch_frames.specs.Does.{EndsAs, Follows}
-use Rattle.sch_frames.specs.Meaning.{Cell, Frame, argument, argument_in, argument_register, argument_slot, arguments, closure_register, held, is_slot, link_register, parts, same_place, value_in}
+use Rattle.sch_frames.specs.Meaning.{Cell, Frame, argument, argument_in, argument_register, argument_slot, arguments, closure_register, held, is_slot, link_register, parts, value_in}
+use Rattle.sch_word.specs.values.Places.{same_place}
 use Rattle.sch_frames.proofs.FramePlaces.{slot_of}
 use Rattle.sch_layout.specs.BodyLayout.{Plan, atoms_at, operand_at, operands_at, arguments_at, in_either, target, move_all}
 use Rattle.sch_layout.specs.Laws.{AtomsHave, Behind}

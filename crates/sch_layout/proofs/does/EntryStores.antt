@@ -13,14 +13,16 @@ use Rattle.sch_word.specs.runs.Computation.{State}
 use Rattle.sch_frames.specs.declared.instruction.Instruction.{Instruction}
 use Rattle.sch_frames.specs.declared.instruction.Instruction.TheVariants.{Copy}
 use Rattle.sch_frames.specs.Does.{EndsAs, world}
-use Rattle.sch_frames.specs.Meaning.{Cell, Frame, link_register, same_place, set, with_place, cell_of, execute_each, entry_places, beginning}
+use Rattle.sch_frames.specs.Meaning.{Cell, Frame, link_register, set, with_place, cell_of, execute_each, entry_places, beginning}
+use Rattle.sch_word.specs.values.Places.{same_place}
 use Rattle.sch_frames.specs.Valid.{formals_of}
 use Rattle.sch_frames.proofs.FramePlaces.{set_other, set_self}
 use Rattle.sch_layout.specs.BodyLayout.{Plan, arrived, under, spill, arrivals, entering}
 use Rattle.sch_layout.specs.SharedPlaces.{place_before, Arrives, entered_with}
 use Rattle.sch_layout.proofs.does.PlacesAgree.{Agrees, meant, none_some, same_meant}
 use Rattle.sch_layout.proofs.does.CallsReady.{below_length}
-use Rattle.sch_layout.proofs.does.MovesDo.{places_same, under_does}
+use Rattle.sch_layout.proofs.does.MovesDo.{under_does}
+use Rattle.sch_word.proofs.facts.Places.{places_same}
 
 module _ (plan : Plan) where
   stands_placed : (before x : ℕ) → x < before → place_before plan before x ≡ plan.place x

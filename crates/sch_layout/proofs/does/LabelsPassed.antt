@@ -15,7 +15,8 @@ use Rattle.sch_control.specs.Tree.{Expression, perform, bind, sequence, branch, 
 use Rattle.sch_control.specs.Valid.{member_variables}
 use Rattle.sch_frames.specs.declared.instruction.Instruction.{Instruction}
 use Rattle.sch_frames.specs.declared.instruction.Instruction.TheVariants.{Do, Store, Copy, Pass, Call, Tail, Label, Mark}
-use Rattle.sch_frames.specs.Meaning.{Frame, is_slot, same_place, sought, execute_each}
+use Rattle.sch_frames.specs.Meaning.{Frame, is_slot, sought, execute_each}
+use Rattle.sch_word.specs.values.Places.{same_place}
 use Rattle.sch_layout.specs.BodyLayout.{Plan, under, spill, move_mark, writing, is_direct, move_into, move_all, carried, stored, loaded, leave, labels, lay}
 use Rattle.sch_layout.specs.Moves.{Move}
 

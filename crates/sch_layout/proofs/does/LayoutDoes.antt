@@ -11,11 +11,12 @@ use Rattle.sch_word.specs.declared.place.Place.TheVariants.{Slot}
 use Rattle.sch_word.specs.values.Values.{Value, is_true}
 use Rattle.sch_word.specs.runs.Charges.{charge_each, procedure_bytes}
 use Rattle.sch_word.specs.runs.Computation.{gives, stops, spent, State, in_store, procedures_from}
-use Rattle.sch_word.specs.trees.NumberSets.{has, unless}
-use Rattle.sch_word.proofs.facts.Booleans.{false_true, neither, not_left, not_right, or_left, or_right}
+use Rattle.sch_word.specs.trees.NumberSets.{has}
+use Rattle.sch_word.proofs.facts.Booleans.{false_true, neither, not_left, not_right, or_right}
 use Rattle.sch_word.specs.declared.mark.MarkKind.{MarkKind}
 use Rattle.sch_word.specs.declared.mark.MarkKind.TheVariants as mark
 use Rattle.sch_word.specs.values.Registers.{argument_registers}
+use Rattle.sch_word.proofs.Lengths.{procedures_length}
 use Rattle.sch_control.specs.flow.Apart.{Around, EachHas}
 use Rattle.sch_control.specs.declared.operation.Application.{Application}
 use Rattle.sch_control.specs.declared.operation.Atom.TheVariants.{Constant, Literal, Variable}
@@ -25,7 +26,7 @@ use Rattle.sch_control.specs.declared.operation.Operation.TheVariants as operati
 use Rattle.sch_control.specs.declared.operation.Member.{Member}
 use Rattle.sch_control.specs.declared.operation.Source.{Source}
 use Rattle.sch_control.specs.Meaning as control
-use Rattle.sch_control.specs.Meaning.{World, Result, Environment, Then, Callee, Reading, marked, marked_if, with_value, on_outcome, on_return, either, put, put_if, put_each, put_inside, binds, heads, with_region, save_each, on_ending, mark_each, mark_bound, mark_members, call_in, evaluate}
+use Rattle.sch_control.specs.Meaning.{World, Result, Environment, Then, Callee, marked, with_value, on_outcome, on_return, either, put, put_if, put_each, put_inside, binds, heads, with_region, save_each, on_ending, mark_each, mark_bound, mark_members, call_in, evaluate}
 use Rattle.sch_control.specs.Operations.{Procedure, Ending, operand_values, operate, member_bytes, members_made, with_procedures}
 use Rattle.sch_control.specs.AtomsAndSites.{operation_atoms, application_atoms, member_atoms}
 use Rattle.sch_control.specs.Tree.{Expression, perform, bind, sequence, branch, fix, call, tail_call, return, end, save}
@@ -38,6 +39,9 @@ use Rattle.sch_frames.proofs.EndsAlike.{onto_end, with_value_ends, on_outcome_en
 use Rattle.sch_layout.specs.BodyLayout.{Plan, sources_at, members_at, operation_at, spill, unmarked_reading, stored, loaded, leave, labels, lay}
 use Rattle.sch_layout.specs.Laws.{AtomsHave, Behind, MembersUse, Uses}
 use Rattle.sch_control.specs.flow.Live.{Mentions, Perhaps, AfterValue, Across, Later, Live}
+use Rattle.sch_control.proofs.MarksAlone.{each_state, bound_state, members_state}
+use Rattle.sch_control.proofs.Results.{perhaps}
+use Rattle.sch_control.proofs.VariableLists.{heads_has}
 use Rattle.sch_layout.specs.SharedPlaces.{Homes, Alone, Brings, FreeInCall, FreeInTail, Placed}
 use Rattle.sch_layout.proofs.does.PlacesAgree.{Lives, atoms_live, Agrees, Stored, StoredOne, agrees_as, agrees_on, agrees_left, found, bound, members_bound, one_stored, slot_stored, meant, reloaded_one, one_loaded, slot_loaded}
 use Rattle.sch_layout.proofs.does.CallsReady.{Values, values_are, values_length, call_parts, tail_parts, brings_do, call_leaves, tail_leaves}
@@ -59,24 +63,6 @@ module _ (place : ℕ → Place) where
   bytes_kept : (members : List (Member ℕ)) → member_bytes (members_at place members) ≡ member_bytes members
   bytes_kept [] = refl
   bytes_kept (m ∷ members) = ap (λ n. procedure_bytes n ∷ member_bytes (members_at place members)) (length_sources m.closure.fields) ∙ ap (λ ns. procedure_bytes (length m.closure.fields) ∷ ns) (bytes_kept members)
-
--- ## Marks that an evaluator marks leave the state alone
-
-module _ (reading : Reading) where
-  if_marked : (b : Bool) (m : MarkKind) (w : World) → (marked_if b m w).state ≡ w.state
-  if_marked true m w = refl
-  if_marked false m w = refl
-
-  each_noted : (kind : ℕ → MarkKind) (xs : List ℕ) (w : World) → (mark_each reading kind xs w).state ≡ w.state
-  each_noted kind [] w = refl
-  each_noted kind (x ∷ xs) w = each_noted kind xs _ ∙ if_marked (reading.is_marked x) (kind x) w
-
-  bound_noted : (inside : ℕ → Bool) (x : ℕ) (w : World) → (mark_bound reading inside x w).state ≡ w.state
-  bound_noted inside x w = if_marked (cond (inside x) (reading.is_marked x) false) (mark.Save x) _ ∙ if_marked (reading.spills x) (mark.Spill x) w
-
-  members_noted : (inside : ℕ → Bool) (members : List (Member ℕ)) (w : World) → (mark_members reading inside members w).state ≡ w.state
-  members_noted inside [] w = refl
-  members_noted inside (m ∷ members) w = members_noted inside members _ ∙ bound_noted inside m.at w
 
 -- whatever marks there are
 at_state : (next : World → Result) (r : Result) (w : World) (s : State Procedure) → w.state ≡ s → ((marks : List MarkKind) → EndsAs (next (world s marks)) r) → EndsAs (next w) r
@@ -134,15 +120,7 @@ group_saved inside (m ∷ members) (v ∷ vs) environment saved z l =
       by true true false eb et eh whole o =
           rw et (sym (o (filtered_out inside (member_variables members) z (ap inside (eqb-true z m.at et) ∙ eb) eh) ∙ ap (λ t. cond t (Some v) (environment z)) et))
 
-procedures_length : (count n : ℕ) → length (procedures_from n count) ≡ count
-procedures_length zero n = refl
-procedures_length (suc count) n = ap suc (procedures_length count (suc n))
-
 -- ## What is live
-
-perhaps : (L : Bool → Type 0) (t : Bool) → L t → Perhaps L
-perhaps L true l = inl l
-perhaps L false l = inr l
 
 abbrev the_value : (none : Value) → Ending → Value
 the_value none (Some (gives v s)) = v
@@ -198,16 +176,6 @@ bound_kept inside xs live before f z (i, l) = by (has z (filter inside xs)) refl
   by : (t : Bool) → has z (filter inside xs) ≡ t → Stored (filter inside xs) live (Kept inside before) z
   by true h = (l, inl h)
   by false h = (l, inr (i, f z (filtered_out inside xs z i h) l))
-
--- what a region saves and does not bind is saved at its head
-heads_has : (e : Expression) (xs : List ℕ) (z : ℕ) → has z xs ≡ true → binds z e ≡ false → has z (heads e xs) ≡ true
-heads_has e [] z h n = absurd (cc)
-heads_has e (x ∷ xs) z h n = by (nat_eq z x) refl (binds x e) refl h (λ h. heads_has e xs z h n) where
-  by : (t : Bool) → nat_eq z x ≡ t → (b : Bool) → binds x e ≡ b → (t || has z xs) ≡ true → (has z xs ≡ true → has z (heads e xs) ≡ true) → has z (unless b x (heads e xs)) ≡ true
-  by true i true b h more = absurd (false_true b (ap (λ y. binds y e) (sym (eqb-true z x i)) ∙ n))
-  by true i false b h more = or_left (nat_eq z x) _ i
-  by false i true b h more = more h
-  by false i false b h more = or_right (nat_eq z x) _ (more h)
 
 -- at the head of a region what is live and inside it is stored, as what it binds is not live there
 head_kept : (inside : ℕ → Bool) (saves : List ℕ) (e : Expression) (live : ℕ → Type 0) → ((z : ℕ) → has z saves ≡ true → binds z e ≡ true → live z → ⊥) → (z : ℕ)
@@ -375,17 +343,17 @@ module _ (plan : Plan) (homes : Homes plan) (callee callee' : Callee) (follow : 
       let inner = put_each environment members vs in
       let g = with_members f (members_at plan.place members) vs in
       let r' : Agrees plan (Around members live) (Kept inside (Unbound members live)) (put_each environment members vs) saved (with_members f (members_at plan.place members) vs).places =
-      members_bound plan homes (Around members live) members vs (procedures_length (length members) _) environment saved f u free r in
+      members_bound plan homes (Around members live) members vs (procedures_length _ (length members)) environment saved f u free r in
       with_value_ends (with_procedures s (members_made inner s members))
       (with_procedures s (members_made (held g) s (members_at plan.place members))) _ _
       (with_procedures_follow s _ _ (members_follow plan.place (Lives (Around members live)) inner (held g) (found plan (Around members live) g r') s members
       (atoms_live (Around members live) (member_atoms members) h (λ x l. inl l))))
       (λ s. stored_does (Around members live) (Kept inside (Unbound members live)) (filter inside (member_variables members)) inner saved g s (marks' ++ map mark.Spill (slotted members)) rest _ r'
       (λ g' marks' a e'. at_state (λ w. does e inside inner (put_inside inside saved members vs) w next) _ (mark_members (unmarked_reading plan) inside members (world s marks)) s
-      (members_noted (unmarked_reading plan) inside members (world s marks))
+      (members_state (unmarked_reading plan) inside members (world s marks))
       (λ marks. go inner (put_inside inside saved members vs) g' s
       (agrees_on plan (λ x l. inr l) (λ x k. bound_kept inside (member_variables members) (Around members live) (Unbound members live) (λ z o l. (o, l)) x (k.0, inr k.1))
-      (agrees_as plan (λ z. refl) (λ z. group_saved inside members vs environment saved z (procedures_length (length members) _)) a)) marks marks')))))
+      (agrees_as plan (λ z. refl) (λ z. group_saved inside members vs environment saved z (procedures_length _ (length members))) a)) marks marks')))))
 
   -- ## Calls
 
@@ -400,7 +368,7 @@ module _ (plan : Plan) (homes : Homes plan) (callee callee' : Callee) (follow : 
       loaded_does (λ x. Perhaps (L x)) (Kept inside (λ x. Perhaps (L x))) restores (each_kept restores free) (λ x. cond (is_slot (plan.place x)) (environment x) None) saved (after_call g v) s marks' (leave test rest) _
       (agrees_left plan homes (λ x. Perhaps (L x)) f.places g.places r same_slots same_homes)
       (λ g' marks' a e. at_state (λ w. next v (control.after_call (unmarked_reading plan).keeps restores environment saved) saved w) _ (mark_each (unmarked_reading plan) mark.Restore restores (world s marks)) s
-      (each_noted (unmarked_reading plan) mark.Restore restores (world s marks))
+      (each_state (unmarked_reading plan) mark.Restore restores (world s marks))
       (λ marks. onto_end (next v (control.after_call (unmarked_reading plan).keeps restores environment saved) saved (world s marks)) _ _ (leaving test rest g' (world s marks') v e)
       (h v (control.after_call (unmarked_reading plan).keeps restores environment saved) saved g' s marks marks'
       (agrees_less plan (λ x l. perhaps (L x) (is_true v) l) (agrees_as plan (λ x. left (is_slot (plan.place x)) (has x restores) (environment x) (saved x)) (λ x. refl) a)) e))) where
@@ -474,7 +442,7 @@ module _ (plan : Plan) (homes : Homes plan) (callee callee' : Callee) (follow : 
       (put environment x v) saved (with_place f (plan.place x) f.accumulator) s marks' _ _
       (bound plan homes (λ z. Live z b (L z)) x r p.0 v f.accumulator (e ∙ is_meant x v u.0))
       (λ g marks' a' e'. at_state (λ w. does b inside (put environment x v) (put_if (inside x) saved x v) w next) _ (mark_bound (unmarked_reading plan) inside x (world s marks)) s
-      (bound_noted (unmarked_reading plan) inside x (world s marks))
+      (bound_state (unmarked_reading plan) inside x (world s marks))
       (λ marks. same b inside L u.1.1 p.1.1 (n + labels a) test rest (below_up test n (n + labels a) (omega arith) below)
       (put environment x v) (put_if (inside x) saved x v) g s marks marks' next
       (agrees_on plan (λ z l. l) (λ z k. bound_kept inside (x ∷ []) (λ z. Live z b (L z)) (λ z. Across x z (Live z b (L z))) (λ z o l. (eqb-false z x (not_left (nat_eq z x) _ o), l)) z k)
@@ -511,7 +479,7 @@ module _ (plan : Plan) (homes : Homes plan) (callee callee' : Callee) (follow : 
   same (save saves e) inside L u p n test rest below environment saved f s marks marks' next r h =
       stored_does (λ x. Live x e (L x)) (Kept inside (λ x. Live x e (L x))) (heads e saves) environment saved f s marks' _ _ r
       (λ g marks' a i. at_state (λ w. does e (with_region saves inside) environment (save_each (heads e saves) environment saved) w next) _
-      (mark_each (unmarked_reading plan) mark.Save (heads e saves) (world s marks)) s (each_noted (unmarked_reading plan) mark.Save (heads e saves) (world s marks))
+      (mark_each (unmarked_reading plan) mark.Save (heads e saves) (world s marks)) s (each_state (unmarked_reading plan) mark.Save (heads e saves) (world s marks))
       (λ marks. same e (with_region saves inside) L u p.1 n test rest below environment (save_each (heads e saves) environment saved) g s marks marks' next
       (agrees_on plan (λ x l. l) (head_kept inside saves e (λ x. Live x e (L x)) p.0) a)
       (λ v environment saved f s marks marks' r i. h v environment saved f s marks marks' (agrees_on plan (λ x l. l) (λ x k. (or_right (has x saves) _ k.0, k.1)) r) i)))

@@ -15,22 +15,19 @@ use Rattle.sch_control.specs.declared.operation.Operand.{Operand}
 use Rattle.sch_control.specs.declared.operation.Operand.TheVariants as operand
 use Rattle.sch_control.specs.declared.operation.Operation.TheVariants as operation
 use Rattle.sch_control.specs.Meaning.{Result, Callee, on_ending}
-use Rattle.sch_control.specs.Operations.{Procedure, and_value, atom_value, atom_values, operand_value, read, with_some}
+use Rattle.sch_control.specs.Operations.{Procedure, and_value, atom_value, atom_values, operand_value, read}
+use Rattle.sch_word.specs.values.Options.{when_some}
 use Rattle.sch_control.specs.AtomsAndSites.{operand_atoms}
 use Rattle.sch_frames.specs.declared.instruction.Instruction.{Instruction}
 use Rattle.sch_frames.specs.declared.instruction.Instruction.TheVariants.{Do, Store as Put, Copy, Pass}
 use Rattle.sch_frames.specs.Does.{EndsAs, world}
-use Rattle.sch_frames.specs.Meaning.{Cell, Is, Link, Junk, Frame, held, same_place, value_in, with_outgoing, with_place, execute_each}
+use Rattle.sch_frames.specs.Meaning.{Cell, Is, Link, Junk, Frame, held, value_in, with_outgoing, with_place, execute_each}
+use Rattle.sch_word.specs.values.Places.{same_place}
+use Rattle.sch_word.proofs.facts.Places.{places_same}
 use Rattle.sch_frames.proofs.EndsAlike.{onto_end}
 use Rattle.sch_frames.proofs.FramePlaces.{set_other}
 use Rattle.sch_layout.specs.BodyLayout.{under, move_mark, writing, is_direct, move_into, move_all}
 use Rattle.sch_layout.specs.Moves.{Move, Contents, EachMove, moved_one, moved, Carries, is_own, reads_own_atom, reads_own}
-
-pub places_same : (p q : Place) → same_place p q ≡ true → p ≡ q
-places_same (Reg a) (Reg b) e = ap Reg (eqb-true a b e)
-places_same (Slot a) (Slot b) e = ap Slot (eqb-true a b e)
-places_same (Reg a) (Slot b) e = absurd (cc)
-places_same (Slot a) (Reg b) e = absurd (cc)
 
 pub is_value : (c : Cell) (v : Value) → value_in c ≡ Some v → c ≡ Is v
 is_value (Is u) v e = ap (λ o. cell_by o) e where
@@ -140,7 +137,7 @@ module _ (words : ℕ) where
         → ((g : Frame) (marks : List MarkKind) → Written f g to v → EndsAs r (run rest g marks)) → (marks : List MarkKind)
         → EndsAs r (run (Do (operation.Operand o) ∷ under m (writing words to) rest) f marks)
     aside_does to m o v f e rest r go marks =
-        onto_end r _ _ (ap (λ x. on_ending marks (with_some x (λ v. Some (gives v s))) (λ v w. execute_each callee depth (under m (writing words to) rest) None (record f { accumulator = Is v }) w)) e)
+        onto_end r _ _ (ap (λ x. on_ending marks (when_some x (λ v. Some (gives v s))) (λ v w. execute_each callee depth (under m (writing words to) rest) None (record f { accumulator = Is v }) w)) e)
         (under_does m (writing words to) rest (record f { accumulator = Is v }) r (writes to go) marks) where
           writes : (to : Place) → ((g : Frame) (marks : List MarkKind) → Written f g to v → EndsAs r (run rest g marks))
               → (marks : List MarkKind) → EndsAs r (run (writing words to ∷ rest) (record f { accumulator = Is v }) marks)

@@ -16,7 +16,7 @@ use Rattle.sch_control.specs.declared.operation.Operation.TheVariants as operati
 use Rattle.sch_control.specs.Operations.{Procedure, atom_value, atom_values, operand_value, operand_values, field, source_value, source_values, operate, members_made}
 use Rattle.sch_control.specs.AtomsAndSites.{operand_atoms, operands_atoms, source_atom, source_atoms, operation_atoms, member_atoms}
 use Rattle.sch_frames.specs.Does.{Follows}
-use Rattle.sch_frames.proofs.EndsAlike.{follows_same, onto, and_value_follows, read_follows, with_some_follows}
+use Rattle.sch_frames.proofs.EndsAlike.{follows_same, onto, and_value_follows, read_follows, when_some_follows}
 use Rattle.sch_layout.specs.Laws.{AtomHas, AtomsHave}
 use Rattle.sch_layout.specs.BodyLayout.{atom_at, atoms_at, operand_at, operands_at, operation_at, source_at, sources_at, members_at}
 
@@ -67,19 +67,19 @@ module _ (place : ℕ → Place) (P : ℕ → Type 0) (at : ℕ → Option Value
   pub members_follow : (s : State Procedure) (members : List (Member ℕ)) → AtomsHave P (member_atoms members) → Follows (members_made at s members) (members_made at' s (members_at place members))
   members_follow s [] h = refl
   members_follow s (m ∷ members) h =
-      and_value_follows _ _ _ _ (with_some_follows _ _ _ _ (sources_follow s m.closure.fields (have_left P (source_atoms m.closure.fields) _ h)) (λ vs. refl))
+      and_value_follows _ _ _ _ (when_some_follows _ _ _ _ (sources_follow s m.closure.fields (have_left P (source_atoms m.closure.fields) _ h)) (λ vs. refl))
       (members_follow s members (have_right P (source_atoms m.closure.fields) _ h))
 
   pub operate_follows : (o : Operation ℕ) (s : State Procedure) → AtomsHave P (operation_atoms o)
       → Follows (operate at o s) (operate at' (operation_at place o) s)
-  operate_follows (operation.Operand o) s h = with_some_follows _ _ _ _ (operand_follows s.store o h) (λ v. refl)
-  operate_follows (operation.Prim site which operands) s h = with_some_follows _ _ _ _ (operands_follow s.store operands h) (λ vs. refl)
+  operate_follows (operation.Operand o) s h = when_some_follows _ _ _ _ (operand_follows s.store o h) (λ v. refl)
+  operate_follows (operation.Prim site which operands) s h = when_some_follows _ _ _ _ (operands_follow s.store operands h) (λ vs. refl)
   operate_follows (operation.Global g) s h = refl
-  operate_follows (operation.SetGlobal g o) s h = with_some_follows _ _ _ _ (operand_follows s.store o h) (λ v. refl)
-  operate_follows (operation.Field x k) s h = with_some_follows _ _ _ _ (field_follows x k s.procedures h.0) (λ v. refl)
-  operate_follows (operation.NewCell c) s h = with_some_follows _ _ _ _ (source_follows s c h.0) (λ v. refl)
+  operate_follows (operation.SetGlobal g o) s h = when_some_follows _ _ _ _ (operand_follows s.store o h) (λ v. refl)
+  operate_follows (operation.Field x k) s h = when_some_follows _ _ _ _ (field_follows x k s.procedures h.0) (λ v. refl)
+  operate_follows (operation.NewCell c) s h = when_some_follows _ _ _ _ (source_follows s c h.0) (λ v. refl)
   operate_follows operation.UnsetCell s h = refl
-  operate_follows (operation.CellGet c) s h = with_some_follows _ _ _ _ (source_follows s c h.0) (λ v. refl)
+  operate_follows (operation.CellGet c) s h = when_some_follows _ _ _ _ (source_follows s c h.0) (λ v. refl)
   operate_follows (operation.CellSet c o) s h =
-      with_some_follows _ _ _ _ (source_follows s c h.0) (λ v. with_some_follows _ _ _ _ (operand_follows s.store o h.1) (λ u. refl))
-  operate_follows (operation.MakeClosure c) s h = with_some_follows _ _ _ _ (sources_follow s c.fields h) (λ vs. refl)
+      when_some_follows _ _ _ _ (source_follows s c h.0) (λ v. when_some_follows _ _ _ _ (operand_follows s.store o h.1) (λ u. refl))
+  operate_follows (operation.MakeClosure c) s h = when_some_follows _ _ _ _ (sources_follow s c.fields h) (λ vs. refl)

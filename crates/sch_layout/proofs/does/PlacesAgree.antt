@@ -14,7 +14,8 @@ use Rattle.sch_control.specs.declared.operation.Member.{Member}
 use Rattle.sch_control.specs.Meaning.{Environment, put, put_each}
 use Rattle.sch_control.specs.Valid.{member_variables}
 use Rattle.sch_frames.specs.Does.{Follows}
-use Rattle.sch_frames.specs.Meaning.{Cell, Is, Link, Junk, Frame, value_in, held, is_slot, same_place, set, with_place, with_members}
+use Rattle.sch_frames.specs.Meaning.{Cell, Is, Link, Junk, Frame, value_in, held, is_slot, set, with_place, with_members}
+use Rattle.sch_word.specs.values.Places.{same_place}
 use Rattle.sch_frames.specs.Meaning as frames
 use Rattle.sch_frames.proofs.FramePlaces.{set_other, set_self}
 use Rattle.sch_layout.specs.BodyLayout.{Plan, members_at}

@@ -27,7 +27,8 @@ use Rattle.sch_control.specs.Tree.{Expression, perform, bind, sequence, branch, 
 use Rattle.sch_control.specs.Valid.{member_variables, operand_shaped, operands_shaped, operation_shaped, members_shaped, group_shaped, each_part, shaped, Names, atom_known, atoms_known, closure_known, members_known, operation_known, application_known, group_known}
 use Rattle.sch_frames.specs.declared.instruction.Instruction.{Instruction}
 use Rattle.sch_frames.specs.declared.instruction.Instruction.TheVariants.{Do, Store, Copy, Pass, Fix, Call, Tail, Return, End, IfFalse, Jump, Label, Mark}
-use Rattle.sch_frames.specs.Meaning.{is_slot, same_place}
+use Rattle.sch_frames.specs.Meaning.{is_slot}
+use Rattle.sch_word.specs.values.Places.{same_place}
 use Rattle.sch_frames.specs.Valid.{are_members, instruction_known, instruction_placed, instruction_shaped, is_atom, is_place}
 use Rattle.sch_layout.specs.BodyLayout.{Plan, arguments_at, source_at, sources_at, atom_at, atoms_at, operand_at, operands_at, members_at, operation_at, arrived, entering, spill, target, under, writing, move_all, stored, loaded, leave, labels, lay}
 use Rattle.sch_layout.specs.Laws.{AtomHas, AtomsHave, MembersUse, Uses}

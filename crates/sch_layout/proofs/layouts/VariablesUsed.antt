@@ -10,6 +10,7 @@ use Rattle.sch_control.specs.declared.operation.Atom.TheVariants.{Constant, Lite
 use Rattle.sch_control.specs.declared.operation.Member.{Member}
 use Rattle.sch_control.specs.Tree.{Expression, perform, bind, sequence, branch, fix, call, tail_call, return, end, save, Code}
 use Rattle.sch_control.specs.Valid.{in_scope_atoms, in_scope, with_variable, with_members, member_variables, bound_in, first_scope, first_bound, numbered, max_body_variables}
+use Rattle.sch_control.proofs.VariableLists.{each_more}
 use Rattle.sch_layout.specs.Laws.{AtomsHave, Behind, MembersUse, Uses}
 
 -- behind the return address, and below a number
@@ -23,10 +24,6 @@ each_left P (x ∷ xs) ys h = (h.0, each_left P xs ys h.1)
 each_right : (P : ℕ → Type 0) (xs ys : List ℕ) → EachHas P (xs ++ ys) → EachHas P ys
 each_right P [] ys h = h
 each_right P (x ∷ xs) ys h = each_right P xs ys h.1
-
-each_more : (P Q : ℕ → Type 0) → ((x : ℕ) → P x → Q x) → (xs : List ℕ) → EachHas P xs → EachHas Q xs
-each_more P Q f [] h = tt
-each_more P Q f (x ∷ xs) h = (f x h.0, each_more P Q f xs h.1)
 
 each_from : (P : ℕ → Type 0) (test : ℕ → Bool) → ((x : ℕ) → test x ≡ true → P x) → (xs : List ℕ) → list_all test xs ≡ true → EachHas P xs
 each_from P test f [] h = tt

@@ -1,5 +1,5 @@
 -- A way through a body that is laid out is a path of its tree.
-use Rattle.std.proofs.Common.{◌≡◌, ℕ, zero, suc, ◌+◌, ◌<◌, List, [], ◌∷◌, ◌++◌, length, Option, Some, None, Bool, true, false, cond, refl, sym, ap, ◌∙◌, subst, inl, inr, map, arith, append_assoc, append-nil}
+use Rattle.std.proofs.Common.{◌≡◌, ℕ, zero, suc, ◌+◌, ◌<◌, List, [], ◌∷◌, ◌++◌, length, Option, Some, None, Bool, true, false, cond, refl, sym, ap, ◌∙◌, subst, map, arith, append_assoc, append-nil}
 use Rattle.std.specs.Prelude.{nat_lt, filter, ◌-◌}
 use Rattle.std.proofs.lemmas.Bool.{ne_eqb, eq-eqb}
 use Rattle.sch_word.proofs.facts.Booleans.{and_left, and_right, false_true}
@@ -23,20 +23,18 @@ use Rattle.sch_control.specs.Tree.{Expression, perform, bind, sequence, branch, 
 use Rattle.sch_control.specs.Valid.{last_position, member_variables, Position, value, no_call, procedure_end, form_end, is_value, ends_procedure, ends_form, positioned}
 use Rattle.sch_frames.specs.declared.instruction.Instruction.{Instruction}
 use Rattle.sch_frames.specs.declared.instruction.Instruction.TheVariants.{Do, Store, Copy, Pass, Call, Tail, Return, Jump, Label, Mark}
-use Rattle.sch_frames.specs.Meaning.{Frame, Is, beginning, held, is_slot, same_place, sought}
+use Rattle.sch_frames.specs.Meaning.{Frame, Is, beginning, held, is_slot, sought}
+use Rattle.sch_word.specs.values.Places.{same_place}
 use Rattle.sch_frames.specs.Ways.{way}
 use Rattle.sch_layout.specs.BodyLayout.{Plan, arrived, arrivals, entering, operation_at, under, spill, move_mark, writing, is_direct, move_into, move_all, carried, stored, loaded, leave, labels, lay}
 use Rattle.sch_layout.specs.Laws.{WaysArePaths}
 use Rattle.sch_layout.specs.Moves.{Move}
-use Rattle.sch_control.specs.flow.Live.{named, AfterValue, Perhaps}
+use Rattle.sch_control.specs.flow.Live.{named, AfterValue}
 use Rattle.sch_control.specs.flow.Paths.{Event, Binds, References, Saves, Calls, Tails, Returns, Ends, binding, grouping, IsPath}
+use Rattle.sch_control.proofs.Results.{perhaps}
 use Rattle.sch_layout.specs.PathMarks.{if_any, left_by, move_marks, restore_marks, marks_of, path_marks, arrival_marks, entry_marks}
 
 -- ## What a value is known to be
-
-perhaps : (P : Bool → Type 0) (b : Bool) → P b → Perhaps P
-perhaps P true p = inl p
-perhaps P false p = inr p
 
 value_given : Ending → Value
 value_given None = unspecified

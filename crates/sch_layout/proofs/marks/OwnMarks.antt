@@ -10,7 +10,8 @@ use Rattle.sch_word.specs.declared.mark.MarkKind.TheVariants as mark
 use Rattle.sch_control.specs.declared.operation.Atom.TheVariants.{Constant, Literal, Variable}
 use Rattle.sch_control.specs.declared.operation.Operand.{Operand}
 use Rattle.sch_control.specs.declared.operation.Operand.TheVariants as operand
-use Rattle.sch_frames.specs.Meaning.{is_slot, same_place}
+use Rattle.sch_frames.specs.Meaning.{is_slot}
+use Rattle.sch_word.specs.values.Places.{same_place}
 use Rattle.sch_layout.specs.BodyLayout.{Plan, arrived, move_mark, spill}
 use Rattle.sch_layout.specs.Moves.{Move}
 use Rattle.sch_layout.specs.OwnMarks.{is_call, has_call, SavesThenCalls, RestoresAfterCalls, OwnMarksStand}

@@ -3,15 +3,16 @@ use Rattle.std.proofs.Common.{◌≡◌, ℕ, Bool, true, false, List, [], ◌�
 use Rattle.std.specs.Prelude.{◌↔◌, nat_eq, filter, ◌||◌}
 use Rattle.std.specs.Bool.{MatchBool}
 use Rattle.sch_word.specs.trees.NumberSets.{has}
-use Rattle.sch_word.proofs.facts.Booleans.{neither, not_left, not_right}
+use Rattle.sch_word.proofs.facts.Booleans.{neither, not_left, not_right, never_true}
 use Rattle.sch_control.specs.AtomsAndSites.{operation_atoms, application_atoms, member_atoms}
 use Rattle.sch_control.specs.Meaning.{binds, heads, with_region}
 use Rattle.sch_control.specs.Tree.{Expression, perform, bind, sequence, branch, fix, call, tail_call, return, end, save}
 use Rattle.sch_control.specs.Valid.{in_scope, bound_in, member_variables}
 use Rattle.sch_control.specs.flow.Live.{named, Live, Later}
 use Rattle.sch_control.specs.flow.Paths.{Event, Binds, References, Saves, Calls, Tails, Returns, Ends, binding, grouping, IsPath, Act, Yes, No, On, decided, Meets, MayMeet, live, refers}
+use Rattle.sch_control.proofs.VariableLists.{among_is}
 use Rattle.sch_paths.proofs.paths.LiveByPaths.{itself, live_is}
-use Rattle.sch_paths.proofs.saves.LiveInScope.{Readable, Unbound, among_is, binds_is, live_scope, not_both}
+use Rattle.sch_paths.proofs.saves.LiveInScope.{Readable, Unbound, binds_is, live_scope}
 
 -- the events bind the variable
 abbrev pub bound_by : ℕ → List Event → Bool
@@ -100,7 +101,7 @@ pub literal : (e : Expression) (scope : ℕ → Bool) → in_scope e scope ≡ t
     → (x : ℕ) → (Readable scope x × MayMeet (refers x) inside e (L x)) ↔ Live x e (L x)
 literal e scope i u inside L f x = (forth, back) where
   none : Readable scope x → binds x e ≡ false
-  none r = binds_is x e ∙ not_both (has x (bound_in e)) (λ m. u x m r)
+  none r = binds_is x e ∙ never_true (has x (bound_in e)) (λ m. u x m r)
 
   forth : Readable scope x × MayMeet (refers x) inside e (L x) → Live x e (L x)
   forth w =

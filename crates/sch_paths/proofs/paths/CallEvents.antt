@@ -14,8 +14,8 @@ use Rattle.sch_control.specs.Valid.{member_variables}
 use Rattle.sch_control.specs.flow.Live.{named, Perhaps, Live, Later, nothing_later}
 use Rattle.sch_control.specs.flow.LiveSets.{LiveSets}
 use Rattle.sch_control.specs.flow.Paths.{Event, Binds, References, Saves, Calls, Returns, Ends, binding, grouping, IsPath, Yes, No, On, decided, Meets, MayMeet, live, is_call, some_call}
+use Rattle.sch_control.proofs.Results.{perhaps}
 use Rattle.sch_paths.specs.Calls.{MeetsAfter, ListsLive}
-use Rattle.sch_paths.proofs.runs.SameOperands.{perhaps}
 use Rattle.sch_paths.proofs.paths.LiveByPaths.{live_is, binding_live}
 use Rattle.sch_paths.proofs.paths.MeetsByCases.{has_path, meets-append, meets-map, meets-decide}
 use Rattle.sch_paths.proofs.paths.PathResults.{path_gives}

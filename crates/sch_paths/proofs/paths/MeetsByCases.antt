@@ -7,6 +7,7 @@ use Rattle.sch_control.specs.Meaning.{heads, with_region}
 use Rattle.sch_control.specs.Tree.{Expression, perform, bind, sequence, branch, fix, call, tail_call, return, end, save}
 use Rattle.sch_control.specs.flow.Live.{named, Perhaps, ByResult, known, AfterValue}
 use Rattle.sch_control.specs.flow.Paths.{Event, References, Saves, Calls, Tails, Returns, Ends, binding, grouping, IsPath, Act, Yes, No, On, decided, Meets, MayMeet}
+use Rattle.sch_control.proofs.Results.{perhaps}
 
 -- ## Results
 
@@ -127,10 +128,6 @@ module _ (act : Event → Act) where
   Before inside (end e) L = Before inside e (λ t. Meets act (Ends ∷ []) (Perhaps L))
   Before inside (save saves e) L = Meets act (map Saves (heads e saves)) (Before (with_region saves inside) e L)
 
-  either_result : (L : Bool → Type 0) (r : Bool) → L r → Perhaps L
-  either_result L true l = inl l
-  either_result L false l = inr l
-
   pub met : (inside : ℕ → Bool) (e : Expression) (L : Bool → Type 0) (es : List Event) (r : Bool) → IsPath inside e es r → Meets act es (L r) → Before inside e L
   met inside (perform o) L es r path w = meets-map (map References (named (operation_atoms o))) _ _ (of_result (known o) L r path.1) (rw path.0 at w)
   met inside (bind y a b) L es r path w =
@@ -151,14 +148,14 @@ module _ (act : Event → Act) where
   met inside (fix members e) L es r path w =
       let mid : List Event = grouping inside members in
       meets-map mid _ _ (met inside e L path.0 r path.1) ((meets-append mid path.0 (L r)).0 (rw path.2 at w))
-  met inside (call a listed) L es r path w = meets-map _ _ _ (either_result L r) (rw path at w)
-  met inside (tail_call a) L es r path w = meets-map _ _ _ (either_result L r) (rw path at w)
+  met inside (call a listed) L es r path w = meets-map _ _ _ (perhaps L r) (rw path at w)
+  met inside (tail_call a) L es r path w = meets-map _ _ _ (perhaps L r) (rw path at w)
   met inside (return e) L es r path w =
       met inside e _ path.0 path.1 path.2
-      (meets-map path.0 _ _ (meets-map (References 0 ∷ Returns ∷ []) _ _ (either_result L r)) ((meets-append path.0 (References 0 ∷ Returns ∷ []) (L r)).0 (rw path.3 at w)))
+      (meets-map path.0 _ _ (meets-map (References 0 ∷ Returns ∷ []) _ _ (perhaps L r)) ((meets-append path.0 (References 0 ∷ Returns ∷ []) (L r)).0 (rw path.3 at w)))
   met inside (end e) L es r path w =
       met inside e _ path.0 path.1 path.2
-      (meets-map path.0 _ _ (meets-map (Ends ∷ []) _ _ (either_result L r)) ((meets-append path.0 (Ends ∷ []) (L r)).0 (rw path.3 at w)))
+      (meets-map path.0 _ _ (meets-map (Ends ∷ []) _ _ (perhaps L r)) ((meets-append path.0 (Ends ∷ []) (L r)).0 (rw path.3 at w)))
   met inside (save saves e) L es r path w =
       meets-map (map Saves (heads e saves)) _ _ (met (with_region saves inside) e L path.0 r path.1)
       ((meets-append (map Saves (heads e saves)) path.0 (L r)).0 (rw path.2 at w))

@@ -8,10 +8,10 @@ use Rattle.sch_control.specs.Meaning.{binds, no_region}
 use Rattle.sch_control.specs.Tree.{Expression, perform, bind, sequence, branch, fix, call, tail_call, return, end, save}
 use Rattle.sch_control.specs.Valid.{Position, value, no_call, procedure_end, form_end, is_value, positioned}
 use Rattle.sch_control.specs.flow.Live.{Across, Live}
+use Rattle.sch_control.proofs.VariableLists.{among_is}
 use Rattle.sch_paths.specs.Exact.{LiveAfterCalls}
 use Rattle.sch_paths.proofs.saves.LiveHeads.{through}
 use Rattle.sch_paths.proofs.paths.MeetsByCases.{has_path}
-use Rattle.sch_paths.proofs.saves.LiveInScope.{among_is}
 
 -- what is live behind an expression whatever its value is live before it
 past : (x : ℕ) (e : Expression) (at : Position) → positioned e at ≡ true → is_value at ≡ true → binds x e ≡ false → (K : Bool → Type 0) → ((t : Bool) → K t) → Live x e K

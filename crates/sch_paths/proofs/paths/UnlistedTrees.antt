@@ -53,13 +53,14 @@ soon_unlisted x (end e) S = soon_unlisted x e (λ t. ⊥)
 soon_unlisted x (save saves e) S =
     ap (λ A. (has x (heads (unlisted e) saves) ≡ true) ⊎ A) (soon_unlisted x e S) ∙ ap (λ hs. (has x hs ≡ true) ⊎ Soon x e S) (heads_unlisted e saves)
 
-abbrev Behind : Expression → Later → ℕ → Type 0
-Behind e L x = Live x e (L x)
+-- what is live before an expression, by what is live behind it
+abbrev pub LiveBefore : Expression → Later → ℕ → Type 0
+LiveBefore e L x = Live x e (L x)
 
-behind_unlisted : (e : Expression) (L : Later) → Behind (unlisted e) L ≡ Behind e L
+pub behind_unlisted : (e : Expression) (L : Later) → LiveBefore (unlisted e) L ≡ LiveBefore e L
 behind_unlisted e L = fun_ext (λ x. live_unlisted x e (L x))
 
-both_are : {A B C D : Type 0} → A ≡ C → B ≡ D → (A × B) ≡ (C × D)
+pub both_are : {A B C D : Type 0} → A ≡ C → B ≡ D → (A × B) ≡ (C × D)
 both_are {B = B} {C = C} e f = ap (λ A. A × B) e ∙ ap (λ B. C × B) f
 
 module _ (keeps : ℕ → Bool) where

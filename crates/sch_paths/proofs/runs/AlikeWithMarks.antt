@@ -1,26 +1,30 @@
 -- Eager restores are enough: a body with saves and restores does what the plain body does.
-use Rattle.std.proofs.Common.{◌≡◌, ◌≢◌, ℕ, zero, suc, List, [], ◌∷◌, length, Option, Some, None, Bool, true, false, cond, refl, sym, ap, ◌∙◌, subst, ◌⊎◌, inl, inr, arith}
+use Rattle.std.proofs.Common.{◌≡◌, ◌≢◌, ℕ, List, [], ◌∷◌, length, Option, Some, None, Bool, true, false, cond, refl, sym, ap, ◌∙◌, subst, ◌⊎◌, inl, inr, arith}
 use Rattle.std.specs.Prelude.{nat_eq, ◌||◌}
 use Rattle.std.specs.Bool.{MatchBool}
 use Rattle.std.proofs.lemmas.Bool.{eqb-true, eqb-false, ne_eqb}
-use Rattle.sch_word.specs.trees.NumberSets.{has, unless}
+use Rattle.sch_word.specs.trees.NumberSets.{has}
 use Rattle.sch_word.specs.values.Values.{Value, is_true}
 use Rattle.sch_word.specs.values.Checked.{Checked, passes, refused, exhausted, unreachable}
 use Rattle.sch_word.specs.runs.Charges.{charge_each}
 use Rattle.sch_word.specs.runs.Computation.{Outcome, gives, stops, spent, State, in_store, procedures_from, Entry, checked_call}
-use Rattle.sch_word.proofs.facts.Booleans.{neither, or_left, or_right, false_true}
+use Rattle.sch_word.proofs.facts.Booleans.{neither, or_right, false_true}
 use Rattle.sch_word.specs.declared.mark.MarkKind.{MarkKind}
 use Rattle.sch_word.specs.declared.mark.MarkKind.TheVariants as mark
+use Rattle.sch_word.proofs.Lengths.{procedures_length}
 use Rattle.sch_control.specs.declared.operation.Member.{Member}
 use Rattle.sch_control.specs.AtomsAndSites.{member_atoms}
-use Rattle.sch_control.specs.Meaning.{World, Result, Environment, Then, Callee, Reading, plain, marked, marked_if, marked_each, with_value, on_outcome, on_ending, on_return, on_checked, either, put, put_if, put_each, put_inside, after_call, binds, heads, no_region, nothing, with_region, save_each, mark_each, mark_bound, mark_members, entered, call_in, falls_off, evaluate, do_body}
+use Rattle.sch_control.specs.Meaning.{World, Result, Environment, Then, Callee, Reading, plain, marked, marked_each, with_value, on_outcome, on_ending, on_return, on_checked, either, put, put_if, put_each, put_inside, after_call, binds, heads, no_region, nothing, with_region, save_each, mark_each, mark_bound, entered, call_in, falls_off, evaluate, do_body}
 use Rattle.sch_control.specs.Operations.{Procedure, Ending, part_values, operate, member_bytes, with_procedures}
 use Rattle.sch_control.specs.Tree.{Expression, perform, bind, sequence, branch, fix, call, tail_call, return, end, save}
 use Rattle.sch_control.specs.Valid.{member_variables}
 use Rattle.sch_control.specs.flow.Live.{Mentions, Across, MayGive, Live, Soon, Later, nothing_later}
 use Rattle.sch_control.specs.flow.Bare.{erased}
+use Rattle.sch_control.proofs.Results.{perhaps}
+use Rattle.sch_control.proofs.MarksAlone.{moves_state, each_state, bound_state, members_state}
+use Rattle.sch_control.proofs.VariableLists.{heads_has}
 use Rattle.sch_paths.specs.Conditions.{Saved, Restored, Fresh, Alike, CalleesAlike}
-use Rattle.sch_paths.proofs.runs.SameOperands.{parts_same, members_same, operate_same, perhaps, after_value}
+use Rattle.sch_paths.proofs.runs.SameOperands.{parts_same, members_same, operate_same, after_value}
 
 -- ## Results that are alike
 
@@ -81,30 +85,6 @@ either_alike : (t : Bool) (x y x' y' : Result) → (t ≡ true → Alike x x') �
 either_alike true x y x' y' f g = f refl
 either_alike false x y x' y' f g = g refl
 
--- ## Marks change no state
-
-if_state : (t : Bool) (m : MarkKind) (w : World) → (marked_if t m w).state ≡ w.state
-if_state true m w = refl
-if_state false m w = refl
-
-moves_state : (ms : List MarkKind) (w : World) → (marked_each ms w).state ≡ w.state
-moves_state [] w = refl
-moves_state (m ∷ ms) w = moves_state ms (marked m w)
-
-module _ (reading : Reading) where
-  each_state : (kind : ℕ → MarkKind) (xs : List ℕ) (w : World) → (mark_each reading kind xs w).state ≡ w.state
-  each_state kind [] w = refl
-  each_state kind (x ∷ xs) w = each_state kind xs (marked_if (reading.is_marked x) (kind x) w) ∙ if_state (reading.is_marked x) (kind x) w
-
-  bound_state : (inside : ℕ → Bool) (x : ℕ) (w : World) → (mark_bound reading inside x w).state ≡ w.state
-  bound_state inside x w =
-      if_state (cond (inside x) (reading.is_marked x) false) (mark.Save x) (marked_if (reading.spills x) (mark.Spill x) w)
-      ∙ if_state (reading.spills x) (mark.Spill x) w
-
-  members_state : (inside : ℕ → Bool) (members : List (Member ℕ)) (w : World) → (mark_members reading inside members w).state ≡ w.state
-  members_state inside [] w = refl
-  members_state inside (m ∷ members) w = members_state inside members (mark_bound reading inside m.at w) ∙ bound_state inside m.at w
-
 -- ## Environments
 
 put_same : (environment placed : Environment) (y : ℕ) (v : Value) (x : ℕ) → (x ≢ y → placed x ≡ environment x) → put placed y v x ≡ put environment y v x
@@ -141,21 +121,6 @@ members_saved inside (m ∷ members) [] l environment saved x i h = absurd (cc)
 members_saved inside (m ∷ members) (v ∷ vs) l environment saved x i h =
     members_saved inside members vs (omega (arith, l)) (put environment m.at v) (put_if (inside m.at) saved m.at v) x i
     (λ f. saved_same inside environment saved m.at v x i (λ n. h (neither (nat_eq x m.at) _ (ne_eqb x m.at n) f)))
-
-pub procedures_length : (n k : ℕ) → length (procedures_from n k) ≡ k
-procedures_length n zero = refl
-procedures_length n (suc k) = ap suc (procedures_length (suc n) k)
-
-in_heads : (e : Expression) (xs : List ℕ) (x : ℕ) → has x xs ≡ true → binds x e ≡ false → has x (heads e xs) ≡ true
-in_heads e [] x h b = absurd (cc)
-in_heads e (y ∷ xs) x h b = by (nat_eq x y) refl (λ h. in_heads e xs x h b) h where
-  more : (t : Bool) → has x (heads e xs) ≡ true → has x (unless t y (heads e xs)) ≡ true
-  more true h = h
-  more false h = or_right (nat_eq x y) _ h
-
-  by : (t : Bool) → nat_eq x y ≡ t → (has x xs ≡ true → has x (heads e xs) ≡ true) → (t || has x xs) ≡ true → has x (unless (binds y e) y (heads e xs)) ≡ true
-  by true i f h = rw (sym (ap (λ z. binds z e) (eqb-true x y i)) ∙ b) (or_left (nat_eq x y) _ i)
-  by false i f h = more (binds y e) (f h)
 
 -- ## What holds at a point
 
@@ -238,7 +203,7 @@ module _ (keeps : ℕ → Bool) where
     by : (x : ℕ) → live x → (t u b : Bool) → has x (heads e saves) ≡ t → has x saves ≡ u → binds x e ≡ b → (u || inside x) ≡ true → cond t (placed x) (saved x) ≡ environment x
     by x l true u b t_is u_is b_is i = found h x l (inl t_is)
     by x l false true true t_is u_is b_is i = absurd (fresh x u_is b_is l)
-    by x l false true false t_is u_is b_is i = absurd (false_true (in_heads e saves x u_is b_is) t_is)
+    by x l false true false t_is u_is b_is i = absurd (false_true (heads_has e saves x u_is b_is) t_is)
     by x l false false b t_is u_is b_is i = h.safe x l i
 
 -- ## The simulation

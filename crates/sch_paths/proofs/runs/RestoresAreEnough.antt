@@ -1,8 +1,6 @@
 -- Bodies with lazy saves and eager restores do what they did.
-use Rattle.std.proofs.Common.{◌≡◌, ℕ, ◌+◌, Bool, true, false, List, [], ◌∷◌, Option, Some, None, refl, ap, sym, ◌∙◌, subst, inl, inr, arith}
-use Rattle.std.specs.Prelude.{nat_eq, nat_le, nat_lt, ◌||◌}
-use Rattle.std.specs.List.{list_all}
-use Rattle.std.proofs.lemmas.Bool.{eqb-true}
+use Rattle.std.proofs.Common.{◌≡◌, ℕ, ◌+◌, Bool, true, [], Option, Some, None, refl, ap, sym, ◌∙◌, subst, inl, inr, arith}
+use Rattle.std.specs.Prelude.{nat_le, nat_lt}
 use Rattle.std.proofs.lemmas.Bool.Decides.{nat_tests}
 use Rattle.sch_word.specs.trees.NumberSets.{has}
 use Rattle.sch_word.proofs.facts.Booleans.{and_left, and_right}
@@ -15,6 +13,7 @@ use Rattle.sch_control.specs.flow.Bare.{erased, unlisted}
 use Rattle.sch_control.specs.flow.Middle.{silent}
 use Rattle.sch_paths.specs.Conditions.{Saved, Fresh, Alike, CalleesAlike}
 use Rattle.sch_control.specs.flow.LiveSets.{LiveSets}
+use Rattle.sch_control.proofs.VariableLists.{each_passes}
 use Rattle.sch_paths.specs.Exact.{LazySaves, RestoresBetween}
 use Rattle.sch_paths.proofs.runs.AlikeWithMarks.{enough}
 use Rattle.sch_paths.proofs.saves.SavedAndRestored.{lazy_saved, all_restored}
@@ -23,13 +22,6 @@ use Rattle.sch_paths.proofs.saves.LiveInScope.{Readable, Unbound, fresh_body}
 use Rattle.sch_paths.proofs.paths.UnlistedTrees.{saved_alike}
 
 -- ## Valid bodies
-
-each_is : (test : ℕ → Bool) (ys : List ℕ) → list_all test ys ≡ true → (x : ℕ) → has x ys ≡ true → test x ≡ true
-each_is test [] h x m = absurd (cc)
-each_is test (y ∷ ys) h x m = by (nat_eq x y) refl (each_is test ys (and_right (test y) _ h) x) m where
-  by : (t : Bool) → nat_eq x y ≡ t → (has x ys ≡ true → test x ≡ true) → (t || has x ys) ≡ true → test x ≡ true
-  by true e f m = ap test (eqb-true x y e) ∙ and_left (test y) _ h
-  by false e f m = f m
 
 past_first : (entry : Option Entry) (x : ℕ) → nat_le (first_bound entry) x ≡ true → Readable (first_scope entry) x → ⊥
 past_first None x h (inl z) = grind (arith, nat_tests, h, z)
@@ -42,7 +34,7 @@ past_first (Some e) x h (inr s) =
 pub valid_unbound : (c : Code) → numbered c ≡ true → Unbound (first_scope c.entry) c.expression
 valid_unbound c n x m r =
     let inner = and_right (nat_le (first_bound c.entry) c.variables) _ (and_right _ _ n) in
-    past_first c.entry x (and_left (nat_le (first_bound c.entry) x) _ (each_is _ (bound_in c.expression) (and_left _ _ inner) x m)) r
+    past_first c.entry x (and_left (nat_le (first_bound c.entry) x) _ (each_passes _ (bound_in c.expression) (and_left _ _ inner) x m)) r
 
 pub valid_once : (c : Code) → numbered c ≡ true → without_repeats (bound_in c.expression) ≡ true
 valid_once c n = and_right _ _ (and_right (nat_le (first_bound c.entry) c.variables) _ (and_right _ _ n))

@@ -1,5 +1,5 @@
 -- Operations that read the same values do the same.
-use Rattle.std.proofs.Common.{◌≡◌, ℕ, List, [], ◌∷◌, ◌++◌, Option, Some, None, Bool, true, false, refl, ap, sym, subst, inl, inr}
+use Rattle.std.proofs.Common.{◌≡◌, ℕ, List, [], ◌∷◌, ◌++◌, Option, Some, None, Bool, true, false, refl, ap, sym, subst}
 use Rattle.std.specs.Prelude.{nat_eq, ◌||◌}
 use Rattle.std.proofs.lemmas.Bool.{eq-eqb}
 use Rattle.sch_word.specs.trees.NumberSets.{has}
@@ -19,7 +19,8 @@ use Rattle.sch_control.specs.declared.operation.Operation.TheVariants as operati
 use Rattle.sch_control.specs.declared.operation.Application.{Application}
 use Rattle.sch_control.specs.Operations.{Procedure, Ending, read, atom_value, atom_values, operand_value, operand_values, part_values, field, source_value, source_values, operate, members_made}
 use Rattle.sch_control.specs.AtomsAndSites.{operand_atoms, operands_atoms, source_atom, source_atoms, operation_atoms, application_atoms, member_atoms}
-use Rattle.sch_control.specs.flow.Live.{named, Mentions, Perhaps, AfterValue}
+use Rattle.sch_control.specs.flow.Live.{named, Mentions, AfterValue}
+use Rattle.sch_control.proofs.Results.{perhaps}
 
 -- ## Atoms that are mentioned
 
@@ -125,10 +126,6 @@ module _ (at at' : ℕ → Option Value) where
   operate_same (operation.MakeClosure c) s h = rw (sources_same s c.fields h) refl
 
 -- ## What a value is known to be
-
-pub perhaps : (P : Bool → Type 0) (t : Bool) → P t → Perhaps P
-perhaps P true p = inl p
-perhaps P false p = inr p
 
 abbrev value_given : Ending → Value
 value_given None = unspecified

@@ -4,7 +4,7 @@ use Rattle.std.specs.Prelude.{nat_eq, filter, ◌||◌, not}
 use Rattle.std.specs.Bool.{MatchBool}
 use Rattle.std.proofs.lemmas.Bool.{eqb-true, eqb-false, eq-eqb, ne_eqb}
 use Rattle.sch_word.specs.trees.NumberSets.{has}
-use Rattle.sch_word.proofs.facts.Booleans.{and_left, and_right, or_left, or_right, neither, not_left, not_right, not_true}
+use Rattle.sch_word.proofs.facts.Booleans.{and_left, and_right, or_left, or_right, neither, not_left, not_right, not_true, never_true}
 use Rattle.sch_word.proofs.facts.NumberSets.{has_append}
 use Rattle.sch_control.specs.declared.operation.Member.{Member}
 use Rattle.sch_control.specs.AtomsAndSites.{operation_atoms, application_atoms, member_atoms}
@@ -14,12 +14,13 @@ use Rattle.sch_control.specs.Valid.{with_variable, with_members, in_scope_atoms,
 use Rattle.sch_control.specs.flow.Live.{named, Across, Live, Later, nothing_later}
 use Rattle.sch_control.specs.flow.Paths.{Event, Binds, References, Saves, Calls, Tails, Returns, Ends, binding, grouping, IsPath, calls, SavesFollowed}
 use Rattle.sch_control.specs.flow.LiveSets.{LiveSets}
+use Rattle.sch_control.proofs.VariableLists.{among_is}
 use Rattle.sch_paths.specs.Exact.{ArmsSave, LazySaves}
 use Rattle.sch_paths.specs.Regions.{regions_stand}
 use Rattle.sch_paths.proofs.saves.SavedAndRestored.{in_first, in_second}
 use Rattle.sch_paths.proofs.saves.LiveHeads.{call_behind, head_is, NeedsRound, no_round}
 use Rattle.sch_paths.proofs.saves.TwoSets.{EveryPathCalls, needs_is, references_call, binding_calls, grouping_calls, saves_call, no_calls}
-use Rattle.sch_paths.proofs.saves.LiveInScope.{Readable, Unbound, live_scope, outer_scope, more_scope, not_both, one_more, binds_is, among_is, repeats_left, repeats_right, repeats_apart}
+use Rattle.sch_paths.proofs.saves.LiveInScope.{Readable, Unbound, live_scope, outer_scope, more_scope, one_more, binds_is, repeats_left, repeats_right, repeats_apart}
 
 -- ## What is not in scope is live after no call
 
@@ -77,7 +78,7 @@ none_listed x inside (fix members e) scope i n' u Met L sets n es t path =
 none_listed x inside (call a listed) scope i n' u Met L sets n es t path =
     ap (calls x) path
     ∙ no_calls x (map References (named (application_atoms a))) (Calls a listed ∷ []) (references_call x (named (application_atoms a)))
-    (neither (has x listed) false (not_both (has x listed) (λ h. elim ((sets x).0 h).1 [ inl l ↦ n true l | inr l ↦ n false l ])) refl)
+    (neither (has x listed) false (never_true (has x listed) (λ h. elim ((sets x).0 h).1 [ inl l ↦ n true l | inr l ↦ n false l ])) refl)
 none_listed x inside (tail_call a) scope i n' u Met L sets n es t path =
     ap (calls x) path ∙ no_calls x (map References (named (application_atoms a))) (References 0 ∷ Tails a ∷ []) (references_call x (named (application_atoms a))) refl
 none_listed x inside (return e) scope i n' u Met L sets n es t path =
@@ -173,7 +174,7 @@ followed inside (bind y a b) here s scope i r u Met L sets f arms n es t path re
     (followed inside b false (and_right (regions_stand false a) _ s) (with_variable y scope) in_b (repeats_right (bound_in a) (bound_in b) once)
     not_in_b Met L sets.1 (λ x t l. elim (f x t l) [ inl e ↦ inl e | inr v ↦ inr (or_right (nat_eq x y) _ v) ])
     arms.1 (no_round b (and_right (regions_stand false a) _ s)) path.1 t path.4 rest
-    (λ x in_it m. past x (binds_is x a ∙ not_both (has x (bound_in a)) (λ k. repeats_apart (bound_in a) (bound_in b) once x k m)) (u x (in_bound x m))
+    (λ x in_it m. past x (binds_is x a ∙ never_true (has x (bound_in a)) (λ k. repeats_apart (bound_in a) (bound_in b) once x k m)) (u x (in_bound x m))
     (λ t w. not_live b (with_variable y scope) in_b x (not_in_b x m) (L x) (λ t l. u x (in_bound x m) (f x t l)) w.1)
     (h x in_it (in_bound x m)))
     g)))
@@ -191,7 +192,7 @@ followed inside (sequence a b) here s scope i r u Met L sets f arms n es t path 
     (followed inside b false (and_right (regions_stand false a) _ s) scope in_b (repeats_right (bound_in a) (bound_in b) r) (λ x m. u x (in_bound x m))
     Met L sets.1 f arms.1 (no_round b (and_right (regions_stand false a) _ s)) path.1 t path.4 rest
     (λ x in_it m. call_behind x (es ++ rest) path.0 (path.1 ++ rest) row
-    (none_listed x inside a scope in_a (binds_is x a ∙ not_both (has x (bound_in a)) (λ k. repeats_apart (bound_in a) (bound_in b) r x k m)) (u x (in_bound x m)) Met _ sets.0
+    (none_listed x inside a scope in_a (binds_is x a ∙ never_true (has x (bound_in a)) (λ k. repeats_apart (bound_in a) (bound_in b) r x k m)) (u x (in_bound x m)) Met _ sets.0
     (λ t w. not_live b scope in_b x (u x (in_bound x m)) (L x) (λ t l. u x (in_bound x m) (f x t l)) w) path.0 path.2 path.3)
     (h x in_it (in_bound x m)))
     g))
@@ -211,7 +212,7 @@ followed inside (branch a b c) here s scope i r u Met L sets f arms n es t path 
     = λ x m k.
     let out : Readable scope x → ⊥ = u x (in_bound x m) in
     call_behind x (es ++ rest) path.0 (path.1 ++ rest) row
-    (none_listed x inside a scope in_a (binds_is x a ∙ not_both (has x (bound_in a)) (λ j. repeats_apart (bound_in a) (bound_in b ++ bound_in c) r x j m)) out Met _ sets.0
+    (none_listed x inside a scope in_a (binds_is x a ∙ never_true (has x (bound_in a)) (λ j. repeats_apart (bound_in a) (bound_in b ++ bound_in c) r x j m)) out Met _ sets.0
     (λ t. elim t as (λ t. MatchBool t (Live x b (L x)) (Live x c (L x)) → ⊥) [
       | true ↦ not_live b scope in_b x out (L x) (λ t l. out (f x t l))
       | false ↦ not_live c scope in_c x out (L x) (λ t l. out (f x t l))
@@ -246,7 +247,7 @@ followed inside (fix members e) here s scope i r u Met L sets f arms n es t path
     (followed inside e false s (with_members members scope) in_e (repeats_right ys (bound_in e) r)
     (λ x m w. u x (in_bound x m) (elim w [
       | inl z ↦ inl z
-      | inr v ↦ inr (sym (outer_scope members scope x (not_both (has x ys) (λ k. repeats_apart ys (bound_in e) r x k m))) ∙ v)
+      | inr v ↦ inr (sym (outer_scope members scope x (never_true (has x ys) (λ k. repeats_apart ys (bound_in e) r x k m))) ∙ v)
     ]))
     Met L sets (λ x t l. elim (f x t l) [ inl z ↦ inl z | inr v ↦ inr (more_scope members scope x v) ])
     arms (no_round e s) path.0 t path.1 rest (λ x in_it m. past x (h x in_it (in_bound x m))) g))

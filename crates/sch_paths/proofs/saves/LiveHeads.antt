@@ -2,7 +2,7 @@
 use Rattle.std.proofs.Common.{◌≡◌, ℕ, Bool, true, false, List, [], ◌∷◌, ◌++◌, refl, ap, sym, ◌∙◌, inl, inr, ◌⊎◌, map}
 use Rattle.std.specs.Prelude.{nat_eq, ◌||◌}
 use Rattle.std.specs.Bool.{MatchBool}
-use Rattle.std.proofs.lemmas.Bool.{eqb-true, eqb-false}
+use Rattle.std.proofs.lemmas.Bool.{eqb-true, eqb-false, or_cases}
 use Rattle.sch_word.specs.trees.NumberSets.{has, unless}
 use Rattle.sch_word.proofs.facts.Booleans.{and_left, and_right, or_left, or_right, not_left, not_right, false_true}
 use Rattle.sch_control.specs.AtomsAndSites.{operation_atoms, application_atoms}
@@ -12,13 +12,13 @@ use Rattle.sch_control.specs.Valid.{Position, value, no_call, procedure_end, for
 use Rattle.sch_control.specs.flow.Live.{named, known, Across, Live, Later}
 use Rattle.sch_control.specs.flow.Paths.{Event, References, Saves, Calls, Tails, binding, grouping, IsPath, calls}
 use Rattle.sch_control.specs.flow.LiveSets.{LiveSets}
+use Rattle.sch_control.proofs.VariableLists.{among_is}
+use Rattle.sch_control.proofs.Results.{perhaps}
 use Rattle.sch_paths.specs.Exact.{saved_round, ArmsSave}
 use Rattle.sch_paths.specs.Regions.{HeadsLive, regions_stand}
-use Rattle.sch_paths.proofs.runs.SameOperands.{perhaps}
 use Rattle.sch_paths.proofs.saves.SavedAndRestored.{calls_append}
 use Rattle.sch_paths.proofs.paths.MeetsByCases.{has_path, of_result}
-use Rattle.sch_paths.proofs.saves.TwoSets.{either, EveryPathCalls, references_call, binding_calls, grouping_calls, saves_call}
-use Rattle.sch_paths.proofs.saves.LiveInScope.{among_is}
+use Rattle.sch_paths.proofs.saves.TwoSets.{EveryPathCalls, references_call, binding_calls, grouping_calls, saves_call}
 
 -- ## Heads of regions
 
@@ -59,8 +59,8 @@ through x inside (end e) form_end p v n es t path K k = absurd (cc)
 through x inside (save saves e) at p v n es t path K k = through x (with_region saves inside) e at p v n path.0 t path.1 K k
 
 -- a call of one of two parts
-call_in : (x : ℕ) (es xs ys : List Event) → es ≡ xs ++ ys → calls x es ≡ true → (calls x xs ≡ true) ⊎ (calls x ys ≡ true)
-call_in x es xs ys e h = either (calls x xs) (calls x ys) (sym (calls_append x xs ys) ∙ (sym (ap (calls x) e) ∙ h))
+pub call_in : (x : ℕ) (es xs ys : List Event) → es ≡ xs ++ ys → calls x es ≡ true → (calls x xs ≡ true) ⊎ (calls x ys ≡ true)
+call_in x es xs ys e h = or_cases (calls x xs) (calls x ys) (sym (calls_append x xs ys) ∙ (sym (ap (calls x) e) ∙ h))
 
 -- of the second, where the first has none
 pub call_behind : (x : ℕ) (es xs ys : List Event) → es ≡ xs ++ ys → calls x xs ≡ false → calls x es ≡ true → calls x ys ≡ true
@@ -106,7 +106,7 @@ called_live x inside (fix members e) at p n Met L sets es t path c = (
 )
 called_live x inside (call a listed) at p n Met L sets es t path c =
     let last = call_behind x es (map References (named (application_atoms a))) (Calls a listed ∷ []) path (references_call x (named (application_atoms a))) c in
-    inr ((sets x).0 (elim (either (has x listed) false last) [ inl h ↦ h | inr f ↦ absurd (cc) ])).1
+    inr ((sets x).0 (elim (or_cases (has x listed) false last) [ inl h ↦ h | inr f ↦ absurd (cc) ])).1
 called_live x inside (tail_call a) at p n Met L sets es t path c =
     let last = call_behind x es (map References (named (application_atoms a))) (References 0 ∷ Tails a ∷ []) path (references_call x (named (application_atoms a))) c in
     absurd (false_true last refl)

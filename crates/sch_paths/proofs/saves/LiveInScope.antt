@@ -1,19 +1,21 @@
 -- What is live is in scope, so what is bound inside a region is not live before it.
-use Rattle.std.proofs.Common.{◌≡◌, ℕ, Bool, true, false, List, [], ◌∷◌, ◌++◌, Option, Some, None, refl, ap, sym, ◌∙◌, inl, inr, ◌⊎◌}
+use Rattle.std.proofs.Common.{◌≡◌, ℕ, Bool, true, false, List, [], ◌∷◌, ◌++◌, refl, ap, sym, ◌∙◌, inl, inr, ◌⊎◌}
 use Rattle.std.specs.Prelude.{nat_eq, ◌||◌, ◌&&◌, not}
 use Rattle.std.specs.Bool.{MatchBool}
 use Rattle.std.proofs.lemmas.Bool.{eqb-true, ne_eqb}
 use Rattle.sch_word.specs.trees.NumberSets.{has}
-use Rattle.sch_word.proofs.facts.Booleans.{and_left, and_right, or_left, or_right, not_left, not_right, false_true, not_true}
+use Rattle.sch_word.proofs.facts.Booleans.{and_left, and_right, or_left, or_right, not_left, not_right, false_true, not_true, never_true}
 use Rattle.sch_word.proofs.facts.NumberSets.{has_append}
 use Rattle.sch_control.specs.declared.operation.Atom.{Atom}
 use Rattle.sch_control.specs.declared.operation.Atom.TheVariants.{Constant, Literal, Variable}
 use Rattle.sch_control.specs.declared.operation.Member.{Member}
 use Rattle.sch_control.specs.AtomsAndSites.{operation_atoms, application_atoms, member_atoms}
-use Rattle.sch_control.specs.Meaning.{among, binds}
+use Rattle.sch_control.specs.Meaning.{binds}
 use Rattle.sch_control.specs.Tree.{Expression, perform, bind, sequence, branch, fix, call, tail_call, return, end, save}
 use Rattle.sch_control.specs.Valid.{with_variable, with_members, in_scope_atoms, in_scope, member_variables, bound_in, without_repeats}
-use Rattle.sch_control.specs.flow.Live.{named, Mentions, ByResult, known, Across, Live, Later, nothing_later}
+use Rattle.sch_control.specs.flow.Live.{named, Mentions, known, Across, Live, Later, nothing_later}
+use Rattle.sch_control.proofs.Results.{after_result}
+use Rattle.sch_control.proofs.VariableLists.{among_is}
 use Rattle.sch_paths.specs.Conditions.{Fresh}
 
 -- ## What is live is in scope
@@ -22,7 +24,7 @@ use Rattle.sch_paths.specs.Conditions.{Fresh}
 abbrev pub Readable : (ℕ → Bool) → ℕ → Type 0
 Readable scope x = (x ≡ 0) ⊎ (scope x ≡ true)
 
-mentioned : (scope : ℕ → Bool) (atoms : List (Atom ℕ)) → in_scope_atoms scope atoms ≡ true → (x : ℕ) → Mentions x atoms → scope x ≡ true
+pub mentioned : (scope : ℕ → Bool) (atoms : List (Atom ℕ)) → in_scope_atoms scope atoms ≡ true → (x : ℕ) → Mentions x atoms → scope x ≡ true
 mentioned scope [] i x m = absurd (cc)
 mentioned scope (Constant c ∷ atoms) i x m = mentioned scope atoms i x m
 mentioned scope (Literal n ∷ atoms) i x m = mentioned scope atoms i x m
@@ -30,11 +32,6 @@ mentioned scope (Variable y ∷ atoms) i x m = by (nat_eq x y) refl (mentioned s
   by : (t : Bool) → nat_eq x y ≡ t → (Mentions x atoms → scope x ≡ true) → (t || has x (named atoms)) ≡ true → scope x ≡ true
   by true e f h = ap scope (eqb-true x y e) ∙ and_left (scope y) _ i
   by false e f h = f h
-
-after_result : (k : Option Bool) (L : Bool → Type 0) (A : Type 0) → ((t : Bool) → L t → A) → ByResult k L → A
-after_result (Some t) L A f l = f t l
-after_result None L A f (inl l) = f true l
-after_result None L A f (inr l) = f false l
 
 -- a member is in scope inside its group
 pub outer_scope : (members : List (Member ℕ)) (scope : ℕ → Bool) (x : ℕ) → has x (member_variables members) ≡ false → with_members members scope x ≡ scope x
@@ -82,10 +79,6 @@ live_scope (save saves e) scope i x L f l = live_scope e scope i x L f l
 
 -- ## What is bound
 
-pub among_is : (x : ℕ) (members : List (Member ℕ)) → among x members ≡ has x (member_variables members)
-among_is x [] = refl
-among_is x (m ∷ members) = ap (λ t. nat_eq x m.at || t) (among_is x members)
-
 pub binds_is : (x : ℕ) (e : Expression) → binds x e ≡ has x (bound_in e)
 binds_is x (perform o) = refl
 binds_is x (bind y a b) = ap (λ t. nat_eq x y || t) (rw (binds_is x a, binds_is x b) (sym (has_append x (bound_in a) (bound_in b))))
@@ -129,10 +122,6 @@ repeats_apart (y ∷ xs) ys h x p q = by (nat_eq x y) refl (repeats_apart xs ys 
 -- what an expression binds is not in scope before it, and is not where to return
 abbrev pub Unbound : (ℕ → Bool) → Expression → Type 0
 Unbound scope e = (x : ℕ) → has x (bound_in e) ≡ true → Readable scope x → ⊥
-
-pub not_both : (t : Bool) → (t ≡ true → ⊥) → t ≡ false
-not_both true n = absurd (n refl)
-not_both false n = refl
 
 -- one variable more is in scope
 pub one_more : (scope : ℕ → Bool) (y x : ℕ) (ys : List ℕ) → has x ys ≡ true → has y ys ≡ false → (Readable scope x → ⊥) → Readable (with_variable y scope) x → ⊥
@@ -192,7 +181,7 @@ fresh (branch a b c) scope i r u L f =
     )
 fresh (fix members e) scope i r u L f =
     let ys : List ℕ = member_variables members in
-    let apart : (x : ℕ) → has x (bound_in e) ≡ true → has x ys ≡ false = λ x h. not_both (has x ys) (λ m. repeats_apart ys (bound_in e) r x m h) in
+    let apart : (x : ℕ) → has x (bound_in e) ≡ true → has x ys ≡ false = λ x h. never_true (has x ys) (λ m. repeats_apart ys (bound_in e) r x m h) in
     fresh e (with_members members scope) (and_right (in_scope_atoms (with_members members scope) (member_atoms members)) _ i) (repeats_right ys (bound_in e) r)
     (λ x h w. u x (has_append x ys (bound_in e) ∙ or_right (has x ys) _ h) (elim w [
       | inl z ↦ inl z

@@ -24,6 +24,21 @@ in_first x xs ys h = calls_append x xs ys ∙ or_left (calls x xs) _ h
 pub in_second : (x : ℕ) (xs ys : List Event) → calls x ys ≡ true → calls x (xs ++ ys) ≡ true
 in_second x xs ys h = calls_append x xs ys ∙ or_right (calls x xs) _ h
 
+-- ## Registers that calls keep
+
+-- what is kept need not be restored
+pub restored_kept : (keeps : ℕ → Bool) (e : Expression) (Met : Type 0) (L S : Later) → Restored (λ x. false) e Met L S → Restored keeps e Met L S
+restored_kept keeps (perform o) Met L S r = tt
+restored_kept keeps (bind y a b) Met L S r = (restored_kept keeps a Met _ _ r.0, restored_kept keeps b Met L S r.1)
+restored_kept keeps (sequence a b) Met L S r = (restored_kept keeps a Met _ _ r.0, restored_kept keeps b Met L S r.1)
+restored_kept keeps (branch a b c) Met L S r = (restored_kept keeps a Met _ _ r.0, (restored_kept keeps b _ L S r.1.0, restored_kept keeps c _ L S r.1.1))
+restored_kept keeps (fix members e) Met L S r = restored_kept keeps e Met L S r
+restored_kept keeps (call a restores) Met L S r = λ x met l s k. r x met l s refl
+restored_kept keeps (tail_call a) Met L S r = tt
+restored_kept keeps (return e) Met L S r = restored_kept keeps e Met _ _ r
+restored_kept keeps (end e) Met L S r = restored_kept keeps e Met _ _ r
+restored_kept keeps (save saves e) Met L S r = restored_kept keeps e Met L S r
+
 -- ## Calls outside the arms of an expression
 
 -- some call that stands in no arm of the expression lists the variable

@@ -2,6 +2,7 @@
 use Rattle.std.proofs.Common.{◌≡◌, ℕ, Bool, true, false, List, [], ◌∷◌, ◌++◌, Option, Some, None, refl, ap, sym, ◌∙◌, inl, inr, ◌⊎◌, map}
 use Rattle.std.specs.Prelude.{◌↔◌, filter, ◌||◌, ◌&&◌}
 use Rattle.std.specs.Bool.{MatchBool}
+use Rattle.std.proofs.lemmas.Bool.{or_cases}
 use Rattle.sch_word.specs.trees.NumberSets.{has}
 use Rattle.sch_word.proofs.facts.Booleans.{and_left, and_right, or_left, neither, not_left, not_right}
 use Rattle.sch_control.specs.AtomsAndSites.{operation_atoms, application_atoms, member_atoms}
@@ -15,10 +16,6 @@ use Rattle.sch_paths.specs.Table.{is_other, saved_by, needs}
 use Rattle.sch_paths.proofs.saves.SavedAndRestored.{calls_append, in_first, in_second}
 
 -- ## Booleans
-
-pub either : (a b : Bool) → (a || b) ≡ true → (a ≡ true) ⊎ (b ≡ true)
-either true b h = inl refl
-either false b h = inr h
 
 one_false : (a b : Bool) → (a && b) ≡ false → (a ≡ false) ⊎ (b ≡ false)
 one_false true b h = inr h
@@ -80,13 +77,13 @@ pub sound : (x : ℕ) (inside : ℕ → Bool) (e : Expression) (r : Bool) → sa
 sound x inside (perform o) r s es path = absurd (other_result (known o) r s path.1)
 sound x inside (bind y a b) r s es path =
     ap (calls x) path.5
-    ∙ elim (either (saved_by x a true && saved_by x a false) (saved_by x b r) s) [
+    ∙ elim (or_cases (saved_by x a true && saved_by x a false) (saved_by x b r) s) [
       | inl h ↦ in_first x path.0 _ (sound x inside a path.2 (by_both (saved_by x a) path.2 h) path.0 path.3)
       | inr h ↦ in_second x path.0 _ (in_second x (binding inside y) path.1 (sound x inside b r h path.1 path.4))
     ]
 sound x inside (sequence a b) r s es path =
     ap (calls x) path.5
-    ∙ elim (either (saved_by x a true && saved_by x a false) (saved_by x b r) s) [
+    ∙ elim (or_cases (saved_by x a true && saved_by x a false) (saved_by x b r) s) [
       | inl h ↦ in_first x path.0 _ (sound x inside a path.2 (by_both (saved_by x a) path.2 h) path.0 path.3)
       | inr h ↦ in_second x path.0 _ (sound x inside b r h path.1 path.4)
     ]
@@ -94,12 +91,12 @@ sound x inside (branch a b c) r s es path =
     ap (calls x) path.5
     ∙ elim path.2 as (λ t. IsPath inside a path.0 t → MatchBool t (IsPath inside b path.1 r) (IsPath inside c path.1 r) → calls x (path.0 ++ path.1) ≡ true) [
       | true ↦ λ first second.
-          elim (either (saved_by x a true) (saved_by x b r) (and_left (saved_by x a true || saved_by x b r) _ s)) [
+          elim (or_cases (saved_by x a true) (saved_by x b r) (and_left (saved_by x a true || saved_by x b r) _ s)) [
             | inl h ↦ in_first x path.0 path.1 (sound x inside a true h path.0 first)
             | inr h ↦ in_second x path.0 path.1 (sound x inside b r h path.1 second)
           ]
       | false ↦ λ first second.
-          elim (either (saved_by x a false) (saved_by x c r) (and_right (saved_by x a true || saved_by x b r) _ s)) [
+          elim (or_cases (saved_by x a false) (saved_by x c r) (and_right (saved_by x a true || saved_by x b r) _ s)) [
             | inl h ↦ in_first x path.0 path.1 (sound x inside a false h path.0 first)
             | inr h ↦ in_second x path.0 path.1 (sound x inside c r h path.1 second)
           ]

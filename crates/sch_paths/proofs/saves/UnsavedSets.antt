@@ -6,6 +6,7 @@ use Rattle.sch_control.specs.Tree.{Expression, perform, bind, sequence, branch, 
 use Rattle.sch_control.specs.flow.Bare.{unsaved}
 use Rattle.sch_control.specs.flow.Live.{Across, MayGive, Live, Later, nothing_later}
 use Rattle.sch_control.specs.flow.LiveSets.{LiveSets, HasLiveSets}
+use Rattle.sch_paths.proofs.paths.UnlistedTrees.{both_are, LiveBefore}
 
 gives_unsaved : (e : Expression) (r : Bool) → MayGive (unsaved e) r ≡ MayGive e r
 gives_unsaved (perform o) r = refl
@@ -34,14 +35,8 @@ live_unsaved x (return e) L = live_unsaved x e (λ t. x ≡ 0)
 live_unsaved x (end e) L = live_unsaved x e (λ t. ⊥)
 live_unsaved x (save saves e) L = live_unsaved x e L
 
-abbrev Behind : Expression → Later → ℕ → Type 0
-Behind e L x = Live x e (L x)
-
-behind_unsaved : (e : Expression) (L : Later) → Behind (unsaved e) L ≡ Behind e L
+behind_unsaved : (e : Expression) (L : Later) → LiveBefore (unsaved e) L ≡ LiveBefore e L
 behind_unsaved e L = fun_ext (λ x. live_unsaved x e (L x))
-
-both_are : {A B C D : Type 0} → A ≡ C → B ≡ D → (A × B) ≡ (C × D)
-both_are {B = B} {C = C} e f = ap (λ A. A × B) e ∙ ap (λ B. C × B) f
 
 sets_unsaved : (e : Expression) (Met : Type 0) (L : Later) → LiveSets (unsaved e) Met L ≡ LiveSets e Met L
 sets_unsaved (perform o) Met L = refl

@@ -1,7 +1,7 @@
 -- What holds of the trees of valid bodies: calls follow saves, heads of regions are live, and so is where to return.
 use Rattle.std.proofs.Common.{◌≡◌, Bool, true, List, Some, refl, ap, sym, ◌∙◌, inl}
 use Rattle.sch_word.specs.trees.NumberSets.{has}
-use Rattle.sch_word.proofs.facts.Booleans.{and_right}
+use Rattle.sch_word.proofs.facts.Booleans.{and_right, never_true}
 use Rattle.sch_control.specs.declared.body.Entry.{Entry}
 use Rattle.sch_control.specs.Meaning.{no_region}
 use Rattle.sch_control.specs.Tree.{Expression, Code}
@@ -16,7 +16,7 @@ use Rattle.sch_paths.proofs.paths.UnlistedPaths.{positioned_erased}
 use Rattle.sch_paths.proofs.runs.RestoresAreEnough.{valid_unbound, valid_once, scope_erased, bound_erased}
 use Rattle.sch_paths.proofs.saves.InevitableCalls.{inevitable}
 use Rattle.sch_paths.proofs.saves.LiveHeads.{heads_live}
-use Rattle.sch_paths.proofs.saves.LiveInScope.{binds_is, not_both}
+use Rattle.sch_paths.proofs.saves.LiveInScope.{binds_is}
 
 pub saves_followed_by : (c : Code) (listed : Expression) → IsSaved c listed → (es : List Event) (r : Bool) → IsPath no_region listed es r → SavesFollowed es
 saves_followed_by c listed p es r path =
@@ -35,4 +35,4 @@ heads_are_live c listed p =
 pub procedure_returns : (c : Code) (e : Entry) → c.entry ≡ Some e → ended c ≡ true → numbered c ≡ true → (L : Bool → Type 0) → LiveAfterCalls 0 c.expression L
 procedure_returns c e is ended numbered L =
     return_address c.expression (sym (ap (λ z. positioned c.expression (last_position z)) is) ∙ and_right _ _ ended)
-    (binds_is 0 c.expression ∙ not_both (has 0 (bound_in c.expression)) (λ m. valid_unbound c numbered 0 m (inl refl))) L
+    (binds_is 0 c.expression ∙ never_true (has 0 (bound_in c.expression)) (λ m. valid_unbound c numbered 0 m (inl refl))) L

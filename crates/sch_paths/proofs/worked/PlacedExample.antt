@@ -1,7 +1,7 @@
 -- Of `(define (k x) (g 1) (g 2) (+ x 1))` the return address and x are saved round the body, and restored after the second call alone.
 use Rattle.std.proofs.Common.{◌≡◌, ◌≢◌, ℕ, Bool, true, false, List, [], ◌∷◌, ◌++◌, refl, sym, ◌∙◌, inl, inr, ◌⊎◌, arith}
 use Rattle.std.specs.Prelude.{◌↔◌, nat_eq, ◌||◌, ◌&&◌}
-use Rattle.std.proofs.lemmas.Bool.{eqb-true, eq-eqb}
+use Rattle.std.proofs.lemmas.Bool.{eqb-true, eq-eqb, or_cases}
 use Rattle.sch_word.specs.trees.NumberSets.{has}
 use Rattle.sch_word.proofs.facts.Booleans.{or_left, or_right}
 use Rattle.sch_control.specs.declared.operation.Atom.TheVariants.{Literal, Variable}
@@ -17,7 +17,7 @@ use Rattle.sch_paths.specs.EachSoonRestored.{EachSoonRestored}
 use Rattle.sch_paths.specs.Exact.{LazySaves, EagerRestores}
 use Rattle.sch_paths.specs.RestoredByPaths.{RestoredByPaths, SomeSays, Through}
 use Rattle.sch_paths.proofs.paths.EagerByPaths.{by_paths}
-use Rattle.sch_paths.proofs.saves.TwoSets.{either, needs_is}
+use Rattle.sch_paths.proofs.saves.TwoSets.{needs_is}
 
 abbrev calling : ℕ → Application ℕ
 calling operator = record { site = 0; spread = false; operator = operand.Atom (Variable operator); operands = operand.Atom (Literal 0) ∷ [] }
@@ -34,15 +34,15 @@ both = 0 ∷ 2 ∷ []
 
 in_both : (x : ℕ) → (has x both ≡ true) ↔ ((x ≡ 0) ⊎ (x ≡ 2))
 in_both x = (
-  λ h. elim (either (nat_eq x 0) (nat_eq x 2 || false) h) [
+  λ h. elim (or_cases (nat_eq x 0) (nat_eq x 2 || false) h) [
     | inl e ↦ inl (eqb-true x 0 e)
-    | inr f ↦ elim (either (nat_eq x 2) false f) [ inl e ↦ inr (eqb-true x 2 e) | inr g ↦ absurd (cc) ]
+    | inr f ↦ elim (or_cases (nat_eq x 2) false f) [ inl e ↦ inr (eqb-true x 2 e) | inr g ↦ absurd (cc) ]
   ],
   λ w. elim w [ inl e ↦ or_left (nat_eq x 0) _ (eq-eqb x 0 e) | inr e ↦ or_right (nat_eq x 0) _ (or_left (nat_eq x 2) false (eq-eqb x 2 e)) ],
 )
 
 one : (x y : ℕ) → (nat_eq x y || false) ≡ true → x ≡ y
-one x y h = elim (either (nat_eq x y) false h) [ inl e ↦ eqb-true x y e | inr g ↦ absurd (cc) ]
+one x y h = elim (or_cases (nat_eq x y) false h) [ inl e ↦ eqb-true x y e | inr g ↦ absurd (cc) ]
 
 -- what is read behind the second call: x and the return address
 abbrev Behind : ℕ → Type 0

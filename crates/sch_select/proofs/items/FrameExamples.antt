@@ -1,6 +1,7 @@
 -- How items use the address of the frame, worked.
 use Rattle.std.proofs.Common.{◌≡◌, List, [], ◌∷◌, map, replicate, Bool, true, false, Some, refl}
 use Rattle.std.specs.Prelude.{pos}
+use Rattle.std.specs.List.{list_all}
 use Rattle.sch_word.specs.declared.place.Place.TheVariants.{Slot}
 use Rattle.sch_word.specs.values.Literals.{no_literals}
 use Rattle.sch_control.specs.declared.operation.Atom.TheVariants.{Variable}
@@ -13,10 +14,10 @@ use Rattle.sch_insn.specs.declared.insn.Arg.TheVariants.{Reg, Base32}
 use Rattle.sch_insn.specs.declared.insn.Insn.TheVariants as insn
 use Rattle.sch_asm.specs.declared.item.Item.{Item}
 use Rattle.sch_asm.specs.declared.item.Item.TheVariants as item
-use Rattle.sch_asm.specs.Narrow.{narrowed}
 use Rattle.sch_select_memory.specs.RestCode.{rest_routine, slot_code}
-use Rattle.sch_select.specs.FrameWords.{by_frame_register, keeps_address, leaves_frame}
-use Rattle.sch_select.specs.Program.{forms_code, own_label, program_code}
+use Rattle.sch_runtime.specs.FrameRegister.{leaves_frame}
+use Rattle.sch_select.specs.FrameWords.{keeps_address, keeps_frame}
+use Rattle.sch_select.specs.Program.{program_code, selected_code}
 
 -- a word of the frame, whose address RBP has, and one of the heap
 abbrev slot : Arg
@@ -53,23 +54,12 @@ alone :
 alone = (refl, refl)
 
 abbrev reach : List Item → Bool
-reach is = by_frame_register false is
+reach is = list_all keeps_frame is
 
-abbrev hand : Item
-hand = item.Plain (insn.MovTo (Reg 1) 5)
-
--- The address of a slot is handed over to the routine of lists, and to nothing else; nor is the word there read or written.
-handed :
-    (reach (slot_code 8 (item.LoadLabel 11 7 ∷ item.Jump 1054 ∷ item.Label 7 ∷ [])) ≡ true)
-    × (map reach ((hand ∷ []) ∷ (hand ∷ item.Jump 1053 ∷ []) ∷ (hand ∷ item.Label 7 ∷ item.Jump 1054 ∷ [])
-    ∷ (hand ∷ item.Plain (insn.MovFrom 0 (Base32 1 (pos 8))) ∷ item.Jump 1054 ∷ []) ∷ (hand ∷ item.Plain (insn.MovTo (Base32 1 (pos 8)) 0) ∷ item.Jump 1054 ∷ [])
-    ∷ (hand ∷ item.Plain (insn.AddNumber (Reg 0) (pos 8)) ∷ item.Jump 1054 ∷ []) ∷ (hand ∷ item.LoadLabel 1 7 ∷ item.Jump 1054 ∷ []) ∷ [])
-    ≡ false ∷ false ∷ false ∷ false ∷ false ∷ false ∷ false ∷ [])
-handed = (refl, refl)
-
--- It goes into RCX and no other register, and the routine is entered by a jump without a condition.
-entered : map reach ((item.Plain (insn.MovTo (Reg 3) 5) ∷ item.Jump 1054 ∷ []) ∷ (hand ∷ item.JumpIf 4 1054 ∷ []) ∷ []) ≡ false ∷ false ∷ []
-entered = refl
+-- nor is it added to what a register has, be it for the routine of lists
+handed : map reach ((item.Plain (insn.MovTo (Reg 1) 5) ∷ item.Jump 24 ∷ []) ∷ (item.Plain (insn.AddTo (Reg 1) 5) ∷ item.Jump 24 ∷ [])
+    ∷ slot_code 8 (item.LoadLabel 11 7 ∷ item.Jump 24 ∷ item.Label 7 ∷ []) ∷ []) ≡ false ∷ false ∷ true ∷ []
+handed = refl
 
 -- words of the data and labels have nothing to do with it
 others : map reach ((item.StoreWord 0x10000000 0 ∷ item.LoadWord 0 0x10000000 ∷ item.LoadLabel 15 7 ∷ []) ∷ (item.StoreWord 0x10000000 5 ∷ []) ∷ (item.LoadWord 5 0x10000000 ∷ [])
@@ -91,20 +81,22 @@ listing = record {
   words = 2;
 }
 
-abbrev own : List Item
-own = forms_code 2 0x10000400 0 0 (own_label listing) listing.bodies (item.Jump 0 ∷ [])
-
--- In its own items, and in their shortest forms, the address of the frame goes nowhere else. The routine of lists has it in RCX.
+-- In its items, and in their shortest forms, the address of the frame goes nowhere else. The routine of lists has it in RCX.
 programs :
-    (reach own ≡ true)
-    × (reach (narrowed own) ≡ true)
+    (reach (selected_code listing 16 1) ≡ true)
+    × (reach (program_code listing 16 1) ≡ true)
     × (reach (rest_routine 0x10000400 []) ≡ false)
-    × (reach (program_code listing 16 1) ≡ false)
-programs = (refl, refl, refl, refl)
+programs = (refl, refl, refl)
 
 -- ## Routines
 
--- RBP is not moved, set, read, or the base of an operand; its address may go into RCX
-left : map leaves_frame (hand ∷ item.Plain (insn.MovTo part 3) ∷ item.Plain (insn.MovTo slot 3) ∷ item.Plain (insn.AddNumber (Reg 5) (pos 8)) ∷ item.Plain (insn.MovWord 5 (pos 8))
-    ∷ item.Plain (insn.MovTo (Reg 3) 5) ∷ item.LoadWord 5 0x10000000 ∷ []) ≡ true ∷ true ∷ false ∷ false ∷ false ∷ false ∷ false ∷ []
+-- RBP is not moved, set, read, or the base of an operand; its address may go into RCX, or be added to what that has
+left : map leaves_frame (item.Plain (insn.MovTo (Reg 1) 5) ∷ item.Plain (insn.AddTo (Reg 1) 5) ∷ item.Plain (insn.MovTo part 3) ∷ item.Plain (insn.MovTo slot 3) ∷ item.Plain (insn.AddNumber (Reg 5) (pos 8))
+    ∷ item.Plain (insn.MovWord 5 (pos 8)) ∷ item.Plain (insn.MovTo (Reg 3) 5) ∷ item.Plain (insn.AddTo (Reg 3) 5) ∷ item.Plain (insn.AddTo (Reg 5) 1) ∷ item.LoadWord 5 0x10000000 ∷ [])
+    ≡ true ∷ true ∷ true ∷ false ∷ false ∷ false ∷ false ∷ false ∷ false ∷ false ∷ []
 left = refl
+
+-- nor is it taken from what RCX has, stored as a word of the data, set to a label's address, or the base of what is read
+not_left : map leaves_frame (item.Plain (insn.SubTo (Reg 1) 5) ∷ item.StoreWord 0x10000000 5 ∷ item.LoadLabel 5 7 ∷ item.Plain (insn.Lea 1 slot) ∷ item.Plain (insn.MovFrom 3 slot) ∷ [])
+    ≡ false ∷ false ∷ false ∷ false ∷ false ∷ []
+not_left = refl

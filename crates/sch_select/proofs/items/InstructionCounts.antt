@@ -39,6 +39,7 @@ use Rattle.sch_insn.specs.declared.insn.Insn.TheVariants.{AddNumber, CmpNumber, 
 use Rattle.sch_asm.specs.declared.item.Item.{Item}
 use Rattle.sch_asm.specs.declared.item.Item.TheVariants as item
 use Rattle.sch_word.specs.declared.mark.MarkKind.TheVariants.{Enter}
+use Rattle.sch_word.proofs.facts.Booleans.{one_or_none}
 use Rattle.sch_select.proofs.items.AppendedItems.{spill_same}
 use Rattle.sch_select.proofs.items.RestItems.{count_keeps}
 use Rattle.sch_select_memory.specs.Addresses.{place_operand, global_address, stop_label, body_label, part_operand}
@@ -56,7 +57,7 @@ use Rattle.sch_asm.specs.Codes.{instructions_in}
 use Rattle.sch_select.specs.Sizes.{steps_size}
 use Rattle.sch_select.proofs.items.ProgramLabels.{last_code}
 use Rattle.sch_select.proofs.items.TextSize.{sources_counts}
-use Rattle.sch_select.proofs.items.Sound.{impossible}
+use Rattle.sch_select_memory.proofs.Sound.{impossible}
 use Rattle.sch_select_operations.proofs.simulation.SelectedPrograms.{atom_selected, read_selected, operand_selected}
 use Rattle.sch_select_operations.proofs.simulation.SelectedPrograms.{primitive_selected, operation_selected, source_selected}
 use Rattle.sch_select_operations.proofs.simulation.SelectedPrograms.{instruction_selected, three_selected, form_selected, selects}
@@ -265,10 +266,6 @@ module _ (words globals symbols literals : ℕ) where
 
   -- ## Bodies: where a mark waits there is room for one unit more
 
-  at_most_one : (b : Bool) → cond b 1 0 ≤ 1
-  at_most_one true = omega arith
-  at_most_one false = omega arith
-
   none_waits : (b : Bool) → not b ≡ true → cond b 1 0 ≤ 0
   none_waits true e = impossible e
   none_waits false e = omega arith
@@ -290,28 +287,28 @@ module _ (words globals symbols literals : ℕ) where
           → cond b 1 0 + (instructions_size is + grouped is + copies_of is) + 3 * instructions_in rest ≤ 3 * instructions_in next)
           → cond b 1 0 + (instructions_size (i ∷ is) + grouped (i ∷ is) + copies_of (i ∷ is)) + 3 * instructions_in rest
           ≤ 3 * instructions_in (instruction_code base out words heap_end literals n i next)
-      by (instruction.Do o) e m rec = let w = at_most_one b in let h = operation_adds heap_end n o e next in
+      by (instruction.Do o) e m rec = let w = one_or_none b in let h = operation_adds heap_end n o e next in
           let k = rec false m in omega (arith, w, h, k)
-      by (instruction.Store q) e m rec = let w = at_most_one b in let k = rec false m in omega (arith, w, k)
-      by (instruction.Copy to from) e m rec = let w = at_most_one b in let k = rec false m in omega (arith, w, k)
-      by (instruction.Pass j) e m rec = let w = at_most_one b in let k = rec false m in omega (arith, w, k)
+      by (instruction.Store q) e m rec = let w = one_or_none b in let k = rec false m in omega (arith, w, k)
+      by (instruction.Copy to from) e m rec = let w = one_or_none b in let k = rec false m in omega (arith, w, k)
+      by (instruction.Pass j) e m rec = let w = one_or_none b in let k = rec false m in omega (arith, w, k)
       by (instruction.Fix members spills) e m rec =
-          let w = at_most_one b in
+          let w = one_or_none b in
           let h = group_adds heap_end members spills next in
           let k = rec false m in
           omega (arith, w, h, k)
-      by (instruction.Call spread count) e m rec = let w = at_most_one b in let k = rec false m in omega (arith, w, k)
-      by (instruction.Tail spread count) e m rec = let w = at_most_one b in let k = rec false m in omega (arith, w, k)
-      by instruction.Return e m rec = let w = at_most_one b in let k = rec false m in omega (arith, w, k)
-      by instruction.End e m rec = let w = at_most_one b in let k = rec false m in omega (arith, w, k)
-      by (instruction.IfFalse l) e m rec = let w = at_most_one b in let k = rec false m in omega (arith, w, k)
-      by (instruction.Jump l) e m rec = let w = at_most_one b in let k = rec false m in omega (arith, w, k)
+      by (instruction.Call spread count) e m rec = let w = one_or_none b in let k = rec false m in omega (arith, w, k)
+      by (instruction.Tail spread count) e m rec = let w = one_or_none b in let k = rec false m in omega (arith, w, k)
+      by instruction.Return e m rec = let w = one_or_none b in let k = rec false m in omega (arith, w, k)
+      by instruction.End e m rec = let w = one_or_none b in let k = rec false m in omega (arith, w, k)
+      by (instruction.IfFalse l) e m rec = let w = one_or_none b in let k = rec false m in omega (arith, w, k)
+      by (instruction.Jump l) e m rec = let w = one_or_none b in let k = rec false m in omega (arith, w, k)
       by (instruction.Label l) e m rec =
           let q = and_parts (not b) (marks_settled false is) m in
           let z = none_waits b q.0 in
           let k = rec false q.1 in
           omega (arith, z, k)
-      by (instruction.Mark j) e m rec = let w = at_most_one b in let k = rec true m in omega (arith, w, k)
+      by (instruction.Mark j) e m rec = let w = one_or_none b in let k = rec true m in omega (arith, w, k)
 
   passed_adds : (o : Option Entry) (out : ℕ) (rest : List Item)
       → jumped o + instructions_in rest ≤ instructions_in (passed_code o out rest)
@@ -355,5 +352,5 @@ program_instructions p heap depth e =
     let both = and_parts (list_all (form_selected p.words globals symbols literals) p.bodies)
     (list_all (λ c. marks_settled true c.instructions) p.bodies) e in
     let h = forms_add p.words globals symbols literals (heap_of p + heap) 0 (own_label p) p.bodies
-    (last_code (heap_of p + heap)) both.0 both.1 in
+    last_code both.0 both.1 in
     omega (arith, h)

@@ -41,7 +41,7 @@ use Rattle.sch_asm.specs.declared.item.Item.TheVariants as item
 use Rattle.sch_word.specs.declared.mark.MarkKind.TheVariants.{Enter}
 use Rattle.sch_asm.specs.Items.{is_among, labels_in}
 use Rattle.sch_select.proofs.items.RestItems.{count_behind, count_ahead}
-use Rattle.sch_select_memory.specs.Addresses.{first_label, body_label, string_label, vector_label}
+use Rattle.sch_select_memory.specs.Addresses.{first_label, body_label, put_label, string_label, vector_label}
 use Rattle.sch_select_operations.specs.OperandCode.{atom_code, unary_code, binary_code, read_code, operand_code, second_code}
 use Rattle.sch_select_operations.specs.CellCode.{source_code}
 use Rattle.sch_select_operations.specs.ClosureCode.{fields_code, closure_bytes, places_code, record_code, records_code, spills_behind}
@@ -50,13 +50,12 @@ use Rattle.sch_select_operations.specs.PrimitiveCode.{pair_or_binary, ternary_co
 use Rattle.sch_select_operations.specs.OperationCode.{operation_code}
 use Rattle.sch_select.specs.Select.{labels_needed, body_code}
 use Rattle.sch_select.specs.Program.{passed_code, entry_code, forms_code, labels_end, own_label, selected_code}
-use Rattle.sch_select_memory.specs.OwnCode.{own_code}
 use Rattle.sch_select_data.specs.Data.{heap_of}
 use Rattle.sch_select.specs.Jumps.{goes_ahead, jumps_ahead}
 use Rattle.sch_select_operations.proofs.simulation.SelectedPrograms.{members_few, operation_few, labels_few}
 use Rattle.sch_select.proofs.items.ProgramLabels.{body_labels, body_labelled}
 use Rattle.sch_select.proofs.items.ProgramKnown.{first_in, later_in, left_in, right_in, label_in}
-use Rattle.sch_select.proofs.items.Sound.{in_front}
+use Rattle.sch_select_memory.proofs.Sound.{in_front}
 
 module _ (count : ℕ) where
   -- the own labels of bodies are behind those at which they begin
@@ -67,7 +66,7 @@ module _ (count : ℕ) where
   Ahead f = (rest : List Item) → jumps_ahead own (f rest) ≡ jumps_ahead own rest
 
   -- a label that is no body's own
-  away : (l : ℕ) → l < 1042 → (t b : Bool) → ((nat_lt l first_label || t) && b) ≡ b
+  away : (l : ℕ) → l < 25 → (t b : Bool) → ((nat_lt l first_label || t) && b) ≡ b
   away l lt t b = ap (λ a. (a || t) && b) (lt-ltb l first_label (omega (arith, lt)))
 
   -- a label that stands behind
@@ -82,7 +81,7 @@ module _ (count : ℕ) where
   begins l e t b = let lt = ltb-true l count e in ap (λ a. (a || t) && b)
       (lt-ltb (body_label l) own (omega (arith, lt)))
 
-  stop : (l : ℕ) → l < 1042 → (is : List Item) → (goes_ahead first_label l is && jumps_ahead own is) ≡ jumps_ahead own
+  stop : (l : ℕ) → l < 25 → (is : List Item) → (goes_ahead first_label l is && jumps_ahead own is) ≡ jumps_ahead own
       is
   stop l lt is = away l lt (is_among (labels_in is) l) (jumps_ahead own is)
 
@@ -104,7 +103,7 @@ module _ (count : ℕ) where
       ((nat_lt 2 first_label || is_among (labels_in rest) 2) && jumps_ahead own rest) ∙ stop 2 (omega arith) rest
   unary_ahead n Put rest =
       near_to own n (is_among (n ∷ labels_in rest) n) _ (first_in n (labels_in rest))
-      ∙ away 1024 (omega arith) (is_among (n ∷ labels_in rest) 1024) (jumps_ahead own rest)
+      ∙ away put_label (omega arith) (is_among (n ∷ labels_in rest) put_label) (jumps_ahead own rest)
   unary_ahead n Car rest = stop 1 (omega arith) rest
   unary_ahead n Cdr rest = stop 1 (omega arith) rest
   unary_ahead n StringLength rest = stop 1 (omega arith) rest
@@ -118,7 +117,7 @@ module _ (count : ℕ) where
   two n ls b = away 1 (omega arith) (is_among (n ∷ ls) 1) _ ∙ away 1 (omega arith) (is_among (n ∷ ls) 1) _ ∙ here n ls b
 
   -- what computes a fixnum
-  three : (a t u v b : Bool) (l : ℕ) → l < 1042 → ((nat_lt 1 first_label || t) &&
+  three : (a t u v b : Bool) (l : ℕ) → l < 25 → ((nat_lt 1 first_label || t) &&
       ((nat_lt 1 first_label || u) && ((nat_lt l first_label || v) && b))) ≡ b
   three a t u v b l lt = away 1 (omega arith) t _ ∙ away 1 (omega arith) u _ ∙ away l lt v b
 
@@ -128,8 +127,8 @@ module _ (count : ℕ) where
   indexed is = let ls = labels_in is in three true (is_among ls 1) (is_among ls 1) (is_among ls 2)
       (jumps_ahead own is) 2 (omega arith)
 
-  -- what an own routine makes
-  filled : (n l : ℕ) → l < 1042 → (is : List Item) → ((nat_lt n own || is_among (n ∷ labels_in is) n) &&
+  -- what a routine makes
+  filled : (n l : ℕ) → l < 25 → (is : List Item) → ((nat_lt n own || is_among (n ∷ labels_in is) n) &&
       ((nat_lt l first_label || is_among (n ∷ labels_in is) l) && jumps_ahead own is)) ≡ jumps_ahead own is
   filled n l lt is = near_to own n (is_among (n ∷ labels_in is) n) _ (first_in n (labels_in is))
       ∙ away l lt (is_among (n ∷ labels_in is) l) (jumps_ahead own is)
@@ -347,13 +346,8 @@ module _ (count : ℕ) where
       ∙ entry_ahead c.entry (n + c.labels + 1) body ∙ body_ahead n out words heap_end literals (n + c.labels + 2) c.instructions last r.1 g.0
       there ∙ forms_ahead words heap_end literals (suc label) (labels_end n c) cs rest p.1 g.1
 
--- the jumps of the program's own routines are to labels below those of bodies
-last_ahead : (own heap_end : ℕ) → jumps_ahead own (item.Jump 0 ∷ own_code heap_end) ≡ true
-last_ahead _ _ = refl
-
 pub program_ahead : (p : tree.Source) (heap depth : ℕ) → list_all (λ c. forward c.labels c.instructions) p.bodies ≡ true
     → list_all (λ c. list_all (labels_few (length p.bodies)) c.instructions) p.bodies ≡ true
     → jumps_ahead (own_label p) (selected_code p heap depth) ≡ true
 program_ahead p heap depth e f =
-    forms_ahead (length p.bodies) p.words (heap_of p + heap) (count_literals p.statics.literals) 0 (own_label p) p.bodies _ e f
-    ∙ last_ahead (own_label p) (heap_of p + heap)
+    forms_ahead (length p.bodies) p.words (heap_of p + heap) (count_literals p.statics.literals) 0 (own_label p) p.bodies (item.Jump 0 ∷ []) e f

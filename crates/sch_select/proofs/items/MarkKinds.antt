@@ -22,7 +22,7 @@ use Rattle.sch_insn.specs.declared.insn.Insn.TheVariants.{MovTo}
 use Rattle.sch_select_memory.specs.Addresses.{place_operand}
 use Rattle.sch_select_operations.proofs.simulation.SelectedPrograms.{form_selected, instruction_selected, members_selected, selects}
 use Rattle.sch_select.proofs.items.BareItems.{is_bare, behind_entry, behind_operation, behind_passed, behind_records}
-use Rattle.sch_select.proofs.items.Sound.{impossible}
+use Rattle.sch_select_memory.proofs.Sound.{impossible}
 use Rattle.sch_select_operations.specs.ClosureCode.{closure_bytes, places_code, spill_code, spills_behind}
 use Rattle.sch_select.specs.Select.{labels_needed, instruction_code, body_code}
 use Rattle.sch_select.specs.Program.{forms_code, labels_end, own_label, selected_code}

@@ -11,8 +11,7 @@ use Rattle.sch_asm.specs.declared.item.Item.{Item}
 use Rattle.sch_asm.specs.declared.item.Item.TheVariants as item
 use Rattle.sch_asm.specs.Items.{AreKnown, AreOwn, IsEachOnce, is_among, is_routine, labels_in, uses_in, word_uses}
 use Rattle.sch_asm.specs.Narrow.{narrow_item, narrowed, short_number, with_operand}
-use Rattle.sch_asm.proofs.NarrowItems.{narrowed_labels, narrowed_uses}
-use Rattle.sch_asm.proofs.Shortest.{narrow_same}
+use Rattle.sch_asm.proofs.NarrowItems.{item_same, narrowed_labels, narrowed_uses}
 use Rattle.sch_select_memory.specs.Addresses.{first_label}
 use Rattle.sch_select.specs.Jumps.{goes_ahead, jumps_ahead}
 use Rattle.sch_select.specs.MarkedStores.{checks_operator, loads_frame, moves_word, returns, stands_before, stores_marked, waiting_mark, writes_frame}
@@ -59,11 +58,6 @@ narrowed_kinds (item.Mark m ∷ is) = ap (λ ms. m ∷ ms) (narrowed_kinds is)
 narrowed_kinds (_ ∷ is) = narrowed_kinds is
 
 -- ---- stores
-
-pub item_same : {A : Type 0} (f : Item → A) → ((i : Insn) → f (item.Plain (short_number i)) ≡ f (item.Plain i))
-    → ((i : Insn) (b : ℕ) (d : ℤ) → f (item.Plain (with_operand (Base8 b d) i)) ≡ f (item.Plain (with_operand (Base32 b d) i))) → (i : Item) → f (narrow_item i) ≡ f i
-item_same f numbers operands (item.Plain i) = narrow_same (λ j. f (item.Plain j)) numbers operands i
-item_same f numbers operands _ = refl
 
 writes_numbers : (i : Insn) → writes_frame (item.Plain (short_number i)) ≡ writes_frame (item.Plain i)
 writes_numbers (AddNumber m n) = refl

@@ -76,7 +76,7 @@ each_says (l ∷ ls) low e = let p = and_parts (nat_le low l) (list_all (λ l. n
 pub program_own : (p : Source) (limit depth : ℕ) → list_all (λ c. forward c.labels c.instructions) p.bodies ≡ true
     → AreOwn (selected_code p limit depth)
 program_own p limit depth e =
-    let rest = last_code (heap_of p + limit) in
+    let rest = last_code in
     let forms = forms_labels 0 (own_label p) p.bodies in
     let is : labels_in (selected_code p limit depth) ≡ forms ++ labels_in rest = forms_labelled p.words
     (heap_of p + limit) (count_literals p.statics.literals) 0 (own_label p) p.bodies rest in

@@ -1,11 +1,9 @@
--- In a program's own items the address of the frame goes nowhere else.
-use Rattle.std.proofs.Common.{◌≡◌, ℕ, suc, ◌+◌, ◌-◌, ◌*◌, List, [], ◌∷◌, ◌++◌, length, Bool, Option, Some, None, true, false}
-use Rattle.std.proofs.Common.{refl, sym, ap, ◌∙◌, subst, append_assoc, ◌&&◌, ◌||◌}
-use Rattle.std.specs.Prelude.{ℤ, pos, not, nat_eq, nat_lt, nat_le}
+-- In a program's items the address of the frame goes nowhere else.
+use Rattle.std.proofs.Common.{◌≡◌, ℕ, suc, ◌+◌, ◌-◌, ◌*◌, List, [], ◌∷◌, length, Bool, Option, Some, None, true, false}
+use Rattle.std.proofs.Common.{refl, ap, ◌∙◌, subst, ◌&&◌, ◌||◌}
+use Rattle.std.specs.Prelude.{ℤ, IsTrue, pos, not, nat_eq, nat_lt, nat_le}
 use Rattle.std.specs.List.{list_all}
 use Rattle.std.proofs.lemmas.Bool.{and_parts, and_from, eqb-true}
-use Rattle.std.proofs.lemmas.List.{map-append}
-use Rattle.sch_word.proofs.facts.Booleans.{not_true}
 use Rattle.sch_word.specs.values.Literals.{count_literals}
 use Rattle.sch_word.specs.trees.Shape.{max_operands}
 use Rattle.sch_word.specs.declared.place.Place.{Place}
@@ -32,15 +30,14 @@ use Rattle.sch_frames.specs.Tree as tree
 use Rattle.sch_frames.specs.Valid.{formals_of, in_slots, is_place, is_register}
 use Rattle.sch_insn.specs.declared.insn.Arg.TheVariants.{Reg, Base8, Base32}
 use Rattle.sch_insn.specs.declared.insn.Insn.{Insn}
-use Rattle.sch_insn.specs.declared.insn.Insn.TheVariants.{MovTo, MovFrom, MovWord, AddNumber}
-use Rattle.sch_insn.specs.declared.register.TheConstants.{RCX, RBP, R12, R13}
+use Rattle.sch_insn.specs.declared.insn.Insn.TheVariants.{MovTo, MovFrom, AddNumber}
+use Rattle.sch_insn.specs.declared.register.TheConstants.{RBP, R12}
 use Rattle.sch_asm.specs.declared.item.Item.{Item}
 use Rattle.sch_asm.specs.declared.item.Item.TheVariants as item
 use Rattle.sch_asm.specs.declared.routine.Routine.TheVariants as routine
 use Rattle.sch_asm.specs.Routines.{label_of}
-use Rattle.sch_asm.specs.Narrow.{narrow_item, narrowed, short_number, with_operand}
+use Rattle.sch_asm.specs.Narrow.{narrowed, short_number, with_operand}
 use Rattle.sch_select_memory.specs.Addresses.{literal_address, place_operand}
-use Rattle.sch_select_memory.specs.OwnCode.{own_code}
 use Rattle.sch_select_memory.specs.RestCode.{list_code}
 use Rattle.sch_select_operations.specs.CellCode.{source_code}
 use Rattle.sch_select_operations.specs.ClosureCode.{closure_bytes, fields_code, group_bytes, group_code, places_code, record_code, records_code, spills_behind}
@@ -50,33 +47,20 @@ use Rattle.sch_select_operations.specs.PrimitiveCode.{pair_or_binary, ternary_co
 use Rattle.sch_select_operations.proofs.simulation.SelectedPrograms.{atom_selected, closure_selected, form_selected, instruction_selected, members_selected}
 use Rattle.sch_select_operations.proofs.simulation.SelectedPrograms.{operand_selected, operation_selected, read_selected, selects, source_selected, takes, three_selected}
 use Rattle.sch_select_data.specs.Data.{heap_of}
-use Rattle.sch_select.specs.Parted.{ArePartedBefore}
-use Rattle.sch_select.specs.FrameWords.{by_frame_register, enters_lists, hands_slot, is_between, is_frame_itself, keeps_address, keeps_frame}
+use Rattle.sch_runtime.specs.FrameRegister.{is_frame_itself}
+use Rattle.sch_select.specs.FrameWords.{keeps_address, keeps_frame}
 use Rattle.sch_select.specs.Program.{count_code, entry_code, forms_code, labels_end, own_label, passed_code, selected_code}
 use Rattle.sch_select.specs.Select.{body_code, copy_insn, instruction_code, labels_needed}
 use Rattle.sch_select.proofs.items.AppendedItems.{spill_same}
-use Rattle.sch_select.proofs.items.NarrowProgram.{item_same}
-use Rattle.sch_select.proofs.items.RoutineForms.{routines_keep, routines_quiet}
-use Rattle.sch_select.proofs.items.AppendedForms.{forms_appends}
+use Rattle.sch_asm.proofs.NarrowItems.{item_same}
 
 -- ## Items that keep the frame's address are not seen
 
 abbrev Reach : List Item → Bool
-Reach is = by_frame_register false is
-
-hands_nothing : (i : Item) → keeps_frame i ≡ true → hands_slot i ≡ false
-hands_nothing (item.Plain i) e = by i e
-  where
-    by : (i : Insn) → keeps_address i ≡ true → hands_slot (item.Plain i) ≡ false
-    by (MovTo (Reg d) r) e =
-        ap (λ b. b && nat_eq d RCX) (not_true (nat_eq r RBP) (and_parts (not (nat_eq r RBP)) ((false || not (nat_eq d RBP)) && true) e).0)
-    by _ e = refl
-hands_nothing _ e = refl
+Reach is = list_all keeps_frame is
 
 unseen : (i : Item) (is : List Item) → keeps_frame i ≡ true → Reach (i ∷ is) ≡ Reach is
-unseen i is e =
-    ap (λ b. (b || hands_slot i) && by_frame_register (hands_slot i) is) e
-    ∙ ap (λ b. by_frame_register b is) (hands_nothing i e)
+unseen i is e = ap (λ b. b && list_all keeps_frame is) e
 
 -- ## Places
 
@@ -243,7 +227,6 @@ module _ (words globals symbols literals heap_end : ℕ) where
   passed_kept None out rest = refl
   passed_kept (Some e) out rest = refl
 
-  -- the slot for a list is handed over
   list_kept : (b : Bool) (required n : ℕ) → Kept (list_code b required n)
   list_kept true required n rest = refl
   list_kept false required n rest = refl
@@ -274,68 +257,18 @@ keeps_operands : (i : Insn) (b : ℕ) (d : ℤ) → keeps_frame (item.Plain (wit
 keeps_operands (MovTo m r) b d = refl
 keeps_operands _ b d = refl
 
-hands_numbers : (i : Insn) → hands_slot (item.Plain (short_number i)) ≡ hands_slot (item.Plain i)
-hands_numbers (AddNumber m n) = refl
-hands_numbers _ = refl
-
-hands_operands : (i : Insn) (b : ℕ) (d : ℤ) → hands_slot (item.Plain (with_operand (Base8 b d) i)) ≡ hands_slot (item.Plain (with_operand (Base32 b d) i))
-hands_operands (MovTo m r) b d = refl
-hands_operands _ b d = refl
-
-between_numbers : (i : Insn) → is_between (item.Plain (short_number i)) ≡ is_between (item.Plain i)
-between_numbers (AddNumber (Reg r) n) = refl
-between_numbers (AddNumber m n) = refl
-between_numbers _ = refl
-
-between_operands : (i : Insn) (b : ℕ) (d : ℤ) → is_between (item.Plain (with_operand (Base8 b d) i)) ≡ is_between (item.Plain (with_operand (Base32 b d) i))
-between_operands (MovTo m r) b d = refl
-between_operands _ b d = refl
-
-enters_same : (i : Item) → enters_lists (narrow_item i) ≡ enters_lists i
-enters_same (item.Plain i) = refl
-enters_same _ = refl
-
-narrowed_reach : (handed : Bool) (is : List Item) → by_frame_register handed (narrowed is) ≡ by_frame_register handed is
-narrowed_reach handed [] = refl
-narrowed_reach false (i ∷ is) =
-    ap (λ b. (b || hands_slot (narrow_item i)) && by_frame_register (hands_slot (narrow_item i)) (narrowed is)) (item_same keeps_frame keeps_numbers keeps_operands i)
-    ∙ ap (λ b. (keeps_frame i || b) && by_frame_register b (narrowed is)) (item_same hands_slot hands_numbers hands_operands i)
-    ∙ ap (λ b. (keeps_frame i || hands_slot i) && b) (narrowed_reach (hands_slot i) is)
-narrowed_reach true (i ∷ is) =
-    ap (λ b. (b || enters_lists (narrow_item i)) && by_frame_register (not (enters_lists (narrow_item i))) (narrowed is)) (item_same is_between between_numbers between_operands i)
-    ∙ ap (λ b. (is_between i || b) && by_frame_register (not b) (narrowed is)) (enters_same i)
-    ∙ ap (λ b. (is_between i || enters_lists i) && b) (narrowed_reach (not (enters_lists i)) is)
+pub narrowed_reach : (is : List Item) → Reach (narrowed is) ≡ Reach is
+narrowed_reach [] = refl
+narrowed_reach (i ∷ is) =
+    ap (λ b. b && Reach (narrowed is)) (item_same keeps_frame keeps_numbers keeps_operands i) ∙ ap (λ b. keeps_frame i && b) (narrowed_reach is)
 
 -- ## Programs
 
--- what stands in front of the routines
-abbrev own_items : tree.Source → (limit depth : ℕ) → List Item
-own_items p limit depth =
-    item.Plain (MovWord RBP (pos (heap_of p + limit))) ∷ item.Plain (MovWord R12 (pos (heap_of p))) ∷ item.Plain (MovWord R13 (pos depth))
-    ∷ forms_code p.words (heap_of p + limit) (count_literals p.statics.literals) 0 (own_label p) p.bodies (item.Jump (label_of routine.End) ∷ [])
-
-parted : (p : tree.Source) (limit depth : ℕ) → selected_code p limit depth ≡ own_items p limit depth ++ own_code (heap_of p + limit)
-parted p limit depth =
-    let heap_end = heap_of p + limit in
-    let literals = count_literals p.statics.literals in
-    let behind = forms_appends p.words heap_end literals 0 (own_label p) p.bodies in
-    let end = item.Jump (label_of routine.End) in
-    ap (λ is. item.Plain (MovWord RBP (pos heap_end)) ∷ item.Plain (MovWord R12 (pos (heap_of p))) ∷ item.Plain (MovWord R13 (pos depth)) ∷ is)
-    (behind (end ∷ own_code heap_end)
-    ∙ sym (append_assoc (forms_code p.words heap_end literals 0 (own_label p) p.bodies []) (end ∷ []) (own_code heap_end))
-    ∙ ap (λ is. is ++ own_code heap_end) (sym (behind (end ∷ []))))
-
-pub program_parted : (p : tree.Source) (limit depth : ℕ) → selects p ≡ true → ArePartedBefore (narrowed (own_code (heap_of p + limit))) (narrowed (selected_code p limit depth))
-program_parted p limit depth e =
+pub program_reach : (p : tree.Source) (limit depth : ℕ) → selects p ≡ true → IsTrue (list_all keeps_frame (narrowed (selected_code p limit depth)))
+program_reach p limit depth e =
     let globals = length p.statics.globals in
     let symbols = length p.statics.symbols in
     let literals = count_literals p.statics.literals in
     let forms = (and_parts (list_all (form_selected p.words globals symbols literals) p.bodies) (list_all (λ c. marks_settled true c.instructions) p.bodies) e).0 in
-    let own = own_items p limit depth in
-    record {
-      own = narrowed own;
-      parts = ap narrowed (parted p limit depth) ∙ map-append narrow_item own (own_code (heap_of p + limit));
-      reach = narrowed_reach false own ∙ forms_kept p.words globals symbols literals (heap_of p + limit) 0 (own_label p) p.bodies forms (item.Jump (label_of routine.End) ∷ []);
-      form = routines_keep (heap_of p + limit);
-      quiet = routines_quiet (heap_of p + limit);
-    }
+    narrowed_reach (selected_code p limit depth)
+    ∙ forms_kept p.words globals symbols literals (heap_of p + limit) 0 (own_label p) p.bodies forms (item.Jump (label_of routine.End) ∷ [])

@@ -3,7 +3,7 @@ use Rattle.std.proofs.Common.{◌≡◌, ℕ, zero, suc, ◌+◌, ◌-◌, ◌%�
 use Rattle.std.proofs.Common.{None, Bool, true, false, refl, sym, ap, ◌∙◌, arith, ◌==◌, ◌&&◌, ◌||◌, eq-eqb}
 use Rattle.std.specs.Prelude.{nat_eq, nat_lt, IsTrue}
 use Rattle.std.specs.List.{list_all, AllByRecursion}
-use Rattle.std.proofs.lemmas.Bool.{and_parts, and_from, eqb-true, ltb-true}
+use Rattle.std.proofs.lemmas.Bool.{and_parts, and_from, eqb-true, lt-ltb, ltb-true}
 use Rattle.std.proofs.lemmas.List.Elements.{All-from_recursion}
 use Rattle.std.proofs.Math.Bool.{or-true}
 use Rattle.sch_word.specs.values.Literals.{count_literals}
@@ -61,7 +61,7 @@ use Rattle.sch_select.proofs.items.Labels.{unary_labels, binary_labels, read_lab
 use Rattle.sch_select.proofs.items.ProgramLabels.{inner_labels, entry_labels, body_labels, own_labels, form_labels}
 use Rattle.sch_select.proofs.items.ProgramLabels.{forms_labels, forms_labelled, last_code}
 use Rattle.sch_select.proofs.items.AppendedItems.{spill_same}
-use Rattle.sch_select.proofs.items.Sound.{in_front}
+use Rattle.sch_select_memory.proofs.Sound.{in_front}
 
 pub first_in : (n : ℕ) (ls : List ℕ) → is_among (n ∷ ls) n ≡ true
 first_in n ls = ap (λ b. b || is_among ls n) (eq-eqb n n refl)
@@ -140,10 +140,11 @@ module _ (all : List ℕ) where
   one : (n : ℕ) (us : List ℕ) → is_among all n ≡ true → list_all known (n ∷ us) ≡ list_all known us
   one n us e = in_front (known n) (list_all known us) (is_known n e)
 
-  module _ (put_in : is_among all put_label ≡ true) (vector_in : is_among all vector_label ≡ true)
-      (string_in : is_among all string_label ≡ true) (lists_in : (m : ℕ) → m < 7 → is_among all (list_label m) ≡ true)
-      (count : ℕ)
-      (bodies_in : (l : ℕ) → l < count → is_among all (body_label l) ≡ true) (words heap_end literals : ℕ) where
+  -- the label of a routine
+  to_routine : (n : ℕ) (us : List ℕ) → n < 25 → list_all known (n ∷ us) ≡ list_all known us
+  to_routine n us lt = in_front (known n) (list_all known us) (ap (λ b. b || is_among all n) (lt-ltb n 25 lt))
+
+  module _ (count : ℕ) (bodies_in : (l : ℕ) → l < count → is_among all (body_label l) ≡ true) (words heap_end literals : ℕ) where
     unary_uses : (n : ℕ) (which : Primitive) → Among (unary_labels n which) → Uses (unary_code n which)
     unary_uses n IsBoolean h rest = one n (uses_in rest) (h n (first_in n []))
     unary_uses n IsPair h rest = one n (uses_in rest) (h n (first_in n []))
@@ -154,7 +155,7 @@ module _ (all : List ℕ) where
     unary_uses n IsString h rest = one n (uses_in rest) (h n (first_in n []))
     unary_uses n IsVector h rest = one n (uses_in rest) (h n (first_in n []))
     unary_uses n IsProcedure h rest = one n (uses_in rest) (h n (first_in n []))
-    unary_uses n Put h rest = one n (1024 ∷ uses_in rest) (h n (first_in n [])) ∙ one 1024 (uses_in rest) put_in
+    unary_uses n Put h rest = one n (put_label ∷ uses_in rest) (h n (first_in n []))
     unary_uses n _ h rest = refl
 
     binary_uses : (n : ℕ) (which : Primitive) → Among (binary_labels n which) → Uses (binary_code n which)
@@ -173,9 +174,7 @@ module _ (all : List ℕ) where
         one n ((n + 1) ∷ (n ∷ ((n + 2) ∷ (n ∷ us)))) zeroth ∙ one (n + 1) (n ∷ ((n + 2) ∷ (n ∷ us))) first
         ∙ one n ((n + 2) ∷ (n ∷ us)) zeroth ∙ one (n + 2) (n ∷ us) second ∙ one n us zeroth
     binary_uses n MakeString h rest = one n (string_label ∷ uses_in rest) (h n (first_in n []))
-        ∙ one string_label (uses_in rest) string_in
     binary_uses n MakeVector h rest = one n (vector_label ∷ uses_in rest) (h n (first_in n []))
-        ∙ one vector_label (uses_in rest) vector_in
     binary_uses n _ h rest = refl
 
     pair_uses : (n : ℕ) (which : Primitive) → Among (binary_labels n which) → Uses (pair_or_binary heap_end n which)
@@ -320,10 +319,8 @@ module _ (all : List ℕ) where
     list_uses : (b : Bool) (required n : ℕ) → nat_lt required 6 ≡ b → is_among all n ≡ true
         → Uses (list_code b required n)
     list_uses true required n e h rest = one n (list_label required ∷ uses_in rest) h
-        ∙ one (list_label required) (uses_in rest)
-        (lists_in required (let lt = ltb-true required 6 e in omega (arith, lt)))
+        ∙ to_routine (list_label required) (uses_in rest) (let lt = ltb-true required 6 e in omega (arith, lt))
     list_uses false required n e h rest = one n (list_label 6 ∷ uses_in rest) h
-        ∙ one (list_label 6) (uses_in rest) (lists_in 6 (omega arith))
 
     count_uses : (b : Bool) (formals n : ℕ) → Among (count_labels b n) → Uses (count_code b formals n)
     count_uses false formals n h rest = refl
@@ -382,23 +379,6 @@ module _ (all : List ℕ) where
   says_all [] e = tt
   says_all (l ∷ ls) e = let p = and_parts (known l) (list_all known ls) e in (p.0, says_all ls p.1)
 
--- what is known among some labels is known among more
-known_within : (own all : List ℕ) → ((y : ℕ) → is_among own y ≡ true → is_among all y ≡ true) → (ls : List ℕ)
-    → list_all (known own) ls ≡ true → list_all (known all) ls ≡ true
-known_within own all h [] e = refl
-known_within own all h (l ∷ ls) e =
-    let p = and_parts (known own l) (list_all (known own) ls) e in
-    and_from (known all l) (list_all (known all) ls) (either (is_routine l) (is_among own l) p.0 (h l))
-    (known_within own all h ls p.1)
-  where
-    either : (a b : Bool) {c : Bool} → (a || b) ≡ true → (b ≡ true → c ≡ true) → (a || c) ≡ true
-    either true b e h = refl
-    either false b e h = h e
-
--- the program's own routines use labels of routines and of their own
-last_known : (heap_end : ℕ) → list_all (known (labels_in (last_code heap_end))) (uses_in (last_code heap_end)) ≡ true
-last_known heap_end = refl
-
 -- ---- of the data, only the records of procedures have labels
 
 uses_append : (xs ys : List Word) → word_uses xs ≡ [] → word_uses (xs ++ ys) ≡ word_uses ys
@@ -455,17 +435,6 @@ body_in label n (c ∷ cs) (suc j) lt =
     (ap (λ l. is_among (forms_labels (suc label) (labels_end n c) cs) (body_label l)) (sym z)
     ∙ body_in (suc label) (labels_end n c) cs j (omega (arith, lt)))
 
--- each way into the routine of lists has its label
-list_stands : (heap_end m : ℕ) → m < 7 → is_among (labels_in (last_code heap_end)) (list_label m) ≡ true
-list_stands heap_end zero lt = refl
-list_stands heap_end (suc zero) lt = refl
-list_stands heap_end (suc (suc zero)) lt = refl
-list_stands heap_end (suc (suc (suc zero))) lt = refl
-list_stands heap_end (suc (suc (suc (suc zero)))) lt = refl
-list_stands heap_end (suc (suc (suc (suc (suc zero))))) lt = refl
-list_stands heap_end (suc (suc (suc (suc (suc (suc zero)))))) lt = refl
-list_stands heap_end (suc (suc (suc (suc (suc (suc (suc k))))))) lt = absurd (omega (arith, lt))
-
 pub program_known : (p : tree.Source) (limit depth : ℕ)
     → list_all (λ c. forward c.labels c.instructions) p.bodies ≡ true
     → list_all (λ c. list_all (labels_few (length p.bodies)) c.instructions) p.bodies ≡ true
@@ -474,30 +443,17 @@ pub program_known : (p : tree.Source) (limit depth : ℕ)
 program_known p limit depth e f g =
     let heap_end = heap_of p + limit in
     let literals = count_literals p.statics.literals in
-    let rest = last_code heap_end in
     let forms = forms_labels 0 (own_label p) p.bodies in
-    let own = labels_in rest in
     let all : List ℕ = labels_in (selected_code p limit depth) in
-    let is : all ≡ forms ++ own = forms_labelled p.words heap_end literals 0 (own_label p) p.bodies rest in
-    let at : (y : ℕ) → is_among (forms ++ own) y ≡ true → is_among all y ≡ true = λ y h. ap (λ l. is_among l y) is
-    ∙ h in
-    let own_in : (y : ℕ) → is_among own y ≡ true → is_among all y ≡ true = λ y h. at y (right_in forms own y h) in
+    let is : all ≡ forms ++ [] = forms_labelled p.words heap_end literals 0 (own_label p) p.bodies last_code in
+    let at : (y : ℕ) → is_among forms y ≡ true → is_among all y ≡ true = λ y h. ap (λ l. is_among l y) is ∙ left_in forms [] y h in
     let bodies_in : (l : ℕ) → l < length p.bodies → is_among all (body_label l) ≡ true = λ l lt. at (body_label l)
-    (left_in forms own (body_label l) (let z : 0 + l ≡ l = omega arith in ap (λ l. is_among forms (body_label l))
-    (sym z) ∙ body_in 0 (own_label p) p.bodies l lt)) in
-    let put_in = own_in put_label refl in
-    let vector_in = own_in vector_label refl in
-    let string_in = own_in string_label refl in
-    let lists_in : (m : ℕ) → m < 7 → is_among all (list_label m) ≡ true = λ m lt. own_in (list_label m)
-    (list_stands heap_end m lt) in
-    let uses : list_all (known all) (uses_in (selected_code p limit depth)) ≡ list_all (known all) (uses_in rest) =
-    forms_uses all put_in vector_in string_in lists_in (length p.bodies) bodies_in p.words heap_end literals 0 (own_label p)
-    p.bodies e f (λ y h. at y (left_in forms own y h)) rest in
-    let end : list_all (known all) (uses_in rest) ≡ true = known_within own all own_in (uses_in rest)
-    (last_known heap_end) in
+    (let z : 0 + l ≡ l = omega arith in ap (λ l. is_among forms (body_label l)) (sym z) ∙ body_in 0 (own_label p) p.bodies l lt) in
+    let uses : list_all (known all) (uses_in (selected_code p limit depth)) ≡ true =
+    forms_uses all (length p.bodies) bodies_in p.words heap_end literals 0 (own_label p) p.bodies e f at last_code in
     let words : list_all (known all) (word_uses (program_words p)) ≡ true = ap (list_all (known all)) (words_use p)
-    ∙ library_uses all put_in vector_in string_in lists_in (length p.bodies) bodies_in p.words heap_end literals p.library g in
+    ∙ library_uses all (length p.bodies) bodies_in p.words heap_end literals p.library g in
     All-from_recursion (λ l. IsTrue (is_routine l || is_among all l))
     (uses_in (selected_code p limit depth) ++ word_uses (program_words p))
     (says_all all (uses_in (selected_code p limit depth) ++ word_uses (program_words p))
-    (all_known all (uses_in (selected_code p limit depth)) (word_uses (program_words p)) (uses ∙ end) words))
+    (all_known all (uses_in (selected_code p limit depth)) (word_uses (program_words p)) uses words))

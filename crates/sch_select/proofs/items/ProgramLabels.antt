@@ -28,7 +28,6 @@ use Rattle.sch_select_memory.specs.Addresses.{body_label}
 use Rattle.sch_select.specs.Select.{all_labels_needed, labels_needed, instruction_code, body_code}
 use Rattle.sch_select.specs.Program.{passed_code, entry_code, form_code, forms_code, labels_end, own_label}
 use Rattle.sch_select.specs.Program.{selected_code}
-use Rattle.sch_select_memory.specs.OwnCode.{own_code}
 use Rattle.sch_select_data.specs.Data.{heap_of}
 use Rattle.sch_word.proofs.facts.Booleans.{neither}
 use Rattle.sch_select.proofs.items.Labels.{one_label, Block, Apart, Labelled, among_append}
@@ -382,34 +381,26 @@ forms_block label n (c ∷ cs) le e =
 -- ---- the program
 
 pub labels_low : (p : Source) → list_all (λ c. forward c.labels c.instructions) p.bodies ≡ true → (y : ℕ)
-    → is_among (forms_labels 0 (own_label p) p.bodies) y ≡ true → 1088 ≤ y
-labels_low p e y h = by (nat_lt y 1088) refl
+    → is_among (forms_labels 0 (own_label p) p.bodies) y ≡ true → 1024 ≤ y
+labels_low p e y h = by (nat_lt y 1024) refl
   where
-    by : (t : Bool) → nat_lt y 1088 ≡ t → 1088 ≤ y
-    by false f = ltb-false y 1088 f
+    by : (t : Bool) → nat_lt y 1024 ≡ t → 1024 ≤ y
+    by false f = ltb-false y 1024 f
     by true f = absurd (let bad : true ≡ false = sym h ∙ (forms_block 0 (own_label p) p.bodies (omega arith) e).below
-        y (ltb-true y 1088 f) in cc)
+        y (ltb-true y 1024 f) in cc)
 
 -- what stands behind the bodies
-abbrev pub last_code : (heap_end : ℕ) → List Item
-last_code heap_end = item.Jump (label_of routine.End) ∷ own_code heap_end
-
--- the labels of the program's own routines are below those of the bodies
-none_of_own : (ls : List ℕ) → list_all (λ l. nat_lt l 1088) ls ≡ true → (x : ℕ) → 1088 ≤ x → is_among ls x ≡ false
-none_of_own [] e x le = refl
-none_of_own (l ∷ ls) e x le =
-    let p = and_parts (nat_lt l 1088) (list_all (λ l. nat_lt l 1088) ls) e in
-    let lt = ltb-true l 1088 p.0 in
-    neither (l == x) (is_among ls x) (ne_eqb l x (λ s. omega (arith, s, le, lt))) (none_of_own ls p.1 x le)
+abbrev pub last_code : List Item
+last_code = item.Jump (label_of routine.End) ∷ []
 
 pub program_once : (p : Source) (limit depth : ℕ) → list_all (λ c. forward c.labels c.instructions) p.bodies ≡ true
     → IsEachOnce (labels_in (selected_code p limit depth))
 program_once p limit depth e =
-    let rest = last_code (heap_of p + limit) in
+    let rest = last_code in
     let forms = forms_labels 0 (own_label p) p.bodies in
     let b = forms_block 0 (own_label p) p.bodies (omega arith) e in
     let all : labels_in (selected_code p limit depth) ≡ forms ++ labels_in rest = forms_labelled p.words
     (heap_of p + limit) (count_literals p.statics.literals) 0 (own_label p) p.bodies rest in
     subst IsEachOnce (sym all) (each_once (forms ++ labels_in rest)
     (distinct_append forms (labels_in rest) b.distinct refl
-    (apart_by forms (labels_in rest) (λ x h. none_of_own (labels_in rest) refl x (labels_low p e x h)))))
+    (apart_by forms (labels_in rest) (λ x h. refl))))

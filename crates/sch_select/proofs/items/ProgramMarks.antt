@@ -43,7 +43,7 @@ use Rattle.sch_select.specs.Select.{labels_needed, instruction_code, body_code}
 use Rattle.sch_select.specs.Program.{passed_code, entry_code, forms_code, labels_end, selected_code, own_label}
 use Rattle.sch_select_data.specs.Data.{heap_of}
 use Rattle.sch_select.proofs.items.ProgramLabels.{last_code}
-use Rattle.sch_select.proofs.items.Sound.{in_front, impossible}
+use Rattle.sch_select_memory.proofs.Sound.{in_front, impossible}
 use Rattle.sch_select_operations.proofs.simulation.SelectedPrograms.{atom_selected, read_selected, operand_selected, source_selected}
 use Rattle.sch_select_operations.proofs.simulation.SelectedPrograms.{closure_selected, members_selected, operation_selected}
 use Rattle.sch_select_operations.proofs.simulation.SelectedPrograms.{three_selected, instruction_selected, form_selected, selects}
@@ -236,4 +236,4 @@ program_marked p limit depth e =
     let both = and_parts (list_all (form_selected p.words globals symbols literals) p.bodies)
     (list_all (λ c. marks_settled true c.instructions) p.bodies) e in
     forms_arrive p.words globals symbols literals (heap_of p + limit) 0 (own_label p) p.bodies
-    (last_code (heap_of p + limit)) both.0 both.1
+    last_code both.0 both.1

@@ -55,7 +55,7 @@ use Rattle.sch_select_operations.specs.PrimitiveCode.{pair_or_binary, ternary_co
 use Rattle.sch_select.specs.Program.{passed_code, entry_code, forms_code, labels_end, selected_code, own_label}
 use Rattle.sch_select_data.specs.Data.{heap_of}
 use Rattle.sch_select.proofs.items.ProgramLabels.{last_code}
-use Rattle.sch_select.proofs.items.Sound.{items_valid, arg_valid, insn_valid, fits_32, fits_64, items_say, in_front, fits_short}
+use Rattle.sch_select_memory.proofs.Sound.{items_valid, arg_valid, insn_valid, fits_32, fits_64, items_say, in_front, fits_short}
 use Rattle.sch_select_operations.proofs.simulation.SelectedPrograms.{atom_selected, read_selected, operand_selected, source_selected}
 use Rattle.sch_select_operations.proofs.simulation.SelectedPrograms.{closure_selected, members_selected, operation_selected}
 use Rattle.sch_select_operations.proofs.simulation.SelectedPrograms.{three_selected, instruction_selected, form_selected, selects}
@@ -385,10 +385,6 @@ module _ (words globals symbols literals heap_end : ℕ) (narrow : words ≤ 204
       ∙ body_valid n (n + c.labels) (n + c.labels + 2) c.instructions q.1 _
       ∙ forms_valid (suc label) (labels_end n c) cs p.1 rest
 
--- the program's own routines name where the heap ends
-last_valid : (heap_end : ℕ) → heap_end ≤ max_heap_end → items_valid (last_code heap_end) ≡ true
-last_valid heap_end near = rw (fits_short (heap_offset heap_end) (omega (arith, near))) refl
-
 pub program_sound : (p : tree.Source) (limit depth : ℕ) → p.words ≤ 2048
     → count_literals p.statics.literals + length p.statics.globals ≤ 29360128 → length p.statics.symbols ≤ 29360128
     → heap_of p + limit ≤ max_heap_end → depth ≤ 10000000 → selects p ≡ true → AreItems (selected_code p limit depth)
@@ -398,11 +394,10 @@ program_sound p limit depth narrow few named near deep e =
     let literals = count_literals p.statics.literals in
     let parts = and_parts (list_all (form_selected p.words globals symbols literals) p.bodies)
     (list_all (λ c. marks_settled true c.instructions) p.bodies) e in
-    let rest = last_code (heap_of p + limit) in
-    let end : items_valid rest ≡ true = last_valid (heap_of p + limit) near in
+    let rest = last_code in
     let forms : items_valid (forms_code p.words (heap_of p + limit) literals 0 (own_label p) p.bodies rest) ≡ true =
     forms_valid p.words globals symbols literals (heap_of p + limit) narrow few named near 0 (own_label p) p.bodies
-    parts.0 rest ∙ end in
+    parts.0 rest in
     let a : fits_64 (pos (heap_of p + limit)) ≡ true = fits_word (pos (heap_of p + limit)) (omega (arith, ints))
     (omega (arith, ints, near)) in
     let b : fits_64 (pos (heap_of p)) ≡ true = fits_word (pos (heap_of p)) (omega (arith, ints))

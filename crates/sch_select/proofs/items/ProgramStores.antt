@@ -26,7 +26,7 @@ use Rattle.sch_select.specs.Select.{labels_needed, instruction_code, body_code}
 use Rattle.sch_select.specs.Program.{forms_code, labels_end, own_label, selected_code}
 use Rattle.sch_select.proofs.items.BareItems.{is_bare, behind_entry, behind_operation, behind_passed, behind_records}
 use Rattle.sch_select.proofs.items.ProgramLabels.{last_code}
-use Rattle.sch_select.proofs.items.Sound.{impossible, in_front}
+use Rattle.sch_select_memory.proofs.Sound.{impossible, in_front}
 
 -- they stand so in what follows
 abbrev Stand : List Item → Type 0
@@ -169,4 +169,4 @@ forms_stand words heap_end literals label n (c ∷ cs) e rest h =
 -- ## Programs
 
 pub program_stands : (p : tree.Source) (heap depth : ℕ) → IsTrue (all_marks_stand p.bodies) → IsTrue (stores_marked None (selected_code p heap depth))
-program_stands p heap depth e = forms_stand p.words (heap_of p + heap) (count_literals p.statics.literals) 0 (own_label p) p.bodies e (last_code (heap_of p + heap)) refl
+program_stands p heap depth e = forms_stand p.words (heap_of p + heap) (count_literals p.statics.literals) 0 (own_label p) p.bodies e last_code refl

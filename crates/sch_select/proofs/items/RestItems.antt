@@ -8,7 +8,7 @@ use Rattle.sch_word.specs.trees.Shape.{max_operands}
 use Rattle.sch_control.specs.declared.body.Entry.{Entry}
 use Rattle.sch_insn.proofs.PrefixCode.{spelling_short}
 use Rattle.sch_insn.specs.declared.insn.Arg.TheVariants.{Reg}
-use Rattle.sch_insn.specs.declared.insn.Insn.TheVariants.{MovTo, AddNumber, SubNumber, CmpNumber}
+use Rattle.sch_insn.specs.declared.insn.Insn.TheVariants.{MovNumber, SubNumber, CmpNumber}
 use Rattle.sch_asm.specs.declared.item.Item.{Item}
 use Rattle.sch_asm.specs.declared.item.Item.TheVariants as item
 use Rattle.sch_asm.specs.Codes.{instructions_in, text_size}
@@ -17,7 +17,7 @@ use Rattle.sch_select.specs.Jumps.{jumps_ahead, goes_ahead}
 use Rattle.sch_select.specs.Program.{count_code, entry_code, passed_code}
 use Rattle.sch_select_memory.specs.RestCode.{list_code, list_label, check_enough}
 use Rattle.sch_select_memory.specs.Addresses.{first_label}
-use Rattle.sch_select.proofs.items.Sound.{items_valid, fits_32, in_front, fits_short}
+use Rattle.sch_select_memory.proofs.Sound.{items_valid, fits_32, in_front, fits_short}
 
 -- ---- marks: there are none
 
@@ -69,8 +69,7 @@ list_adds : (b : Bool) (required n : ℕ) (rest : List Item)
     → text_size (list_code b required n rest) ≤ 32 + text_size rest
 list_adds true required n rest = omega arith
 list_adds false required n rest =
-    let s = spelling_short (MovTo (Reg 1) 5) in let t = spelling_short (AddNumber (Reg 1) (pos (8 * (required - 6)))) in
-    omega (arith, s, t)
+    let s = spelling_short (MovNumber (Reg 1) (pos (8 * (required - 6)))) in omega (arith, s)
 
 pub count_adds : (b : Bool) (formals n : ℕ) (rest : List Item)
     → text_size (count_code b formals n rest) ≤ 58 + text_size rest

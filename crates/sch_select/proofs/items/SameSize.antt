@@ -1,5 +1,5 @@
--- How long the text of a program is depends neither on where its heap ends nor on the depth: its items, in their shortest
--- forms, have the same pieces. The end of the heap is a number that no byte has.
+-- How long the text of a program is depends neither on where its heap ends nor on the depth: its items and the routines, in their
+-- shortest forms, have the same pieces. The end of the heap is a number that no byte has.
 use Rattle.std.proofs.Common.{◌≡◌, ℕ, suc, ◌+◌, ◌-◌, ◌≤◌, List, [], ◌∷◌, ◌++◌, Bool, true, false, cond, refl, sym, ap, ◌∙◌, arith}
 use Rattle.std.specs.Prelude.{pos, negsuc, int_le, ◌&&◌}
 use Rattle.std.proofs.lemmas.Int.{ints}
@@ -23,7 +23,7 @@ use Rattle.sch_frames.specs.Tree as tree
 use Rattle.sch_insn.specs.declared.insn.Arg.TheVariants.{Reg}
 use Rattle.sch_insn.specs.declared.insn.Insn.{Insn}
 use Rattle.sch_insn.specs.declared.insn.Insn.TheVariants.{AddNumber, AddTo, CmpNumber, CmpNumber8, MovNumber, MovTo, Shl, Shr, SubNumber}
-use Rattle.sch_insn.specs.declared.register.TheConstants.{RAX, RCX, RDX, R12}
+use Rattle.sch_insn.specs.declared.register.TheConstants.{RAX, RCX, RDX, RBP, R12}
 use Rattle.sch_asm.specs.declared.item.Item.{Item}
 use Rattle.sch_asm.specs.declared.item.Item.TheVariants as item
 use Rattle.sch_word.specs.declared.mark.MarkKind.TheVariants.{Enter}
@@ -32,14 +32,16 @@ use Rattle.sch_jumps.specs.declared.piece.Piece.{Piece}
 use Rattle.sch_jumps.specs.declared.piece.Piece.TheVariants as piece
 use Rattle.sch_asm.specs.Narrow.{is_byte, narrow_item, narrow_operand, narrowed}
 use Rattle.sch_asm.specs.Pieces.{piece_of, skeleton}
+use Rattle.sch_asm.proofs.Skeleton.{same_append}
+use Rattle.sch_runtime.specs.Code.{all_routines, routine_items}
 use Rattle.sch_asm.specs.Routines.{label_of}
 use Rattle.sch_select_memory.specs.Addresses.{body_label, heap_offset, part_operand, put_label, stop_label, string_label, vector_label}
 use Rattle.sch_select_memory.specs.Checks.{check_fixnum, round_code}
 use Rattle.sch_select_memory.specs.Encoded.{cell_tag, character_shift, fixnum_shift, pair_tag, procedure_tag, unset_word}
 use Rattle.sch_select_memory.specs.MakeCode.{check_filling, check_length, check_room, fill_code, make_string_code, make_vector_code}
-use Rattle.sch_select_memory.specs.OwnCode.{own_code}
+use Rattle.sch_select_memory.specs.ValueCode.{value_code}
 use Rattle.sch_select_memory.specs.PutCode.{put_value_code}
-use Rattle.sch_select_memory.specs.RestCode.{check_pairs, first_code, first_slot_code, firsts_code, later_registers, list_label, registers_code, rest_routine, slots_code}
+use Rattle.sch_select_memory.specs.RestCode.{check_pairs, first_code, first_slot_code, firsts_code, later_registers, list_label, registers_code, rest_routine, slot_address, slots_code}
 use Rattle.sch_select_operations.specs.CellCode.{new_cell_code, source_code, unset_cell_code}
 use Rattle.sch_select_operations.specs.ClosureCode.{closure_bytes, closure_code, group_bytes, places_code, record_code, records_code}
 use Rattle.sch_select_operations.specs.ObjectCode.{check_heap, part_code}
@@ -177,7 +179,7 @@ module _ (heap_end other literals : ℕ) (long : is_byte (pos (heap_offset heap_
       after_same passed (passed_appends c.entry out) (item.Label (body_label label) ∷ entry own) (item.Label (body_label label) ∷ entry others)
       (ap (λ ps. piece.Label (body_label label) ∷ ps) k)
 
-  -- ---- what stands behind the bodies
+  -- ---- routines
 
   firsts_same : (m : ℕ) (rs : List ℕ) (rest more : List Item) → pieces rest ≡ pieces more → pieces (firsts_code heap_end m rs rest) ≡ pieces (firsts_code other m rs more)
   firsts_same m [] rest more h = h
@@ -190,8 +192,8 @@ module _ (heap_end other literals : ℕ) (long : is_byte (pos (heap_offset heap_
   rests_same : pieces (rest_routine heap_end []) ≡ pieces (rest_routine other [])
   rests_same =
       let filled = first_slot_code (registers_code 1 later_registers (slots_code [])) in
-      firsts_same 0 argument_registers (item.Label (list_label 6) ∷ check_pairs heap_end filled) (item.Label (list_label 6) ∷ check_pairs other filled)
-      (ap (λ ps. piece.Label (list_label 6) ∷ ps) (pairs_same filled filled refl))
+      firsts_same 0 argument_registers (item.Label (list_label 6) ∷ slot_address (check_pairs heap_end filled)) (item.Label (list_label 6) ∷ slot_address (check_pairs other filled))
+      (ap (λ ps. piece.Label (list_label 6) ∷ (bytes_of (AddTo (Reg RCX) RBP) ∷ ps)) (pairs_same filled filled refl))
 
   -- what a string is filled with, and what stands before its room is looked at
   abbrev string_filled : List Item → List Item
@@ -221,11 +223,11 @@ module _ (heap_end other literals : ℕ) (long : is_byte (pos (heap_offset heap_
       after_same vector_front (λ rest. refl) (check_room heap_end (vector_filled strings)) (check_room other (vector_filled others))
       (room_same (vector_filled strings) (vector_filled others) (after_same vector_filled (λ rest. refl) strings others strings_same))
 
-  last_same : pieces (item.Jump (label_of routine.End) ∷ own_code heap_end) ≡ pieces (item.Jump (label_of routine.End) ∷ own_code other)
-  last_same =
+  values_same : pieces (value_code heap_end) ≡ pieces (value_code other)
+  values_same =
       let making = item.Label vector_label ∷ make_vector_code heap_end (item.Label string_label ∷ make_string_code heap_end (rest_routine heap_end [])) in
       let others = item.Label vector_label ∷ make_vector_code other (item.Label string_label ∷ make_string_code other (rest_routine other [])) in
-      after_same (λ rest. item.Jump (label_of routine.End) ∷ (item.Label put_label ∷ (put_value_code ++ rest))) (λ rest. refl) making others vectors_same
+      after_same (λ rest. item.Label put_label ∷ (put_value_code ++ rest)) (λ rest. refl) making others vectors_same
 
 -- three registers are loaded before them
 abbrev loaded : List Piece → List Piece
@@ -243,5 +245,13 @@ same_pieces p heap depth =
     let other_long = no_byte (there - data_address) (heap_behind p 0) in
     let literals = count_literals p.statics.literals in
     ap loaded
-    (forms_same here there literals long other_long p.words 0 (own_label p) p.bodies (item.Jump (label_of routine.End) ∷ own_code here) (item.Jump (label_of routine.End) ∷ own_code there)
-    (last_same here there literals long other_long))
+    (forms_same here there literals long other_long p.words 0 (own_label p) p.bodies (item.Jump (label_of routine.End) ∷ []) (item.Jump (label_of routine.End) ∷ []) refl)
+
+-- and so is that of the routines
+pub same_routines : (p : tree.Source) (heap : ℕ) → skeleton (all_routines (heap_of p + heap)) ≡ skeleton (all_routines (heap_of p))
+same_routines p heap =
+    let here = heap_of p + heap in
+    let there = heap_of p in
+    let long = no_byte (here - data_address) (heap_behind p heap) in
+    let other_long = no_byte (there - data_address) (omega arith) in
+    same_append (narrowed (value_code here)) (narrowed (value_code there)) routine_items routine_items (values_same here there 0 long other_long) refl

@@ -17,7 +17,8 @@ use Rattle.sch_insn.specs.declared.insn.Arg.TheVariants.{Reg, Base, Base32, Rip}
 use Rattle.sch_insn.specs.declared.insn.Insn.TheVariants as insn
 use Rattle.sch_asm.specs.declared.item.Item.{Item}
 use Rattle.sch_asm.specs.declared.item.Item.TheVariants as item
-use Rattle.sch_select.specs.MarkedStores.{has_base, stores_marked, writes_at}
+use Rattle.sch_runtime.specs.FrameRegister.{has_base}
+use Rattle.sch_select.specs.MarkedStores.{stores_marked, writes_at}
 use Rattle.sch_select.specs.Program.{program_code}
 use Rattle.sch_select.specs.Select.{copy_insn}
 use Rattle.sch_select.specs.Sizes.{kinds_in, kinds_of, steps_size}

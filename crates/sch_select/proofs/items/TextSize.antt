@@ -344,17 +344,16 @@ forms_adds words heap_end literals label n (c ∷ cs) rest =
 
 -- ## Programs
 
--- how long that is does not depend on a number
-last_small : (heap_end : ℕ) → text_size (last_code heap_end) ≤ 2003
-last_small heap_end = leb-true (text_size (last_code heap_end)) 2003 refl
+last_small : text_size last_code ≤ 5
+last_small = leb-true (text_size last_code) 5 refl
 
 pub text_small : (p : tree.Source) (heap depth : ℕ)
-    → text_size (selected_code p heap depth) ≤ 2048 + (64 * program_work p + 8 * program_copies p)
+    → text_size (selected_code p heap depth) ≤ 64 + (64 * program_work p + 8 * program_copies p)
 text_small p heap depth =
     let a = spelling_short (MovWord 5 (pos (heap_of p + heap))) in
     let b = spelling_short (MovWord 12 (pos (heap_of p))) in
     let c = spelling_short (MovWord 13 (pos depth)) in
     let h = forms_adds p.words (heap_of p + heap) (count_literals p.statics.literals) 0 (own_label p) p.bodies
-    (last_code (heap_of p + heap)) in
-    let k = last_small (heap_of p + heap) in
+    last_code in
+    let k = last_small in
     omega (arith, a, b, c, h, k)

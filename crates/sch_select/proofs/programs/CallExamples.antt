@@ -31,10 +31,10 @@ use Rattle.sch_asm.specs.declared.item.Item.TheVariants as item
 use Rattle.sch_asm.specs.Codes.{bytes_of, instructions_in}
 use Rattle.sch_asm.specs.Data.{data_at}
 use Rattle.sch_asm.specs.Views.{text_at}
-use Rattle.sch_runtime.specs.Code.{routine_items}
+use Rattle.sch_runtime.specs.Code.{all_routines}
 use Rattle.sch_frames.specs.Covered.{is_covered_program}
 use Rattle.sch_select.specs.Marks.{enters_procedure, marks_passed}
-use Rattle.sch_select_data.specs.Data.{program_words}
+use Rattle.sch_select_data.specs.Data.{heap_of, program_words}
 use Rattle.sch_select.specs.Program.{form_code, frames_bytes, program_code, program_zeros, stack_bytes}
 use Rattle.sch_select_memory.specs.Addresses.{body_label, stop_label}
 use Rattle.sch_frames.specs.Sizes.{closures_in, instructions_size}
@@ -44,7 +44,7 @@ use Rattle.sch_select.proofs.programs.Examples.{text_of, number}
 -- how a program ends within 600 steps, with 16 bytes of heap and this depth
 abbrev ends_at : (depth : ℕ) → Source → Option (ℕ × List ℕ)
 ends_at depth p =
-    exit_of (mach 600 (start 0x400000 (text_at (text_of (program_code p 16 depth ++ routine_items)) ∷ data_at
+    exit_of (mach 600 (start 0x400000 (text_at (text_of (program_code p 16 depth ++ all_routines (heap_of p + 16))) ∷ data_at
     (flat_map (bytes_of (λ l. 0)) (program_words p) ++ replicate (program_zeros p 16 depth) 0) ∷ []) zeros []))
 
 -- a form that makes a closure with the field 5 of a procedure, and the procedure's body

@@ -8,9 +8,9 @@ use Rattle.sch_word.specs.declared.place.Place.{Place}
 use Rattle.sch_word.specs.declared.place.Place.TheVariants.{Reg, Slot}
 use Rattle.sch_word.specs.declared.primitive.Primitive.{Primitive}
 use Rattle.sch_word.specs.declared.primitive.Primitive.TheVariants.{Eq}
-use Rattle.sch_word.specs.values.Literals.{count_literals, literals_known, literals_in_range, literals_levels}
+use Rattle.sch_word.specs.values.Literals.{count_literals, literals_known, literals_in_range}
 use Rattle.sch_word.specs.values.Primitives.{operands_of}
-use Rattle.sch_word.specs.runs.Runs.{statics_size, max_statics, max_literal_levels, statics_valid, statics_in_range, library_known}
+use Rattle.sch_word.specs.runs.Runs.{statics_size, max_statics, statics_valid, statics_in_range, library_known}
 use Rattle.sch_word.specs.trees.Covered.{is_covered_primitive}
 use Rattle.sch_word.specs.trees.Shape.{max_library, max_operands}
 use Rattle.sch_word.specs.values.Values.{are_bytes}
@@ -458,16 +458,13 @@ pub texts_are : (p : FrameProgram) → list_all are_bytes p.statics.symbols ≡ 
 texts_are p =
     let s = (view.source p).statics in
     let ranges = (and_parts (statics_valid (length p.library) s) (statics_in_range s) p.ready).1 in
-    (and_parts (list_all are_bytes s.symbols) (literals_in_range s.literals && nat_le (literals_levels s.literals) max_literal_levels)
-    ranges).0
+    (and_parts (list_all are_bytes s.symbols) (literals_in_range s.literals) ranges).0
 
 pub literals_are : (p : FrameProgram) → literals_in_range (view.source p).statics.literals ≡ true
 literals_are p =
     let s = (view.source p).statics in
     let ranges = (and_parts (statics_valid (length p.library) s) (statics_in_range s) p.ready).1 in
-    (and_parts (literals_in_range s.literals) (nat_le (literals_levels s.literals) max_literal_levels)
-    (and_parts (list_all are_bytes s.symbols) (literals_in_range s.literals && nat_le (literals_levels s.literals) max_literal_levels)
-    ranges).1).0
+    (and_parts (list_all are_bytes s.symbols) (literals_in_range s.literals) ranges).1
 
 pub literals_named : (p : FrameProgram) → literals_known (length p.statics.symbols) (view.source p).statics.literals ≡ true
 literals_named p =

@@ -18,7 +18,8 @@ use Rattle.sch_word.specs.declared.mark.MarkKind.{MarkKind}
 use Rattle.sch_word.specs.declared.mark.MarkKind.TheVariants.{Enter, Spill}
 use Rattle.sch_control.specs.declared.operation.Operation.{Operation}
 use Rattle.sch_control.specs.declared.operation.Operation.TheVariants as operation
-use Rattle.sch_control.specs.Operations.{Procedure, Ending, field, member_bytes, members_made, new_cell, operand_value, operand_values, operate, source_value, source_values, with_cell, with_procedures, with_some}
+use Rattle.sch_control.specs.Operations.{Procedure, Ending, field, member_bytes, members_made, new_cell, operand_value, operand_values, operate, source_value, source_values, with_cell, with_procedures}
+use Rattle.sch_word.specs.values.Options.{when_some}
 use Rattle.sch_control.specs.Meaning.{World, Result, Callee, call_in, either, entered, marked, on_checked, on_ending, on_outcome, on_return, with_value}
 use Rattle.sch_control.specs.Run.{enter, enter_body, entry_at}
 use Rattle.sch_frames.specs.declared.instruction.Instruction.{Instruction}
@@ -29,7 +30,7 @@ use Rattle.sch_frames.specs.Tree.{Code}
 use Rattle.sch_frames.specs.Covered.{is_covered_code, plain_instruction}
 use Rattle.sch_word.specs.runs.Activations.{is_enter}
 use Rattle.sch_select.proofs.programs.FreeCodes.{code_parts}
-use Rattle.sch_select.proofs.programs.Procedures.{each_at}
+use Rattle.sch_frames.proofs.OwnWays.{passes_at}
 
 -- ---- no operation takes an entry
 
@@ -65,7 +66,7 @@ abbrev EndingSame : State Procedure → Ending → Type 0
 EndingSame s None = Unit {0}
 EndingSame s (Some o) = SameEntries s o
 
-some_same : {A : Type 0} (s : State Procedure) (o : Option A) (next : A → Ending) → ((a : A) → EndingSame s (next a)) → EndingSame s (with_some o next)
+some_same : {A : Type 0} (s : State Procedure) (o : Option A) (next : A → Ending) → ((a : A) → EndingSame s (next a)) → EndingSame s (when_some o next)
 some_same s None next h = tt
 some_same s (Some a) next h = h a
 
@@ -210,7 +211,7 @@ module _ (codes : List Code) (covered : list_all is_covered_code codes ≡ true)
     where
       by : (o : Option Code) → slice_get codes label ≡ o → Kept (do_known o callee depth self vs w)
       by None e = tt
-      by (Some c) e = body_kept callee keeps depth c.instructions (code_parts c (each_at is_covered_code codes label c covered e)).plain None (beginning c.entry self vs) w p
+      by (Some c) e = body_kept callee keeps depth c.instructions (code_parts c (passes_at is_covered_code codes label c covered e)).plain None (beginning c.entry self vs) w p
 
   module _ (n : ℕ) (keeps : CalleeKeeps (callee_of codes n)) where
     into_kept : (label depth : ℕ) (self : Value) (e : Entry) → entry_at (entries_of codes) label ≡ Some e → (arguments : List Value) (u : World) → P u → (k : ℕ) → u.state.store.entries ≡ k

@@ -1,5 +1,5 @@
 -- Small frame programs with their routines, run by the machine.
-use Rattle.std.proofs.Common.{◌≡◌, ℕ, List, [], ◌∷◌, ◌++◌, Option, Some, None, true, false, refl}
+use Rattle.std.proofs.Common.{◌≡◌, ℕ, ◌+◌, List, [], ◌∷◌, ◌++◌, Option, Some, None, true, false, refl}
 use Rattle.std.specs.List.{flat_map}
 use Rattle.std.specs.Prelude.{codes, pos, negsuc, replicate, slice_index, ℤ}
 use Rattle.sch_word.specs.declared.answer.Answer.{Answer}
@@ -33,8 +33,8 @@ use Rattle.sch_asm.specs.Layout.{emitted_from}
 use Rattle.sch_asm.specs.Pieces.{skeleton}
 use Rattle.sch_jumps.specs.Sizes.{Set, placed_from}
 use Rattle.sch_asm.specs.Views.{text_at}
-use Rattle.sch_runtime.specs.Code.{routine_items}
-use Rattle.sch_select_data.specs.Data.{program_words}
+use Rattle.sch_runtime.specs.Code.{all_routines}
+use Rattle.sch_select_data.specs.Data.{heap_of, program_words}
 use Rattle.sch_select.specs.Program.{program_code, program_zeros}
 
 -- a program of one form, with one global
@@ -52,7 +52,7 @@ form_zeros = refl
 
 -- the items, with a limit of the heap
 abbrev items_of : (heap : ℕ) → Source → List Item
-items_of heap p = program_code p heap 1 ++ routine_items
+items_of heap p = program_code p heap 1 ++ all_routines (heap_of p + heap)
 
 -- their text, with all jumps long
 abbrev pub all_long : Set

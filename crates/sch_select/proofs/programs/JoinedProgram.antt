@@ -7,7 +7,7 @@ use Rattle.std.proofs.lemmas.Bool.{and_parts}
 use Rattle.sch_word.specs.declared.answer.Answer.{Answer}
 use Rattle.sch_word.specs.runs.Runs.{Run}
 use Rattle.sch_word.specs.runs.Runs.{library_known}
-use Rattle.sch_frames.specs.Tree.{Code, Source}
+use Rattle.sch_frames.specs.Tree.{Source}
 use Rattle.sch_insn.specs.declared.insn.Insn.{Insn}
 use Rattle.sch_insn.specs.Behaves.{FollowsRuns}
 use Rattle.sch_insn.specs.Spelling.{AllValid, spelling}
@@ -23,15 +23,15 @@ use Rattle.sch_asm.specs.Stands.{Setting, Stands}
 use Rattle.sch_asm.specs.Views.{text_at}
 use Rattle.sch_asm.proofs.Joined.{joined}
 use Rattle.sch_asm.proofs.NarrowItems.{stands_wide}
-use Rattle.sch_asm.proofs.Standing.{setting_of, stands_front}
+use Rattle.sch_asm.specs.Narrow.{narrowed}
+use Rattle.sch_asm.proofs.Standing.{setting_of, stands_front, stands_part}
 use Rattle.sch_select_memory.specs.RestCode.{rest_routine}
 use Rattle.sch_select_memory.specs.Addresses.{put_label, vector_label, string_label}
 use Rattle.sch_select_data.specs.NameWords.{symbol_words, symbols_count}
 use Rattle.sch_select_data.specs.Data.{program_words, names_of, closures_of, heap_of, max_heap_address}
 use Rattle.sch_select_memory.specs.StaticBytes.{static_bytes}
-use Rattle.sch_select.specs.Program.{own_label, forms_code}
 use Rattle.sch_select.specs.Program.{program_code, program_zeros, max_stack, selected_code, stack_bytes}
-use Rattle.sch_select_memory.specs.OwnCode.{own_code}
+use Rattle.sch_select_memory.specs.ValueCode.{StandInFront, value_code}
 use Rattle.sch_select_memory.specs.PutCode.{put_value_code}
 use Rattle.sch_select_memory.specs.MakeCode.{make_vector_code, make_string_code}
 use Rattle.sch_word.specs.values.Values.{are_bytes}
@@ -45,10 +45,8 @@ use Rattle.sch_select.specs.Marks.{PassesMarks, marks_passed}
 use Rattle.sch_select.specs.Follows.{AreRuns, EndsFrames, EntersFrames, FollowsFrames, PassesFrames}
 use Rattle.sch_select_memory.proofs.Places.{Plan, Room}
 use Rattle.sch_select.proofs.items.AppendedItems.{behind}
-use Rattle.sch_select.proofs.items.AppendedForms.{forms_appends}
 use Rattle.sch_select_memory.proofs.simulation.Outcomes.{Laid}
 use Rattle.sch_select.proofs.programs.Procedures.{bodies_cost}
-use Rattle.sch_select.proofs.items.ProgramLabels.{last_code}
 use Rattle.sch_select_data.proofs.SymbolNames.{are_named, symbol_words_count}
 use Rattle.sch_select_data.proofs.StartData.{parts_at_start, bytes_count, texts_there, table_there, literals_there}
 use Rattle.sch_select_data.proofs.StartData.{globals_there, names_there, ends_at, contents_there, new_there}
@@ -65,7 +63,7 @@ pub record IsSelected (p : Source) (heap depth : ℕ) (items : List Item) (data_
   pub passes : PassesFrames p heap depth items data_words zeros
   pub enters : EntersFrames p heap depth items data_words zeros
 
--- ---- what stands behind the forms
+-- ---- the routines that know how values are in the machine
 
 -- what stands behind the routine that puts any value
 abbrev string_tail : (heap_end : ℕ) → List Item
@@ -74,50 +72,38 @@ string_tail heap_end = make_string_code heap_end (rest_routine heap_end [])
 abbrev making_tail : (heap_end : ℕ) → List Item
 making_tail heap_end = make_vector_code heap_end (item.Label string_label ∷ string_tail heap_end)
 
-abbrev making_code : (heap_end : ℕ) → List Item
-making_code heap_end = item.Label vector_label ∷ making_tail heap_end
+module _ (setting : Setting) (heap_end a : ℕ) (h : Stands setting [] a (value_code heap_end)) where
+  -- each stands where its label does
+  put_there : Stands setting [] (setting.place_of put_label) put_value_code
+  put_there = stands_part setting put_label put_value_code (item.Label vector_label ∷ making_tail heap_end) [] a h
 
-module _ (words heap_end literals : ℕ) where
-  -- the program's own routine stands where its label does
-  put_there : (setting : Setting) (label n : ℕ) (cs : List Code) (a : ℕ)
-      → Stands setting [] a (forms_code words heap_end literals label n cs (last_code heap_end))
-      → Stands setting [] (setting.place_of put_label) put_value_code
-  put_there setting label n cs a h =
-      let b = behind setting (forms_code words heap_end literals label n cs []) (last_code heap_end) [] a
-      (subst (Stands setting [] a) (forms_appends words heap_end literals label n cs (last_code heap_end)) h) in
-      subst (λ a. Stands setting [] a put_value_code) (sym b.stands.4.1)
-      (stands_front setting put_value_code (making_code heap_end) [] _ b.stands.4.2)
-
-  -- what stands behind the put of a value
-  making_there : (setting : Setting) (label n : ℕ) (cs : List Code) (a : ℕ)
-      → Stands setting [] a (forms_code words heap_end literals label n cs (last_code heap_end))
-      → Stands setting [] (setting.place_of vector_label) (making_tail heap_end)
-  making_there setting label n cs a h =
-      let b = behind setting (forms_code words heap_end literals label n cs []) (last_code heap_end) [] a
-      (subst (Stands setting [] a) (forms_appends words heap_end literals label n cs (last_code heap_end)) h) in
-      let m = behind setting put_value_code (making_code heap_end) [] _ b.stands.4.2 in
+  making_there : Stands setting [] (setting.place_of vector_label) (making_tail heap_end)
+  making_there =
+      let m = behind setting (item.Label put_label ∷ put_value_code) (item.Label vector_label ∷ making_tail heap_end) [] a h in
       subst (λ a. Stands setting [] a (making_tail heap_end)) (sym m.stands.1) m.stands.2
 
-  -- new vectors and new strings are made where their labels are
-  vector_there : (setting : Setting) → Stands setting [] (setting.place_of vector_label) (making_tail heap_end)
-      → Stands setting [] (setting.place_of vector_label) (make_vector_code heap_end [])
-  vector_there setting h = stands_front setting (make_vector_code heap_end [])
-      (item.Label string_label ∷ string_tail heap_end) [] _ h
+  vector_there : Stands setting [] (setting.place_of vector_label) (make_vector_code heap_end [])
+  vector_there = stands_front setting (make_vector_code heap_end []) (item.Label string_label ∷ string_tail heap_end) [] _ making_there
 
-  string_there : (setting : Setting) → Stands setting [] (setting.place_of vector_label) (making_tail heap_end)
-      → Stands setting [] (setting.place_of string_label) (make_string_code heap_end [])
-  string_there setting h =
-      let s = behind setting (make_vector_code heap_end []) (item.Label string_label ∷ string_tail heap_end) [] _ h in
+  string_there : Stands setting [] (setting.place_of string_label) (make_string_code heap_end [])
+  string_there =
+      let s = behind setting (make_vector_code heap_end []) (item.Label string_label ∷ string_tail heap_end) [] _ making_there in
       subst (λ a. Stands setting [] a (make_string_code heap_end [])) (sym s.stands.1)
       (stands_front setting (make_string_code heap_end []) (rest_routine heap_end []) [] _ s.stands.2)
 
   -- and the routine of lists behind these
-  pub lists_there : (setting : Setting) → Stands setting [] (setting.place_of vector_label) (making_tail heap_end)
-      → (a : ℕ) × Stands setting [] a (rest_routine heap_end [])
-  lists_there setting h =
-      let s = behind setting (make_vector_code heap_end []) (item.Label string_label ∷ string_tail heap_end) [] _ h in
+  lists_there : (a : ℕ) × Stands setting [] a (rest_routine heap_end [])
+  lists_there =
+      let s = behind setting (make_vector_code heap_end []) (item.Label string_label ∷ string_tail heap_end) [] _ making_there in
       let l = behind setting (make_string_code heap_end []) (rest_routine heap_end []) [] _ s.stands.2 in
       (l.place, subst (λ waiting. Stands setting waiting l.place (rest_routine heap_end [])) l.stands.0 l.stands)
+
+-- routines that begin with them
+values_stand : (setting : Setting) (heap_end a : ℕ) (routines : List Item) → StandInFront heap_end routines → Stands setting [] a routines
+    → Stands setting [] a (value_code heap_end)
+values_stand setting heap_end a routines front h =
+    stands_wide setting (value_code heap_end) [] a
+    (stands_front setting (narrowed (value_code heap_end)) front.others [] a (subst (Stands setting [] a) front.parts h))
 
 -- ---- where things lie
 
@@ -195,26 +181,26 @@ module _ (p : Source) (limit depth : ℕ) (words_few : p.words ≤ 2048) (low : 
     forms = (and_parts (list_all (form_selected p.words globals (length p.statics.symbols) literals) p.bodies)
         (list_all (λ c. marks_settled true c.instructions) p.bodies) selected).0
 
-    done : (routines : List Item) (code : List Insn) (marks : List mark.Mark) (words : List ℕ) → AreEffective routines
+    done : (routines : List Item) (code : List Insn) (marks : List mark.Mark) (words : List ℕ) → StandInFront (heap_of p + limit) routines → AreEffective routines
         → IsTrue (marks_arrive false (program_code p limit depth)) → IsTrue (marks_arrive false routines)
         → AreResolved (program_code p limit depth ++ routines) (program_words p) code marks words → AllValid code
         → length (flat_map spelling code) ≤ max_text_size → Done words code marks
     unfolding plan_of
-    done routines code marks words effective arrive arrive' r valid small =
+    done routines code marks words front effective arrive arrive' r valid small =
         let j = joined (program_code p limit depth) routines (program_words p) code marks words r valid small arrive
         arrive' in
         let setting = setting_of (text_at (flat_map spelling code)) r.place_of marks j.apart in
         let stand = stands_wide setting (selected_code p limit depth) [] 0x400000 j.first in
         let plan = plan_of setting r.small in
         let zeros = program_zeros p limit depth in
-        let making = making_there p.words (heap_of p + limit) literals setting 0 (own_label p) p.bodies _
-        stand.2.2.2 in
+        let heap_end = heap_of p + limit in
+        let values = values_stand setting heap_end j.second.0 routines front j.second.1 in
         let laid : Laid plan (bodies_cost p.bodies) = record {
           routine = effective.does setting j.second.0 j.second.1;
-          put_stands = put_there p.words (heap_of p + limit) literals setting 0 (own_label p) p.bodies _ stand.2.2.2;
-          make_vector_stands = vector_there p.words (heap_of p + limit) literals setting making;
-          lists = lists_there p.words (heap_of p + limit) literals setting making;
-          make_string_stands = string_there p.words (heap_of p + limit) literals setting making;
+          put_stands = put_there setting heap_end j.second.0 values;
+          make_vector_stands = vector_there setting heap_end j.second.0 values;
+          lists = lists_there setting heap_end j.second.0 values;
+          make_string_stands = string_there setting heap_end j.second.0 values;
           static_is = refl;
         } in
         let room : Room plan plan.stack depth = record {
@@ -247,30 +233,30 @@ module _ (p : Source) (limit depth : ℕ) (words_few : p.words ≤ 2048) (low : 
         subst (λ w. Done w code marks) (sym r.bytes)
         (record {
           follows = program_follows plan (bodies_cost p.bodies) laid depth room p limit parts
-              (bytes_at r.place_of) (own_code (heap_of p + limit)) forms covered entered_so (omega arith) stand starts;
+              (bytes_at r.place_of) [] forms covered entered_so (omega arith) stand starts;
           ends = program_ends plan (bodies_cost p.bodies) laid depth room p limit parts (bytes_at r.place_of)
-              (own_code (heap_of p + limit)) forms covered entered_so (omega arith) stand starts refl;
+              [] forms covered entered_so (omega arith) stand starts refl;
           passes = program_passes plan (bodies_cost p.bodies) laid depth room p limit parts
-              (bytes_at r.place_of) (own_code (heap_of p + limit)) forms covered entered_so (omega arith) stand starts;
+              (bytes_at r.place_of) [] forms covered entered_so (omega arith) stand starts;
         })
 
     pub program_selected : IsSelected p limit depth (program_code p limit depth) (program_words p) (program_zeros p limit depth)
     program_selected = record {
       follows = record {
-        follows = λ routines code marks words effective arrive arrive' r valid small.
-            (done routines code marks words effective arrive arrive' r valid small).follows;
+        follows = λ routines code marks words front effective arrive arrive' r valid small.
+            (done routines code marks words front effective arrive arrive' r valid small).follows;
       };
       ends = record {
-        ends = λ routines code marks words effective arrive arrive' r valid small.
-            (done routines code marks words effective arrive arrive' r valid small).ends;
+        ends = λ routines code marks words front effective arrive arrive' r valid small.
+            (done routines code marks words front effective arrive arrive' r valid small).ends;
       };
       passes = record {
-        passes = λ routines code marks words effective arrive arrive' r valid small.
-            (done routines code marks words effective arrive arrive' r valid small).passes;
+        passes = λ routines code marks words front effective arrive arrive' r valid small.
+            (done routines code marks words front effective arrive arrive' r valid small).passes;
       };
       enters = record {
-        enters = λ routines code marks words effective arrive arrive' r valid small runs are.
-            let d = done routines code marks words effective arrive arrive' r valid small in
+        enters = λ routines code marks words front effective arrive arrive' r valid small runs are.
+            let d = done routines code marks words front effective arrive arrive' r valid small in
             counts_entries p limit depth covered 0x400000
             (text_at (flat_map spelling code) ∷ data_at (words ++ replicate (program_zeros p limit depth) 0) ∷ [])
             (marks_at marks) runs d.passes (d.follows runs are) are;

@@ -50,6 +50,6 @@ module _ (p : Source) (heap depth : ℕ) (covered : list_all is_covered_code p.b
   -- what passes the marks of a program takes ways through its bodies
   pub takes_frames : (items : List Item) (data_words : List Word) (zeros : ℕ) → PassesFrames p heap depth items data_words zeros → TakesFrames p heap depth items data_words zeros
   takes_frames items data_words zeros h = record {
-    takes = λ routines code marks words effective arrive arrive' r valid small runs are stand.
-        takes_ways _ _ _ runs (h.passes routines code marks words effective arrive arrive' r valid small) are stand;
+    takes = λ routines code marks words front effective arrive arrive' r valid small runs are stand.
+        takes_ways _ _ _ runs (h.passes routines code marks words front effective arrive arrive' r valid small) are stand;
   }

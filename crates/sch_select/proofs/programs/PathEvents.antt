@@ -38,7 +38,7 @@ cut (suc m) s t (u ∷ us) p le =
 nothing : (o : ℕ × List ℕ) → None ≡ Some o → ⊥
 nothing o e = cc
 
-no_exit : (s : State) (p : Progress) (status : ℕ) (output : List ℕ) → exit_of (standing s p) ≡ Some (status, output) → ⊥
+pub no_exit : (s : State) (p : Progress) (status : ℕ) (output : List ℕ) → exit_of (standing s p) ≡ Some (status, output) → ⊥
 no_exit s (Runs t) status output e = nothing (status, output) e
 no_exit s (Exited k t) status output e = nothing (status, output) e
 no_exit s (Stuck cause t) status output e = nothing (status, output) e

@@ -32,6 +32,7 @@ use Rattle.sch_asm.specs.declared.item.Item.{Item}
 use Rattle.sch_asm.specs.declared.item.Item.TheVariants as item
 use Rattle.sch_word.specs.declared.mark.MarkKind.{MarkKind}
 use Rattle.sch_word.specs.declared.mark.MarkKind.TheVariants.{Enter}
+use Rattle.sch_frames.proofs.OwnWays.{passes_at}
 use Rattle.sch_asm.specs.Stands.{Stands}
 use Rattle.sch_asm.specs.Data.{word_in}
 use Rattle.sch_asm.specs.Views.{View, Leads, full}
@@ -65,13 +66,6 @@ entry_is : (codes : List Code) (label : ℕ) → entry_at (entries_of codes) lab
 entry_is [] label = refl
 entry_is (c ∷ codes) zero = refl
 entry_is (c ∷ codes) (suc label) = entry_is codes label
-
-pub each_at : (f : Code → Bool) (codes : List Code) (label : ℕ) (c : Code) → list_all f codes ≡ true
-    → slice_get codes label ≡ Some c → f c ≡ true
-each_at f [] label c e i = absurd (let bad : None ≡ Some c = i in cc)
-each_at f (k ∷ codes) zero c e i = let j : Some k ≡ Some c = i in let same : k ≡ c = cc in subst (λ c. f c ≡ true)
-    same (and_parts (f k) (list_all f codes) e).0
-each_at f (k ∷ codes) (suc label) c e i = each_at f codes label c (and_parts (f k) (list_all f codes) e).1 i
 
 -- how many steps all bodies take at most
 abbrev pub bodies_cost : List Code → ℕ
@@ -220,7 +214,7 @@ module _ (plan : Plan) (body_steps : ℕ) (laid : Laid plan body_steps) where
             (item.Label out ∷ b.following)
 
         kept : IsFree c
-        kept = code_parts c (each_at is_covered_code codes p.label c covered is)
+        kept = code_parts c (passes_at is_covered_code codes p.label c covered is)
 
         there : Stands setting [] x.place (count_code e.rest e.formals (out + 1) body)
         there = subst (λ a. Stands setting [] a (count_code e.rest e.formals (out + 1) body)) (sym at) b.stands
@@ -229,7 +223,7 @@ module _ (plan : Plan) (body_steps : ℕ) (laid : Laid plan body_steps) where
             × (list_all (instruction_selected words globals (length symbols) literals) c.instructions ≡ true)
         checks = and_parts (nat_le (formals_of c.entry) max_operands)
             (list_all (instruction_selected words globals (length symbols) literals) c.instructions)
-            (each_at (form_selected words globals (length symbols) literals) codes p.label c selected is)
+            (passes_at (form_selected words globals (length symbols) literals) codes p.label c selected is)
 
         formals_few : e.formals ≤ max_operands
         formals_few = leb-true e.formals max_operands (subst (λ o. nat_le (formals_of o) max_operands ≡ true) entry_of
@@ -237,7 +231,7 @@ module _ (plan : Plan) (body_steps : ℕ) (laid : Laid plan body_steps) where
 
         placed : (nat_le 1 e.formals || not e.rest) && nat_le e.formals (6 + words) ≡ true
         placed = subst (λ o. entry_selected words o ≡ true) entry_of
-            (each_at (λ c. entry_selected words c.entry) codes p.label c entered_so is)
+            (passes_at (λ c. entry_selected words c.entry) codes p.label c entered_so is)
 
         -- the body itself, with the arguments, in the state in which it begins: an entry is taken
         module _ (us : List Value) (parts' : Parts) (words' : Words parts parts') (u0 : World) (y : View) (a b' : ℕ)

@@ -19,7 +19,7 @@ use Rattle.sch_select.proofs.programs.Procedures.{BodyAt}
 list_past : (setting : Setting) (b : Bool) (required n a : ℕ) (rest : List Item)
     → Stands setting [] a (list_code b required n rest) → (behind : ℕ) × Stands setting [] behind rest
 list_past setting true required n a rest h = (_, h.4.4.2)
-list_past setting false required n a rest h = (_, h.2.2.4.4.2)
+list_past setting false required n a rest h = (_, h.2.4.4.2)
 
 pub count_past : (setting : Setting) (b : Bool) (formals n a : ℕ) (rest : List Item)
     → Stands setting [] a (count_code b formals n rest) → (behind : ℕ) × Stands setting [] behind rest

@@ -1,5 +1,7 @@
 -- The parts and the words of some literals, which compute.
-use Rattle.std.proofs.Common.{◌≡◌, [], ◌∷◌, false, refl}
+use Rattle.std.proofs.Common.{◌≡◌, ℕ, List, [], ◌∷◌, ◌++◌, false, refl, replicate}
+use Rattle.sch_word.specs.trees.InOrder.{AreInOrder, none, next}
+use Rattle.sch_word.specs.values.LiteralParts.{parts}
 use Rattle.sch_word.specs.declared.constant.Const.TheVariants.{Fixnum, Character, Boolean, Nil, Symbol}
 use Rattle.sch_word.specs.values.Values.{fixnum, vector, string}
 use Rattle.sch_word.specs.values.Literals.{Literal, Literals, constant, text, list, elements, literals, literal_values, objects_of_each}
@@ -8,7 +10,9 @@ use Rattle.sch_asm.specs.declared.assembly.Word.TheVariants.{Fixed}
 use Rattle.std.specs.Prelude.{map, pos, negsuc}
 use Rattle.sch_select_data.specs.ObjectParts.{object_parts, parts_at}
 use Rattle.sch_select_data.specs.ObjectWords.{value_word, object_contents, objects_contents, object_words}
-use Rattle.sch_select_data.specs.PlacedWords.{placed_values, placed_each}
+use Rattle.sch_select_data.specs.PlacedWords.{placed_values, placed_each, units_in, own_units, ArePlaced}
+use Rattle.sch_select_data.specs.PlacedView.{in_turn, IsObjectPut}
+use Rattle.sch_select_data.specs.declared.placed_values.PlacedValues.{PlacedValues}
 
 -- (1 (2 . 3) "ab" #\a sym), whose symbol has the number 7
 abbrev one : Literal
@@ -56,3 +60,36 @@ nine_bytes parts = refl
 
 as_data : (parts : Parts) → object_words parts (vector (fixnum (pos 5) ∷ [])) ≡ Fixed 8 ∷ Fixed 40 ∷ []
 as_data parts = refl
+
+-- ## Units, and literals one behind the other
+
+own_units_rows :
+    (own_units (constant Nil) ≡ 0) × (own_units (text []) ≡ 1)
+    × (own_units (text (replicate 8 97)) ≡ 1) × (own_units (text (replicate 9 97)) ≡ 2)
+    × (own_units (elements (literals (text [] ∷ []))) ≡ 1)
+    × (own_units (elements (literals (text [] ∷ constant Nil ∷ []))) ≡ 2)
+    × (own_units (list (literals (text [] ∷ constant Nil ∷ [])) (text [])) ≡ 2)
+own_units_rows = (refl, refl, refl, refl, refl, refl, refl)
+
+-- two pairs and two strings of a unit each
+all_units : units_in (list (literals (text [] ∷ constant Nil ∷ [])) (text [])) ≡ 4
+all_units = refl
+
+-- `#("")` and `#()` from unit 3 on
+placed_row : ArePlaced (elements (literals (text [] ∷ [])) ∷ elements (literals []) ∷ []) 3 6 (8 ∷ 67 ∷ 0 ∷ 0 ∷ 0 ∷ 0 ∷ []) (50 ∷ 82 ∷ [])
+placed_row = record { ends = refl; words_are = refl; values_are = refl }
+
+object_put : (words : List ℕ) (from to : PlacedValues) → in_turn to ≡ 34 ∷ in_turn from →
+    IsObjectPut (8 ∷ 40 ∷ []) 2 (record { words = words; values = from; unit = 3 }) (record { words = words ++ 40 ∷ 8 ∷ []; values = to; unit = 2 })
+object_put words from to e = record { begins = refl; words_are = refl; values_are = e }
+
+-- ## Literals in order
+
+-- a pair and what stands behind it
+two_in_order : (a b c : Literal) → parts a ≡ [] → parts b ≡ [] → parts c ≡ []
+    → AreInOrder parts (list (literals (a ∷ [])) b ∷ a ∷ b ∷ c ∷ []) (list (literals (a ∷ [])) b ∷ c ∷ [])
+two_in_order a b c no_a no_b no_c =
+    let leaf : (l : Literal) → parts l ≡ [] → AreInOrder parts [] (parts l) = λ l e. rw e none in
+    next (list (literals (a ∷ [])) b) (a ∷ b ∷ []) (c ∷ []) (c ∷ [])
+    (next a [] (b ∷ []) (b ∷ []) (leaf a no_a) (next b [] [] [] (leaf b no_b) none))
+    (next c [] [] [] (leaf c no_c) none)

@@ -1,158 +1,134 @@
--- What is put for a literal, from what is put for its parts.
-use Rattle.std.proofs.Common.{◌≡◌, ℕ, suc, ◌+◌, ◌-◌, ◌/◌, ◌<◌, List, [], ◌∷◌, ◌++◌, length, reverse, drop, get_or, refl, sym, ap, ◌∙◌, subst, arith, append_assoc}
-use Rattle.std.proofs.lemmas.Grind.{reverse_onto}
-use Rattle.std.proofs.lemmas.List.{reverse-append, reverse-reverse, length-reverse}
-use Rattle.sch_word.specs.declared.literal.Lit.{Lit}
-use Rattle.sch_word.specs.values.Literals.{Literal, Literals, text, list, elements, no_literals, and_literal, count_literals}
-use Rattle.sch_word.specs.values.LiteralView.{literal}
+-- A literal is put, whose parts came first of those that were put.
+use Rattle.std.proofs.Common.{◌≡◌, ◌≤◌, ℕ, suc, ◌+◌, ◌*◌, ◌/◌, List, [], ◌∷◌, ◌++◌, length, take, drop, refl, sym, ap, ◌∙◌, subst, arith, append_assoc, length-append}
+use Rattle.std.proofs.Math.Seq.{take-append_seam, drop-append_seam}
+use Rattle.sch_word.specs.values.Values.{constant_value}
+use Rattle.sch_word.specs.values.Literals.{Literal, Literals, constant, text, list, elements, no_literals, and_literal, literals, count_literals}
+use Rattle.sch_word.specs.values.LiteralParts.{each_of, parts}
+use Rattle.sch_word.proofs.facts.Lists.{head_same, tail_same, cons_same, append_same}
 use Rattle.sch_select_memory.specs.Encoded.{vector_tag, string_tag}
-use Rattle.sch_select_data.specs.ObjectWords.{vector_contents, string_contents}
-use Rattle.sch_select_data.specs.PlacedWords.{units_in, units_in_each, placed_value, placed_values, list_word, linked_words, placed_words, placed_each, IsObjectPut, IsPut, ArePut}
-use Rattle.sch_select_data.proofs.literals.Rows.{left, next_left}
-use Rattle.sch_select_data.proofs.literals.Sizes.{vector_contents_length, string_contents_length}
+use Rattle.sch_select_data.specs.ObjectWords.{value_word, vector_contents, string_contents}
+use Rattle.sch_select_data.specs.PlacedWords.{units_in, units_in_each, no_parts, placed_value, placed_values, list_word, linked_words, placed_words, placed_each, ArePlaced}
+use Rattle.sch_select_data.proofs.literals.NodeUnits.{units_joined}
+
+-- ---- literals before others
 
 pub placed_values_length : (ls : Literals) (unit : ℕ) → length (placed_values ls unit) ≡ count_literals ls
 placed_values_length no_literals unit = refl
 placed_values_length (and_literal l ls) unit = ap suc (placed_values_length ls (unit + units_in l))
 
--- the words of literals that are put, from the first to the last, and how many there are
-pub values_forward : (ls : Literals) (end : ℕ) (before after values : List ℕ) (unit : ℕ) → ArePut ls end before after values unit → reverse values ≡ placed_values ls unit
-values_forward ls end before after values unit h = ap reverse h.values_are ∙ reverse-reverse (placed_values ls unit)
+values_joined : (ls : Literals) (others : List Literal) (unit : ℕ)
+    → placed_values (literals (each_of ls ++ others)) unit ≡ placed_values ls unit ++ placed_values (literals others) (unit + units_in_each ls)
+values_joined no_literals others unit = let e : unit ≡ unit + 0 = omega arith in ap (placed_values (literals others)) e
+values_joined (and_literal l ls) others unit =
+    let e : unit + units_in l + units_in_each ls ≡ unit + (units_in l + units_in_each ls) = omega arith in
+    ap (λ vs. placed_value l unit ∷ vs)
+    (values_joined ls others (unit + units_in l) ∙ ap (λ u. placed_values ls (unit + units_in l) ++ placed_values (literals others) u) e)
 
-pub values_count : (ls : Literals) (end : ℕ) (before after values : List ℕ) (unit : ℕ) → ArePut ls end before after values unit → length values ≡ count_literals ls
-values_count ls end before after values unit h =
-    sym (length-reverse values) ∙ ap length (values_forward ls end before after values unit h) ∙ placed_values_length ls unit
+each_joined : (ls : Literals) (others : List Literal) (unit : ℕ)
+    → placed_each (literals (each_of ls ++ others)) unit ≡ placed_each ls unit ++ placed_each (literals others) (unit + units_in_each ls)
+each_joined no_literals others unit = let e : unit ≡ unit + 0 = omega arith in ap (placed_each (literals others)) e
+each_joined (and_literal l ls) others unit =
+    let e : unit + units_in l + units_in_each ls ≡ unit + (units_in l + units_in_each ls) = omega arith in
+    let far = unit + (units_in l + units_in_each ls) in
+    ap (λ ws. placed_words l unit ++ ws)
+    (each_joined ls others (unit + units_in l) ∙ ap (λ u. placed_each ls (unit + units_in l) ++ placed_each (literals others) u) e)
+    ∙ sym (append_assoc (placed_words l unit) (placed_each ls (unit + units_in l)) (placed_each (literals others) far))
 
--- ---- strings
+-- ---- none, and as many words as literals
 
-pub text_units : (bytes contents : List ℕ) → contents ≡ string_contents bytes → length contents / 2 ≡ units_in (text bytes)
-text_units bytes contents e = let n = ap length e ∙ string_contents_length bytes in omega (arith, n)
+pub none_placed : (unit end : ℕ) (words values : List ℕ) → unit ≡ end → words ≡ [] → values ≡ [] → ArePlaced [] unit end words values
+none_placed unit end words values e w v = record { ends = omega (arith, e); words_are = w; values_are = v }
 
-pub text_put : (bytes contents : List ℕ) (end : ℕ) (before after : List ℕ) (value unit : ℕ) → contents ≡ string_contents bytes → IsObjectPut contents string_tag end before after value unit
-    → IsPut (text bytes) end before after value unit
-text_put bytes contents end before after value unit c h = record {
-  ends = let n = text_units bytes contents c in let e = h.ends in omega (arith, n, e);
-  value_is = h.value_is;
-  words = h.words ∙ ap (λ l. before ++ reverse l) c;
-}
+values_count : (ls : List Literal) (unit : ℕ) → length (placed_values (literals ls) unit) ≡ length ls
+values_count [] unit = refl
+values_count (l ∷ ls) unit = ap suc (values_count ls (unit + units_in l))
 
--- ---- vectors
+pub values_there : (ls others : List Literal) (unit end : ℕ) (words values : List ℕ) → ArePlaced (ls ++ others) unit end words values → length ls ≤ length values
+values_there ls others unit end words values h =
+    let n = ap length h.values_are ∙ values_count (ls ++ others) unit in
+    omega (arith, n, length-append ls others)
 
-pub vector_units : (ls : Literals) (end : ℕ) (before after values : List ℕ) (unit : ℕ) (contents : List ℕ) → ArePut ls end before after values unit → contents ≡ vector_contents (reverse values)
-    → length contents / 2 ≡ 1 + count_literals ls / 2
-vector_units ls end before after values unit contents h c =
-    let n = ap length c ∙ vector_contents_length (reverse values) in
-    let k = ap (λ k. k / 2) (length-reverse values ∙ values_count ls end before after values unit h) in
-    omega (arith, n, k)
+-- ---- one literal more
 
-pub vector_put : (ls : Literals) (end : ℕ) (before middle values : List ℕ) (inner : ℕ) (contents after : List ℕ) (value unit : ℕ) → ArePut ls end before middle values inner
-    → contents ≡ vector_contents (reverse values)
-    → IsObjectPut contents vector_tag inner middle after value unit → IsPut (elements ls) end before after value unit
-vector_put ls end before middle values inner contents after value unit h c g =
-    let n = vector_units ls end before middle values inner contents h c in
-    let e = g.ends in
-    let place : inner ≡ unit + (1 + count_literals ls / 2) = omega (arith, n, e) in
+pub more_placed : (l : Literal) (others : List Literal) (unit inner end : ℕ) (words values own : List ℕ) (value : ℕ)
+    → ArePlaced others inner end words values → unit + units_in l ≡ inner → own ≡ placed_words l unit → value ≡ placed_value l unit
+    → ArePlaced (l ∷ others) unit end (own ++ words) (value ∷ values)
+more_placed l others unit inner end words values own value h e o v =
     let ends = h.ends in
-    let whole = c ∙ ap vector_contents (values_forward ls end before middle values inner h) ∙ ap (λ u. vector_contents (placed_values ls u)) place in
     record {
-      ends = omega (arith, place, ends);
-      value_is = g.value_is;
-      words = g.words ∙ ap (λ l. l ++ reverse contents) (h.words ∙ ap (λ u. before ++ reverse (placed_each ls u)) place)
-          ∙ append_assoc before (reverse (placed_each ls (unit + (1 + count_literals ls / 2)))) (reverse contents)
-          ∙ ap (λ l. before ++ (reverse (placed_each ls (unit + (1 + count_literals ls / 2))) ++ reverse l)) whole
-          ∙ ap (λ l. before ++ l) (sym (reverse-append (vector_contents (placed_values ls (unit + (1 + count_literals ls / 2)))) (placed_each ls (unit + (1 + count_literals ls / 2)))));
+      ends = omega (arith, ends, e);
+      words_are = append_same o (h.words_are ∙ ap (placed_each (literals others)) (sym e));
+      values_are = cons_same v (h.values_are ∙ ap (placed_values (literals others)) (sym e));
     }
 
--- ---- lists
+-- ---- a literal in place of its parts
 
+module _ (ls : Literals) (others : List Literal) (inner end : ℕ) (words values : List ℕ) (h : ArePlaced (each_of ls ++ others) inner end words values) where
+  pub front_values : take (count_literals ls) values ≡ placed_values ls inner
+  front_values =
+      ap (take (count_literals ls)) (h.values_are ∙ values_joined ls others inner)
+      ∙ ap (λ n. take n (placed_values ls inner ++ placed_values (literals others) (inner + units_in_each ls))) (sym (placed_values_length ls inner))
+      ∙ take-append_seam (placed_values ls inner) (placed_values (literals others) (inner + units_in_each ls))
+
+  pub other_values : drop (count_literals ls) values ≡ placed_values (literals others) (inner + units_in_each ls)
+  other_values =
+      ap (drop (count_literals ls)) (h.values_are ∙ values_joined ls others inner)
+      ∙ ap (λ n. drop n (placed_values ls inner ++ placed_values (literals others) (inner + units_in_each ls))) (sym (placed_values_length ls inner))
+      ∙ drop-append_seam (placed_values ls inner) (placed_values (literals others) (inner + units_in_each ls))
+
+  pub front_words : words ≡ placed_each ls inner ++ placed_each (literals others) (inner + units_in_each ls)
+  front_words = h.words_are ∙ each_joined ls others inner
+
+-- a vector
+pub vector_placed : (ls : Literals) (others : List Literal) (unit inner end : ℕ) (words values items rest : List ℕ) (value : ℕ)
+    → ArePlaced (each_of ls ++ others) inner end words values → unit + (1 + count_literals ls / 2) ≡ inner
+    → items ≡ take (count_literals ls) values → rest ≡ drop (count_literals ls) values → value ≡ 16 * unit + vector_tag
+    → ArePlaced (elements ls ∷ others) unit end (vector_contents items ++ words) (value ∷ rest)
+vector_placed ls others unit inner end words values items rest value h e i r v =
+    let far : unit + units_in (elements ls) ≡ inner + units_in_each ls = omega (arith, e) in
+    let ends = h.ends in
+    let joined = units_joined ls others in
+    record {
+      ends = omega (arith, ends, joined, e);
+      words_are = append_same (ap vector_contents (i ∙ front_values ls others inner end words values h)) (front_words ls others inner end words values h)
+          ∙ sym (append_assoc (vector_contents (placed_values ls inner)) (placed_each ls inner) (placed_each (literals others) (inner + units_in_each ls)))
+          ∙ ap (λ u. (vector_contents (placed_values ls u) ++ placed_each ls u) ++ placed_each (literals others) (inner + units_in_each ls)) (sym e)
+          ∙ ap (λ u. placed_words (elements ls) unit ++ placed_each (literals others) u) (sym far);
+      values_are = cons_same v (r ∙ other_values ls others inner end words values h ∙ ap (placed_values (literals others)) (sym far));
+    }
+
+-- the word of a list
 list_value_is : (ls : Literals) (tail : Literal) (unit inner behind : ℕ) → inner ≡ unit + count_literals ls → behind ≡ inner + units_in_each ls
     → list_word unit (placed_values ls inner) (placed_value tail behind) ≡ placed_value (list ls tail) unit
 list_value_is no_literals tail unit inner behind e f = let z : behind ≡ unit = omega (arith, e, f) in ap (placed_value tail) z
 list_value_is (and_literal l ls) tail unit inner behind e f = refl
 
--- three pieces, the last one first
-three_reversed : (before a b c : List ℕ) → ((before ++ reverse c) ++ reverse b) ++ reverse a ≡ before ++ reverse (a ++ (b ++ c))
-three_reversed before a b c =
-    append_assoc (before ++ reverse c) (reverse b) (reverse a)
-    ∙ append_assoc before (reverse c) (reverse b ++ reverse a)
-    ∙ ap (λ l. before ++ l) (sym (append_assoc (reverse c) (reverse b) (reverse a))
-    ∙ ap (λ l. l ++ reverse a) (sym (reverse-append b c)) ∙ sym (reverse-append a (b ++ c)))
-
-pub list_put : (ls : Literals) (tail : Literal) (end : ℕ) (before first : List ℕ) (last behind : ℕ) (second values : List ℕ) (inner : ℕ) (after : List ℕ) (value unit : ℕ)
-    → IsPut tail end before first last behind → ArePut ls behind first second values inner → unit + count_literals ls ≡ inner
-    → value ≡ list_word (inner - length values) (reverse values) last
-    → after ≡ second ++ reverse (linked_words (inner - length values) (reverse values) last)
-    → IsPut (list ls tail) end before after value unit
-list_put ls tail end before first last behind second values inner after value unit t h e v w =
-    let count = values_count ls behind first second values inner h in
-    let forward = values_forward ls behind first second values inner h in
-    let place : inner ≡ unit + count_literals ls = omega (arith, e) in
-    let start : inner - length values ≡ unit = omega (arith, e, count) in
-    let te = t.ends in
-    let he = h.ends in
-    let behind_is : behind ≡ unit + count_literals ls + units_in_each ls = omega (arith, he, place) in
-    let last_is = t.value_is in
-    let pairs : linked_words (inner - length values) (reverse values) last ≡ linked_words unit (placed_values ls (unit + count_literals ls))
-    (placed_value tail (unit + count_literals ls + units_in_each ls)) =
-    ap (λ u. linked_words u (reverse values) last) start ∙ ap (λ vs. linked_words unit vs last) (forward ∙ ap (placed_values ls) place)
-    ∙ ap (linked_words unit (placed_values ls (unit + count_literals ls))) (last_is ∙ ap (placed_value tail) behind_is) in
+-- a list
+pub list_placed : (ls : Literals) (tail : Literal) (others : List Literal) (unit inner end : ℕ) (words values items rest : List ℕ) (last : ℕ)
+    → ArePlaced (each_of ls ++ (tail ∷ others)) inner end words values → unit + count_literals ls ≡ inner
+    → items ≡ take (count_literals ls) values → last ∷ rest ≡ drop (count_literals ls) values
+    → ArePlaced (list ls tail ∷ others) unit end (linked_words unit items last ++ words) (list_word unit items last ∷ rest)
+list_placed ls tail others unit inner end words values items rest last h e i r =
+    let behind = inner + units_in_each ls in
+    let all = placed_each (literals others) (behind + units_in tail) in
+    let far : unit + units_in (list ls tail) ≡ behind + units_in tail = omega (arith, e) in
+    let ends = h.ends in
+    let joined = units_joined ls (tail ∷ others) in
+    let items_are = i ∙ front_values ls (tail ∷ others) inner end words values h in
+    let left = r ∙ other_values ls (tail ∷ others) inner end words values h in
+    let last_is = head_same left in
+    let value_is : list_word unit items last ≡ placed_value (list ls tail) unit =
+    ap (λ vs. list_word unit vs last) items_are ∙ ap (list_word unit (placed_values ls inner)) last_is ∙ list_value_is ls tail unit inner behind (sym e) refl in
+    let pairs : linked_words unit items last ≡ linked_words unit (placed_values ls inner) (placed_value tail behind) =
+    ap (λ vs. linked_words unit vs last) items_are ∙ ap (linked_words unit (placed_values ls inner)) last_is in
+    let own : List ℕ = linked_words unit (placed_values ls inner) (placed_value tail behind) in
+    let inside : own ++ (placed_each ls inner ++ placed_words tail behind) ≡ placed_words (list ls tail) unit =
+    ap (λ u. linked_words unit (placed_values ls u) (placed_value tail (u + units_in_each ls)) ++ (placed_each ls u ++ placed_words tail (u + units_in_each ls))) (sym e) in
     record {
-      ends = omega (arith, te, he, place);
-      value_is = v ∙ ap (λ u. list_word u (reverse values) last) start ∙ ap (λ vs. list_word unit vs last) forward ∙ ap (list_word unit (placed_values ls inner)) last_is
-          ∙ list_value_is ls tail unit inner behind place (sym he);
-      words = w
-          ∙ ap (λ l. l ++ reverse (linked_words (inner - length values) (reverse values) last)) (h.words ∙ ap (λ l. l ++ reverse (placed_each ls inner)) t.words)
-          ∙ ap (λ l. ((before ++ reverse (placed_words tail behind)) ++ reverse (placed_each ls inner)) ++ reverse l) pairs
-          ∙ ap (λ u. ((before ++ reverse (placed_words tail u)) ++ reverse (placed_each ls inner))
-          ++ reverse (linked_words unit (placed_values ls (unit + count_literals ls)) (placed_value tail (unit + count_literals ls + units_in_each ls)))) behind_is
-          ∙ ap (λ u. ((before ++ reverse (placed_words tail (unit + count_literals ls + units_in_each ls))) ++ reverse (placed_each ls u))
-          ++ reverse (linked_words unit (placed_values ls (unit + count_literals ls)) (placed_value tail (unit + count_literals ls + units_in_each ls)))) place
-          ∙ three_reversed before (linked_words unit (placed_values ls (unit + count_literals ls)) (placed_value tail (unit + count_literals ls + units_in_each ls)))
-          (placed_each ls (unit + count_literals ls)) (placed_words tail (unit + count_literals ls + units_in_each ls));
+      ends = omega (arith, ends, joined, e);
+      words_are = append_same pairs (front_words ls (tail ∷ others) inner end words values h)
+          ∙ ap (λ l. own ++ l) (sym (append_assoc (placed_each ls inner) (placed_words tail behind) all))
+          ∙ sym (append_assoc own (placed_each ls inner ++ placed_words tail behind) all)
+          ∙ append_same inside (ap (placed_each (literals others)) (sym far));
+      values_are = cons_same value_is (tail_same left ∙ ap (placed_values (literals others)) (sym far));
     }
-
--- ---- one literal more
-
-more_put : (l : Literal) (ls : Literals) (end : ℕ) (before words values : List ℕ) (unit : ℕ) (after : List ℕ) (value at : ℕ)
-    → ArePut ls end before words values unit → IsPut l unit words after value at → ArePut (and_literal l ls) end before after (values ++ value ∷ []) at
-more_put l ls end before words values unit after value at h g =
-    let he = h.ends in
-    let ge = g.ends in
-    record {
-      ends = omega (arith, he, ge);
-      values_are = ap (λ vs. vs ++ value ∷ []) (h.values_are ∙ ap (λ u. reverse (placed_values ls u)) (sym ge))
-          ∙ ap (λ v. reverse (placed_values ls (at + units_in l)) ++ v ∷ []) g.value_is
-          ∙ sym (reverse_onto (placed_values ls (at + units_in l)) (placed_value l at) []);
-      words = g.words ∙ ap (λ l'. l' ++ reverse (placed_words l at)) (h.words ∙ ap (λ u. before ++ reverse (placed_each ls u)) (sym ge))
-          ∙ append_assoc before (reverse (placed_each ls (at + units_in l))) (reverse (placed_words l at))
-          ∙ ap (λ l'. before ++ l') (sym (reverse-append (placed_words l at) (placed_each ls (at + units_in l))));
-    }
-
--- at the places of items, from the last one on
-pub item_put : (items : List Lit) (k : ℕ) (l : Lit) (end : ℕ) (before words values : List ℕ) (unit : ℕ) (after : List ℕ) (value at : ℕ)
-    → k < length items → l ≡ get_or items (length items - 1 - k) l
-    → ArePut (left (drop (length items - k) items)) end before words values unit → IsPut (literal l) unit words after value at
-    → ArePut (left (drop (length items - (k + 1)) items)) end before after (values ++ value ∷ []) at
-item_put items k l end before words values unit after value at lt e h g =
-    let j = length items - 1 - k in
-    let a : length items - (k + 1) ≡ length items - 1 - k = omega (arith, lt) in
-    let b : length items - k ≡ length items - 1 - k + 1 = omega (arith, lt) in
-    let next = ap (λ n. left (drop n items)) a ∙ next_left items j l (omega (arith, lt)) e in
-    subst (λ ls. ArePut ls end before after (values ++ value ∷ []) at) (sym next)
-    (more_put (literal l) (left (drop (j + 1) items)) end before words values unit after value at (subst (λ n. ArePut (left (drop n items)) end before words values unit) b h) g)
-
--- ---- all literals
-
-pub words_forward : (ls : Literals) (end : ℕ) (before after values : List ℕ) (unit first : ℕ) → ArePut ls end before after values unit → before ≡ [] → first + units_in_each ls ≡ end
-    → reverse after ≡ placed_each ls first
-words_forward ls end before after values unit first h none e =
-    let he = h.ends in
-    let place : unit ≡ first = omega (arith, he, e) in
-    ap reverse (h.words ∙ ap (λ l. l ++ reverse (placed_each ls unit)) none) ∙ reverse-reverse (placed_each ls unit) ∙ ap (placed_each ls) place
-
-pub all_forward : (ls : Literals) (end : ℕ) (before after values : List ℕ) (unit first : ℕ) → ArePut ls end before after values unit → first + units_in_each ls ≡ end
-    → reverse values ≡ placed_values ls first
-all_forward ls end before after values unit first h e =
-    let he = h.ends in
-    let place : unit ≡ first = omega (arith, he, e) in
-    values_forward ls end before after values unit h ∙ ap (placed_values ls) place

@@ -1,4 +1,4 @@
--- The program's own routine makes the list of the operands that are left over: the loop over slots, and the registers.
+-- The routine makes the list of the operands that are left over: the loop over slots, and the registers.
 use Rattle.std.proofs.Common.{◌≡◌, ℕ, suc, ◌+◌, ◌*◌, ◌^◌, ◌<◌, ◌≤◌, List, [], ◌∷◌, length, Bool, true, false, cond, refl}
 use Rattle.std.proofs.Common.{sym, ap, ◌∙◌, subst, arith, inl, inr, ◌==◌, Some}
 use Rattle.std.specs.Prelude.{pos}

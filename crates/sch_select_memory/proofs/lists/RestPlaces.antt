@@ -6,7 +6,8 @@ use Rattle.sch_asm.specs.Data.{word_in}
 use Rattle.std.proofs.lemmas.Bool.{ne_eqb, cases_lt}
 use Rattle.sch_word.specs.declared.place.Place.TheVariants.{Reg, Slot}
 use Rattle.sch_word.specs.values.Values.{Value}
-use Rattle.sch_frames.specs.Meaning.{Junk, cell_of, entry_places, argument_register, argument_slot, same_place}
+use Rattle.sch_frames.specs.Meaning.{Junk, cell_of, entry_places, argument_register, argument_slot}
+use Rattle.sch_word.specs.values.Places.{same_place}
 use Rattle.sch_frames.proofs.FramePlaces.{slot_of}
 use Rattle.sch_asm.specs.Views.{View}
 use Rattle.sch_select_memory.specs.Parts.{Parts}

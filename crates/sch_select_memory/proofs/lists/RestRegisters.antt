@@ -1,4 +1,4 @@
--- The program's own routine makes the list of the operands that are left over, wherever the first of them is.
+-- The routine makes the list of the operands that are left over, wherever the first of them is.
 use Rattle.std.proofs.Common.{◌≡◌, ℕ, suc, ◌+◌, ◌*◌, ◌^◌, ◌<◌, ◌≤◌, List, [], ◌∷◌, length, Bool, true, false, cond, refl}
 use Rattle.std.proofs.Common.{sym, ap, ◌∙◌, subst, arith, inl, inr, ◌⊎◌, ◌==◌, eq-eqb, Some}
 use Rattle.std.specs.Prelude.{pos, not}
@@ -8,7 +8,7 @@ use Rattle.sch_word.specs.declared.place.Place.TheVariants.{Reg, Slot}
 use Rattle.sch_word.specs.values.Values.{Value}
 use Rattle.sch_word.specs.runs.Computation.{State}
 use Rattle.sch_control.specs.Operations.{Procedure}
-use Rattle.sch_frames.specs.Meaning.{same_place}
+use Rattle.sch_word.specs.values.Places.{same_place}
 use Rattle.sch_insn.specs.declared.condition.TheConstants.{NE}
 use Rattle.sch_insn.specs.declared.insn.Arg.TheVariants as arg
 use Rattle.sch_insn.specs.declared.insn.Insn.TheVariants.{MovTo, MovFrom, MovNumber, AddNumber, CmpNumber, JumpTo}

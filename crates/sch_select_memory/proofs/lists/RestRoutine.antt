@@ -16,7 +16,7 @@ use Rattle.sch_select_memory.specs.Encoded.{IsWord}
 use Rattle.sch_select_memory.specs.RestCode.{loop_code, loop_label, slots_code, more_label, registers_code, rest_label}
 use Rattle.sch_word.specs.values.Registers.{argument_registers}
 use Rattle.sch_select_memory.specs.RestCode.{first_code, firsts_code, first_slot_code, more_code, later_registers}
-use Rattle.sch_select_memory.specs.RestCode.{rest_routine, list_label, check_pairs}
+use Rattle.sch_select_memory.specs.RestCode.{rest_routine, list_label, check_pairs, slot_address}
 use Rattle.sch_select_memory.proofs.Places.{Plan, Activation, PlacesAt, Holds}
 use Rattle.sch_select_memory.proofs.lists.RestLoop.{is_loose, InSlots}
 use Rattle.sch_select_memory.proofs.lists.RestRegisters.{Outside, or_one, AtPlaces, Listed, first_register, first_slot}
@@ -42,6 +42,10 @@ module _ (plan : Plan) where
       → Somewhere rest
   past_check l a rest h = (_, h.2.2.2.2.2.2.4)
 
+  past_slot_check : (l a : ℕ) (rest : List Item)
+      → Stands setting [] a (item.Label l ∷ slot_address (check_pairs stack rest)) → Somewhere rest
+  past_slot_check l a rest h = (_, h.2.2.2.2.2.2.2.4)
+
   past_first : (m r a : ℕ) (rest : List Item) → Stands setting [] a (first_code m r rest) → Somewhere rest
   past_first m r a rest h = (_, h.2.2.4.2.2.2.2.2.2.4)
 
@@ -59,7 +63,7 @@ module _ (plan : Plan) where
     mores = registers_code 1 later_registers slots
 
     abbrev firsts : ℕ → List ℕ → List Item
-    firsts m rs = firsts_code stack m rs (item.Label (list_label 6) ∷ check_pairs stack (first_slot_code mores))
+    firsts m rs = firsts_code stack m rs (item.Label (list_label 6) ∷ slot_address (check_pairs stack (first_slot_code mores)))
 
     c0 : Somewhere (first_code 0 3 (firsts 1 (8 ∷ (9 ∷ (10 ∷ (6 ∷ (7 ∷ [])))))))
     c0 = past_check (list_label 0) a0 (first_code 0 3 (firsts 1 (8 ∷ (9 ∷ (10 ∷ (6 ∷ (7 ∷ []))))))) routine
@@ -98,7 +102,7 @@ module _ (plan : Plan) where
     f6 = past_first 5 7 c5.0 (firsts 6 []) c5.1
 
     c6 : Somewhere (first_slot_code mores)
-    c6 = past_check (list_label 6) f6.0 (first_slot_code mores) f6.1
+    c6 = past_slot_check (list_label 6) f6.0 (first_slot_code mores) f6.1
 
     m1 : Somewhere mores
     m1 = past_slot c6.0 mores c6.1
@@ -145,10 +149,16 @@ module _ (plan : Plan) where
     checked_register (suc (suc (suc (suc (suc zero))))) lt = checked 5 7 f5.0 (firsts 6 []) f5.1
     checked_register (suc (suc (suc (suc (suc (suc k)))))) lt = absurd (omega (arith, lt))
 
-    pub checked_slot : Checks 6
+    -- and where the address of a slot is made before
+    pub record SlotChecks : Type 0 where
+      pub code : List Item
+      pub stands : Stands setting [] (setting.place_of (list_label 6)) (slot_address (check_pairs stack code))
+      pub behind : (a : ℕ) → Stands setting [] a code → a ≡ setting.place_of (rest_label 6)
+
+    pub checked_slot : SlotChecks
     checked_slot = record {
       code = first_slot_code mores;
-      stands = subst (λ a. Stands setting [] a (check_pairs stack (first_slot_code mores))) (sym f6.1.1) f6.1.2;
+      stands = subst (λ a. Stands setting [] a (slot_address (check_pairs stack (first_slot_code mores)))) (sym f6.1.1) f6.1.2;
       behind = λ a st. sym st.1;
     }
 

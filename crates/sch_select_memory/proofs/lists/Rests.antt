@@ -16,7 +16,7 @@ use Rattle.sch_frames.specs.Meaning.{Junk, entry_places}
 use Rattle.sch_word.specs.runs.ProgramLayout.{data_address}
 use Rattle.sch_insn.specs.declared.condition.TheConstants.{B, A}
 use Rattle.sch_insn.specs.declared.insn.Arg.TheVariants as arg
-use Rattle.sch_insn.specs.declared.insn.Insn.TheVariants.{MovTo, AddTo, AddNumber, SubNumber, CmpNumber, Shl}
+use Rattle.sch_insn.specs.declared.insn.Insn.TheVariants.{MovTo, MovNumber, AddTo, SubNumber, CmpNumber, Shl}
 use Rattle.sch_insn.specs.declared.state.Flags.{Flags}
 use Rattle.sch_insn.specs.Machine.{set_register, sum_of, difference_of, condition, unknown_flags}
 use Rattle.sch_insn.proofs.Conditions.{compared_b, compared_a}
@@ -237,41 +237,42 @@ module _ (plan : Plan) (act : Activation plan) (parts : Parts) (a0 : ℕ) (behin
         let nw = narrow in let top = act.room.high in let d = left_length vs required enough in let sm = small in
         let fr = f.frame in
         let j = required - 6 in
-        let y1 : View = record y { registers = set_register y.registers 1 (y.registers 5); place = y.place + st.0 } in
-        let s = sum_of (y.registers 5) (8 * j) in
+        let q = checked_slot plan a0 behind routine in
+        let y1 : View = record y { registers = set_register y.registers 1 (8 * j); place = y.place + st.0 } in
+        let h = st.2 in
         let y2 : View = record y1
-        { registers = set_register y1.registers 1 s.value; flags = s.flags; place = y1.place + st.2.0 } in
-        let h = st.2.2 in
-        let y3 : View = record y2
-        { registers = set_register y2.registers 11 (setting.place_of n); place = y2.place + h.0 } in
-        let kept : Kept is_scratch y.registers y3.registers = kept_then is_scratch y.registers y1.registers
-        y3.registers (kept_set is_scratch y.registers 1 (y.registers 5) refl) (kept_then is_scratch y1.registers
-        y2.registers y3.registers (kept_set is_scratch y1.registers 1 s.value refl)
-        (kept_set is_scratch y2.registers 11 (setting.place_of n) refl)) in
+        { registers = set_register y1.registers 11 (setting.place_of n); place = y1.place + h.0 } in
+        let y3 : View = record y2 { place = setting.place_of (list_label 6) } in
+        let s = sum_of (8 * j) (y.registers 5) in
+        let y4 : View = record y3
+        { registers = set_register y3.registers 1 s.value; flags = s.flags; place = y3.place + q.stands.0 } in
+        let kept : Kept is_scratch y.registers y4.registers = kept_then is_scratch y.registers y1.registers
+        y4.registers (kept_set is_scratch y.registers 1 (8 * j) refl) (kept_then is_scratch y1.registers
+        y2.registers y4.registers (kept_set is_scratch y1.registers 11 (setting.place_of n) refl)
+        (kept_set is_scratch y2.registers 1 s.value refl)) in
         let same_j : 6 + j ≡ required = omega (arith, le) in
         let slot_is : s.value ≡ act.frame + 8 * j = omega (arith, fr, top, few, le, sm) in
-        let q = checked_slot plan a0 behind routine in
         record {
-          registers = y3.registers;
-          flags = y3.flags;
-          place = setting.place_of (list_label 6);
+          registers = y4.registers;
+          flags = y4.flags;
+          place = y4.place;
           least = 4;
           steps = 4;
           leads = leads_on setting.marks (leads_on setting.marks (leads_on setting.marks
-              (goes setting y y1 (MovTo (arg.Reg 1) 5) st.0 [] st.1 refl)
-              (goes setting y1 y2 (AddNumber (arg.Reg 1) (pos (8 * j))) st.2.0 [] st.2.1 refl))
-              (loads_label setting y2 11 n (item.Jump (list_label 6) ∷ (item.Label n ∷ following)) [] h))
-              (jumps setting y3 (list_label 6) (item.Label n ∷ following) [] h.4);
+              (goes setting y y1 (MovNumber (arg.Reg 1) (pos (8 * j))) st.0 [] st.1 refl)
+              (loads_label setting y1 11 n (item.Jump (list_label 6) ∷ (item.Label n ∷ following)) [] h))
+              (jumps setting y2 (list_label 6) (item.Label n ∷ following) [] h.4))
+              (goes setting y3 y4 (AddTo (arg.Reg 1) 5) q.stands.0 [] q.stands.1 refl);
           few = omega arith;
           kept = kept;
           counted = refl;
           code = q.code;
-          stands = q.stands;
+          stands = q.stands.2;
           listed = λ z same kz ahead high.
               let fz : PlacesAt plan act parts charged (entry_places self vs) (λ k. Junk) z.registers z.bytes =
               subst (PlacesAt plan act parts charged (entry_places self vs) (λ k. Junk) z.registers) (sym same)
               (places_kept plan act parts charged (entry_places self vs) (λ k. Junk) y.registers z.registers y.bytes
-              (kept_then is_scratch y.registers y3.registers z.registers kept (two_scratch y3.registers z.registers kz)) f) in
+              (kept_then is_scratch y.registers y4.registers z.registers kept (two_scratch y4.registers z.registers kz)) f) in
               let slots = subst (λ m. InSlots plan act parts z.bytes (act.frame + 8 * j) (drop m vs)) same_j
               (from_slot_on plan act parts charged self vs z.registers z.bytes many fz j) in
               subst (λ to. Listed plan act parts z a to us 12) (slot_place required le)

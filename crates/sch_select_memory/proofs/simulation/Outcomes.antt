@@ -157,7 +157,7 @@ module _ (plan : Plan) (body_steps : ℕ) where
   after act parts parts' words before events t t' x y a b c most (Some (spent w)) p low l1 l2 le s = λ few.
       goes_on_after before events t t' x y a b w p l1 (s (omega (arith, few, l2)))
 
-  -- ---- the routines, and those of the program itself
+  -- ---- the routines
 
   pub record Laid : Type 0 where
     pub routine : (k : Routine) (x : View) → x.place ≡ setting.place_of (label_of k) → Effect setting k x

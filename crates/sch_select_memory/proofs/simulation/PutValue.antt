@@ -1,4 +1,4 @@
--- The program's own routine puts what a value's piece is.
+-- The routine puts what a value's piece is.
 use Rattle.std.proofs.Common.{◌≡◌, ℕ, zero, suc, ◌+◌, ◌-◌, ◌*◌, ◌/◌, ◌%◌, ◌^◌, ◌<◌, ◌≤◌, List, [], ◌∷◌, ◌++◌, length}
 use Rattle.std.proofs.Common.{take, drop, Bool, true, false, Option, Some, None, refl, sym, ap, ◌∙◌, subst, arith}
 use Rattle.std.proofs.Common.{inl, inr, ◌==◌, eq-eqb, length-take, length-drop, append_assoc}
@@ -208,7 +208,7 @@ module _ (plan : Plan) (routines : (k : Routine) (x : View) → x.place ≡ plan
     true_put : (flags : Flags) (a : ℕ) → x.registers 0 ≡ 134 → Std [] a texts_code
         → Puts setting (At flags a) 40 (codes "#t")
     true_put flags a is h = puts_within (At flags a) 25 40 (codes "#t") (omega arith)
-        (first_text 134 texts_address 2 1026 (codes "#t") (At flags a) false_code is (omega arith) h
+        (first_text 134 texts_address 2 75 (codes "#t") (At flags a) false_code is (omega arith) h
         (ready_at flags a) (omega arith) refl (there 256 (codes "#t") (drop 258 (static_bytes ++ more)) (omega arith)
         refl))
 
@@ -216,36 +216,36 @@ module _ (plan : Plan) (routines : (k : Routine) (x : View) → x.place ≡ plan
         → Puts setting (At flags a) 40 (codes "#f")
     false_put flags a is h =
         puts_within (At flags a) 27 40 (codes "#f") (omega arith)
-        (other_text 134 texts_address 2 1026 25 (codes "#f") (At flags a) false_code
+        (other_text 134 texts_address 2 75 25 (codes "#f") (At flags a) false_code
         (ne_eqb _ _ (λ e. omega (arith, is, e))) (omega (arith, is)) (omega arith) h (λ flags h.
-        first_text 6 (texts_address + 2) 2 1027 (codes "#f") (At flags (place_of 1026)) nil_code is (omega arith) h
-        (ready_at flags (place_of 1026)) (omega arith) refl
+        first_text 6 (texts_address + 2) 2 76 (codes "#f") (At flags (place_of 75)) nil_code is (omega arith) h
+        (ready_at flags (place_of 75)) (omega arith) refl
         (there 258 (codes "#f") (drop 260 (static_bytes ++ more)) (omega arith) refl)))
 
     nil_put : (flags : Flags) (a : ℕ) → x.registers 0 ≡ 22 → Std [] a texts_code
         → Puts setting (At flags a) 40 (codes "()")
     nil_put flags a is h =
         puts_within (At flags a) 29 40 (codes "()") (omega arith)
-        (other_text 134 texts_address 2 1026 27 (codes "()") (At flags a) false_code
+        (other_text 134 texts_address 2 75 27 (codes "()") (At flags a) false_code
         (ne_eqb _ _ (λ e. omega (arith, is, e))) (omega (arith, is)) (omega arith) h (λ flags h.
-        other_text 6 (texts_address + 2) 2 1027 25 (codes "()") (At flags (place_of 1026)) nil_code
+        other_text 6 (texts_address + 2) 2 76 25 (codes "()") (At flags (place_of 75)) nil_code
         (ne_eqb _ _ (λ e. omega (arith, is, e))) (omega (arith, is)) (omega arith) h (λ flags h.
-        first_text 22 (texts_address + 4) 2 1028 (codes "()") (At flags (place_of 1027)) unspecified_code is
-        (omega arith) h (ready_at flags (place_of 1027)) (omega arith) refl
+        first_text 22 (texts_address + 4) 2 77 (codes "()") (At flags (place_of 76)) unspecified_code is
+        (omega arith) h (ready_at flags (place_of 76)) (omega arith) refl
         (there 260 (codes "()") (drop 262 (static_bytes ++ more)) (omega arith) refl))))
 
     unspecified_put : (flags : Flags) (a : ℕ) → x.registers 0 ≡ 30 → Std [] a texts_code
         → Puts setting (At flags a) 40 (codes "#<unspecified>")
     unspecified_put flags a is h =
         puts_within (At flags a) 29 40 (codes "#<unspecified>") (omega arith)
-        (other_text 134 texts_address 2 1026 27 (codes "#<unspecified>") (At flags a) false_code
+        (other_text 134 texts_address 2 75 27 (codes "#<unspecified>") (At flags a) false_code
         (ne_eqb _ _ (λ e. omega (arith, is, e))) (omega (arith, is)) (omega arith) h (λ flags h.
-        other_text 6 (texts_address + 2) 2 1027 25 (codes "#<unspecified>") (At flags (place_of 1026)) nil_code
+        other_text 6 (texts_address + 2) 2 76 25 (codes "#<unspecified>") (At flags (place_of 75)) nil_code
         (ne_eqb _ _ (λ e. omega (arith, is, e))) (omega (arith, is)) (omega arith) h (λ flags h.
-        other_text 22 (texts_address + 4) 2 1028 23 (codes "#<unspecified>") (At flags (place_of 1027))
+        other_text 22 (texts_address + 4) 2 77 23 (codes "#<unspecified>") (At flags (place_of 76))
         unspecified_code (ne_eqb _ _ (λ e. omega (arith, is, e))) (omega (arith, is)) (omega arith) h (λ flags h.
-        text_put (texts_address + 6) 14 (codes "#<unspecified>") (At flags (place_of 1028))
-        (Label 1029 ∷ procedure_put) h (ready_at flags (place_of 1028)) (omega arith) refl
+        text_put (texts_address + 6) 14 (codes "#<unspecified>") (At flags (place_of 77))
+        (Label 78 ∷ procedure_put) h (ready_at flags (place_of 77)) (omega arith) refl
         (there 262 (codes "#<unspecified>") (drop 276 (static_bytes ++ more)) (omega arith) refl)))))
 
     -- ---- a character
@@ -333,8 +333,8 @@ module _ (plan : Plan) (routines : (k : Routine) (x : View) → x.place ≡ plan
 
     string_here : (n : ℕ) (text : List ℕ) (registers : ℕ → ℕ) (flags : Flags)
         → slice_get s.store.objects n ≡ Some (string text) → Names parts (a_string n) 3 (registers 0)
-        → registers 11 ≡ x.registers 11 → Std [] (place_of 1030) objects_put
-        → Puts setting (moved_to x registers flags (place_of 1030)) 24 text
+        → registers 11 ≡ x.registers 11 → Std [] (place_of 79) objects_put
+        → Puts setting (moved_to x registers flags (place_of 79)) 24 text
     string_here n text registers flags is name eleven h =
         let q : StringAt parts x.bytes n text = g.contents.object n (string text) is in
         let e : Some name.at ≡ Some q.at = sym name.there ∙ q.there in
@@ -346,13 +346,13 @@ module _ (plan : Plan) (routines : (k : Routine) (x : View) → x.place ≡ plan
         let a = 16 * q.at.unit in
         let inside : Inside (length x.bytes) a = record
         { low = omega (arith, lo, b, cl); high = omega (arith, hi, room, z, i, long, top) } in
-        let y = moved_to x registers flags (place_of 1030) in
+        let y = moved_to x registers flags (place_of 79) in
         let k = word_in x.bytes a in
-        let u = moved_to x (set_register registers 2 k) flags (place_of 1030 + h.0) in
+        let u = moved_to x (set_register registers 2 k) flags (place_of 79 + h.0) in
         puts_after y u.registers u.flags u.place 1 1 23 24 text
         (loads_word setting y 2 h.0 a string_length [] h.1 (omega (arith, v, hi, z, i, near)) inside)
         (kept_set is_scratch registers 2 k refl) refl (omega arith)
-        (bytes_here text u.registers flags u.place 5 (text_address q.at.unit) (Label 1031 ∷ symbol_put []) q.size
+        (bytes_here text u.registers flags u.place 5 (text_address q.at.unit) (Label 80 ∷ symbol_put []) q.size
         (omega (arith, v)) eleven (omega (arith, lo, b, cl))
         (piece_at x.bytes (text_address q.at.unit) text q.text_is (omega (arith, lo, b, cl))
         (omega (arith, hi, room, z, i, long, top))) h.2)
@@ -360,12 +360,12 @@ module _ (plan : Plan) (routines : (k : Routine) (x : View) → x.place ≡ plan
     -- ---- a symbol
 
     symbol_here : (n : ℕ) (registers : ℕ → ℕ) (flags : Flags) (q : SymbolAt plan s x.bytes n)
-        → registers 0 ≡ 8 * n + 5 → registers 11 ≡ x.registers 11 → Std [] (place_of 1031) (symbol_put [])
-        → Puts setting (moved_to x registers flags (place_of 1031)) 27 q.name
+        → registers 0 ≡ 8 * n + 5 → registers 11 ≡ x.registers 11 → Std [] (place_of 80) (symbol_put [])
+        → Puts setting (moved_to x registers flags (place_of 80)) 27 q.name
     symbol_here n registers flags q v eleven h =
-        let y = moved_to x registers flags (place_of 1031) in
+        let y = moved_to x registers flags (place_of 80) in
         let first = word_in x.bytes table_address in
-        let y1 = moved_to x (set_register registers 2 first) flags (place_of 1031 + h.0) in
+        let y1 = moved_to x (set_register registers 2 first) flags (place_of 80 + h.0) in
         let c = sum_of (registers 0) first in
         let y2 = moved_to x (set_register y1.registers 0 c.value) c.flags (y1.place + h.4.0) in
         let entry = first_name plan + 8 * n in
@@ -439,13 +439,13 @@ module _ (plan : Plan) (routines : (k : Routine) (x : View) → x.place ≡ plan
       same : registers 0 ≡ x.registers 0
       eleven : registers 11 ≡ x.registers 11
       is_character : (b : Bool) → (x.registers 0 % 256 == 46) ≡ b → condition flags NE ≡ Some (not b)
-      ahead : Std [] place (JumpIf NE 1025 ∷ character_put (Label 1025 ∷ texts_code))
+      ahead : Std [] place (JumpIf NE 74 ∷ character_put (Label 74 ∷ texts_code))
 
     compared_here : (registers : ℕ → ℕ) → Kept is_scratch x.registers registers → registers 0 ≡ x.registers 0
         → registers 11 ≡ x.registers 11 → Reached registers 15 immediate_put → Compared
     compared_here registers kept same eleven r =
-        let code : List Item = Plain (CmpNumber (Reg 2) (pos 46)) ∷ (JumpIf NE 1025 ∷ character_put
-        (Label 1025 ∷ texts_code)) in
+        let code : List Item = Plain (CmpNumber (Reg 2) (pos 46)) ∷ (JumpIf NE 74 ∷ character_put
+        (Label 74 ∷ texts_code)) in
         let z = moved_to x registers r.flags r.place in
         let k = masked setting z 0 255 256 [] code by_255 r.ahead in
         let u = tagged setting z 0 k.tag (bits_of k.tag).flags k.place in
@@ -476,10 +476,10 @@ module _ (plan : Plan) (routines : (k : Routine) (x : View) → x.place ≡ plan
     puts_value v hv h = by v hv
       where
         symbol_code : List Item
-        symbol_code = where_tag 5 1031 immediate_put
+        symbol_code = where_tag 5 80 immediate_put
 
         string_code : List Item
-        string_code = where_tag 3 1030 symbol_code
+        string_code = where_tag 3 79 symbol_code
 
         vector_code : List Item
         vector_code = where_tag 2 (stop_label WrongType) string_code
@@ -491,7 +491,7 @@ module _ (plan : Plan) (routines : (k : Routine) (x : View) → x.place ≡ plan
         cell_code = where_tag 7 (stop_label WrongType) pair_code
 
         procedure_code : List Item
-        procedure_code = where_tag 4 1029 cell_code
+        procedure_code = where_tag 4 78 cell_code
 
         m : Masked setting x 0 8 [] (JumpIf E (label_of routine.PutFixnum) ∷ procedure_code)
         m = masked setting x 0 7 8 [] (JumpIf E (label_of routine.PutFixnum) ∷ procedure_code) by_7 h
@@ -526,8 +526,8 @@ module _ (plan : Plan) (routines : (k : Routine) (x : View) → x.place ≡ plan
           ahead = m.ahead.4;
         }
 
-        procedure_test : (m.tag == 0) ≡ false → Tried y.registers 3 m.tag 4 1029 cell_code
-        procedure_test e = tried y.registers 3 m.tag 4 1029 cell_code refl small (omega arith) (past_fixnum e)
+        procedure_test : (m.tag == 0) ≡ false → Tried y.registers 3 m.tag 4 78 cell_code
+        procedure_test e = tried y.registers 3 m.tag 4 78 cell_code refl small (omega arith) (past_fixnum e)
 
         cell_test : (k : ℕ) → m.tag ≡ k → (k == 0) ≡ false → (k == 4) ≡ false
             → Tried y.registers 5 m.tag 7 (stop_label WrongType) pair_code
@@ -545,33 +545,33 @@ module _ (plan : Plan) (routines : (k : Routine) (x : View) → x.place ≡ plan
             (omega arith) ((pair_test k i a b c).passed (other k i 1 false d))
 
         string_test : (k : ℕ) → m.tag ≡ k → (k == 0) ≡ false → (k == 4) ≡ false → (k == 7) ≡ false
-            → (k == 1) ≡ false → (k == 2) ≡ false → Tried y.registers 11 m.tag 3 1030 symbol_code
-        string_test k i a b c d e = tried y.registers 11 m.tag 3 1030 symbol_code refl small (omega arith)
+            → (k == 1) ≡ false → (k == 2) ≡ false → Tried y.registers 11 m.tag 3 79 symbol_code
+        string_test k i a b c d e = tried y.registers 11 m.tag 3 79 symbol_code refl small (omega arith)
             ((vector_test k i a b c d).passed (other k i 2 false e))
 
         symbol_test : (k : ℕ) → m.tag ≡ k → (k == 0) ≡ false → (k == 4) ≡ false → (k == 7) ≡ false
-            → (k == 1) ≡ false → (k == 2) ≡ false → (k == 3) ≡ false → Tried y.registers 13 m.tag 5 1031 immediate_put
-        symbol_test k i a b c d e f = tried y.registers 13 m.tag 5 1031 immediate_put refl small (omega arith)
+            → (k == 1) ≡ false → (k == 2) ≡ false → (k == 3) ≡ false → Tried y.registers 13 m.tag 5 80 immediate_put
+        symbol_test k i a b c d e f = tried y.registers 13 m.tag 5 80 immediate_put refl small (omega arith)
             ((string_test k i a b c d e).passed (other k i 3 false f))
 
         -- where the texts are, and what stands behind them
-        texts_stand : Std [] (place_of 1025) texts_code
+        texts_stand : Std [] (place_of 74) texts_code
         texts_stand =
-            let a = behind_tag 5 1031 immediate_put (behind_tag 3 1030 symbol_code
+            let a = behind_tag 5 80 immediate_put (behind_tag 3 79 symbol_code
             (behind_tag 2 (stop_label WrongType) string_code (behind_tag 1 (stop_label WrongType) vector_code
-            (behind_tag 7 (stop_label WrongType) pair_code (behind_tag 4 1029 cell_code
+            (behind_tag 7 (stop_label WrongType) pair_code (behind_tag 4 78 cell_code
             (m.place + m.ahead.0, m.ahead.4)))))) in
             subst (λ a. Std [] a texts_code) (sym a.1.2.2.2.4.2.2.2.4.1) a.1.2.2.2.4.2.2.2.4.2
 
-        procedure_stands : Std [] (place_of 1029) procedure_put
+        procedure_stands : Std [] (place_of 78) procedure_put
         procedure_stands = subst (λ a. Std [] a procedure_put)
             (sym texts_stand.2.4.2.2.4.2.2.4.2.2.4.2.2.4.2.2.4.2.2.2.4.1)
             texts_stand.2.4.2.2.4.2.2.4.2.2.4.2.2.4.2.2.4.2.2.2.4.2
 
-        string_stands : Std [] (place_of 1030) objects_put
+        string_stands : Std [] (place_of 79) objects_put
         string_stands = subst (λ a. Std [] a objects_put) (sym procedure_stands.2.2.4.1) procedure_stands.2.2.4.2
 
-        symbol_stands : Std [] (place_of 1031) (symbol_put [])
+        symbol_stands : Std [] (place_of 80) (symbol_put [])
         symbol_stands = subst (λ a. Std [] a (symbol_put [])) (sym string_stands.2.2.2.4.1) string_stands.2.2.2.4.2
 
         -- ---- what is no fixnum, no procedure, no cell, no object and no symbol
@@ -581,7 +581,7 @@ module _ (plan : Plan) (routines : (k : Routine) (x : View) → x.place ≡ plan
             ((symbol_test 6 is refl refl refl refl refl refl).passed (other 6 is 5 false refl))
 
         far : Compared → View
-        far c = moved_to x c.registers c.flags (place_of 1025)
+        far c = moved_to x c.registers c.flags (place_of 74)
 
         far_ready : (c : Compared) → IsReady (far c)
         far_ready c = record {
@@ -592,9 +592,9 @@ module _ (plan : Plan) (routines : (k : Routine) (x : View) → x.place ≡ plan
 
         texts_at : (text : List ℕ) (c : Compared) → (x.registers 0 % 256 == 46) ≡ false → Puts setting (far c) 40 text
             → Puts setting x 200 text
-        texts_at text c f s = puts_after x c.registers c.flags (place_of 1025) 19 19 40 200 text
-            (leads_on setting.marks c.leads (branches setting (moved_to x c.registers c.flags c.place) NE 1025
-            (character_put (Label 1025 ∷ texts_code)) [] true c.ahead (c.is_character false f))) c.kept c.eleven
+        texts_at text c f s = puts_after x c.registers c.flags (place_of 74) 19 19 40 200 text
+            (leads_on setting.marks c.leads (branches setting (moved_to x c.registers c.flags c.place) NE 74
+            (character_put (Label 74 ∷ texts_code)) [] true c.ahead (c.is_character false f))) c.kept c.eleven
             (omega arith) s
 
         -- ---- what has no piece
@@ -625,7 +625,7 @@ module _ (plan : Plan) (routines : (k : Routine) (x : View) → x.place ≡ plan
         strings n name is None e i = absurd (let bad : false ≡ true = i in cc)
         strings n name is (Some (string text)) e i =
             let t = string_test 3 is refl refl refl refl refl in
-            puts_after x y.registers t.flags (place_of 1030) 13 13 24 200 text (t.taken (other 3 is 3 true refl)) kept
+            puts_after x y.registers t.flags (place_of 79) 13 13 24 200 text (t.taken (other 3 is 3 true refl)) kept
             refl (omega arith) (string_here n text y.registers t.flags e name refl string_stands)
 
         heap_top : plan.heap ≤ 0x10000000 + size
@@ -642,33 +642,33 @@ module _ (plan : Plan) (routines : (k : Routine) (x : View) → x.place ≡ plan
         by (character byte) hv =
             let c = immediate (has (character byte) hv) in
             puts_after x c.registers c.flags (c.place + c.ahead.0) 19 19 24 200 (byte ∷ [])
-            (leads_on setting.marks c.leads (branches setting (moved_to x c.registers c.flags c.place) NE 1025
-            (character_put (Label 1025 ∷ texts_code)) [] false c.ahead
+            (leads_on setting.marks c.leads (branches setting (moved_to x c.registers c.flags c.place) NE 74
+            (character_put (Label 74 ∷ texts_code)) [] false c.ahead
             (c.is_character true (character_tested parts (character byte) _ hv)))) c.kept c.eleven (omega arith)
-            (character_here x ready static byte c.registers c.flags (c.place + c.ahead.0) (Label 1025 ∷ texts_code)
+            (character_here x ready static byte c.registers c.flags (c.place + c.ahead.0) (Label 74 ∷ texts_code)
             (c.same ∙ hv.0) hv.1 c.eleven c.ahead.4)
         by (boolean true) hv =
             let c = immediate (has (boolean true) hv) in
             texts_at (codes "#t") c (character_tested parts (boolean true) _ hv)
-            (true_put (far c) (far_ready c) static c.flags (place_of 1025) (c.same ∙ hv) texts_stand)
+            (true_put (far c) (far_ready c) static c.flags (place_of 74) (c.same ∙ hv) texts_stand)
         by (boolean false) hv =
             let c = immediate (has (boolean false) hv) in
             texts_at (codes "#f") c (character_tested parts (boolean false) _ hv)
-            (false_put (far c) (far_ready c) static c.flags (place_of 1025) (c.same ∙ hv) texts_stand)
+            (false_put (far c) (far_ready c) static c.flags (place_of 74) (c.same ∙ hv) texts_stand)
         by nil hv =
             let c = immediate (has nil hv) in
             texts_at (codes "()") c (character_tested parts nil _ hv)
-            (nil_put (far c) (far_ready c) static c.flags (place_of 1025) (c.same ∙ hv) texts_stand)
+            (nil_put (far c) (far_ready c) static c.flags (place_of 74) (c.same ∙ hv) texts_stand)
         by unspecified hv =
             let c = immediate (has unspecified hv) in
             texts_at (codes "#<unspecified>") c (character_tested parts unspecified _ hv)
-            (unspecified_put (far c) (far_ready c) static c.flags (place_of 1025) (c.same ∙ hv) texts_stand)
+            (unspecified_put (far c) (far_ready c) static c.flags (place_of 74) (c.same ∙ hv) texts_stand)
         by (symbol n) hv =
             let is = has (symbol n) hv in
             let t = symbol_test 5 is refl refl refl refl refl refl in
             let q = symbol_at plan parts s x.bytes x.output x.answers n (x.registers 0) heap_top g hv in
             subst (PutsPiece x) (sym q.is)
-            (puts_after x y.registers t.flags (place_of 1031) 15 15 27 200 q.name (t.taken (other 5 is 5 true refl))
+            (puts_after x y.registers t.flags (place_of 80) 15 15 27 200 q.name (t.taken (other 5 is 5 true refl))
             kept refl (omega arith) (symbol_here n y.registers t.flags q hv.0 refl symbol_stands))
         by (object n) (inl name) =
             let is = has (object n) (inl name) in
@@ -685,10 +685,10 @@ module _ (plan : Plan) (routines : (k : Routine) (x : View) → x.place ≡ plan
         by (procedure n) hv =
             let is = has (procedure n) hv in
             let t = procedure_test (other 4 is 0 false refl) in
-            let o : View = moved_to x y.registers t.flags (place_of 1029) in
-            puts_after x y.registers t.flags (place_of 1029) 5 5 23 200 (codes "#<procedure>")
+            let o : View = moved_to x y.registers t.flags (place_of 78) in
+            puts_after x y.registers t.flags (place_of 78) 5 5 23 200 (codes "#<procedure>")
             (t.taken (other 4 is 4 true refl)) kept refl (omega arith)
-            (text_put (texts_address + 20) 12 (codes "#<procedure>") o (Label 1030 ∷ objects_put) procedure_stands
+            (text_put (texts_address + 20) 12 (codes "#<procedure>") o (Label 79 ∷ objects_put) procedure_stands
             (record { own_words = ready.own_words; within = ready.within; back = ready.back }) (omega arith) refl
             (text_there x.bytes 276 (codes "#<procedure>") (drop 288 (static_bytes ++ drop 288 (drop 512 x.bytes)))
             static (omega arith) refl))

@@ -17,7 +17,8 @@ use Rattle.sch_word.specs.runs.Computation.{Action, gives, stops, with_rest, in_
 use Rattle.sch_control.specs.declared.operation.Atom.{Atom}
 use Rattle.sch_control.specs.declared.operation.Operand.{Operand}
 use Rattle.sch_control.specs.declared.operation.Operand.TheVariants as operand
-use Rattle.sch_control.specs.Operations.{given, atom_value, atom_values, read, operand_value, and_value, with_some}
+use Rattle.sch_control.specs.Operations.{given, atom_value, atom_values, read, operand_value, and_value}
+use Rattle.sch_word.specs.values.Options.{when_some}
 use Rattle.sch_control.specs.Meaning.{World, Result, on_ending, on_outcome}
 use Rattle.sch_control.specs.Valid.{only_reads}
 use Rattle.sch_frames.specs.Meaning.{Frame, held}
@@ -134,7 +135,7 @@ module _ (plan : Plan) (body_steps : ℕ) (laid : Laid plan body_steps) (act : A
 
     abbrev Does : Primitive → Option (List Value) → Type 0
     Does which o = Owed parts before w x (250 + c)
-        (on_ending w.marks (with_some o (λ vs. Some (in_store (primitive which vs) w.state))) Next)
+        (on_ending w.marks (when_some o (λ vs. Some (in_store (primitive which vs) w.state))) Next)
 
     none_first : (which : Primitive) (u v : Option Value) → Does which (and_value None (and_value u (and_value v (Some []))))
     none_first which None None = tt

@@ -12,7 +12,8 @@ use Rattle.sch_word.specs.runs.Computation.{Outcome, gives, stops, State, on_val
 use Rattle.sch_control.specs.declared.operation.Operand.{Operand}
 use Rattle.sch_control.specs.declared.operation.Operation.TheVariants as operation
 use Rattle.sch_control.specs.declared.operation.Source.{Source}
-use Rattle.sch_control.specs.Operations.{Procedure, operate, operand_value, source_value, with_some, new_cell, with_cell}
+use Rattle.sch_control.specs.Operations.{Procedure, operate, operand_value, source_value, new_cell, with_cell}
+use Rattle.sch_word.specs.values.Options.{when_some}
 use Rattle.sch_control.specs.Meaning.{World, Result, on_ending, on_outcome}
 use Rattle.sch_frames.specs.Meaning.{Frame, Is, held}
 use Rattle.sch_insn.specs.declared.condition.TheConstants.{E, NE}
@@ -278,7 +279,7 @@ module _ (plan : Plan) (body_steps : ℕ) (laid : Laid plan body_steps) (act : A
         code = check_heap stack 16 (item.Plain (MovTo (part_operand 0) 0) ∷ part_code 7 16 rest)
 
         by : (o : Option Value) → Found 0 x waiting code o → Owed parts before w x (250 + c)
-            (on_ending w.marks (with_some o (λ v. Some (new_cell (Some v) w.state))) After)
+            (on_ending w.marks (when_some o (λ v. Some (new_cell (Some v) w.state))) After)
         by None s = tt
         by (Some v) s =
             let y = moved_to x s.registers x.flags s.place in
@@ -342,13 +343,13 @@ module _ (plan : Plan) (body_steps : ℕ) (laid : Laid plan body_steps) (act : A
     -- a field of a closure
     pub field_sim : (n : ℕ) (q : Source Place) → source_selected words globals (length symbols) literals q ≡ true
         → Here waiting x.place (source_code 0 q rest) → Owed parts before w x (250 + c)
-        (on_ending w.marks (with_some (source_value (held f) w.state q) (λ u. Some (gives u w.state))) After)
+        (on_ending w.marks (when_some (source_value (held f) w.state q) (λ u. Some (gives u w.state))) After)
     field_sim n q e h = by (source_value (held f) w.state q)
         (source_here plan act parts parts (λ o at e. e) 0 q w.state.store.charged f w.state x waiting rest
         (omega arith) e p g h)
       where
         by : (o : Option Value) → Found 0 x waiting rest o → Owed parts before w x (250 + c)
-            (on_ending w.marks (with_some o (λ u. Some (gives u w.state))) After)
+            (on_ending w.marks (when_some o (λ u. Some (gives u w.state))) After)
         by None s = tt
         by (Some v) s =
             let y = moved_to x s.registers x.flags s.place in
@@ -551,7 +552,7 @@ module _ (plan : Plan) (body_steps : ℕ) (laid : Laid plan body_steps) (act : A
                     marked))
 
         by : (o : Option Value) → Found 0 x waiting code o → Owed parts before w x (250 + c)
-            (on_ending w.marks (with_some o (λ v. Some (with_cell v read_cell w.state))) After)
+            (on_ending w.marks (when_some o (λ v. Some (with_cell v read_cell w.state))) After)
         by None s = tt
         by (Some v) s = tested_as v s.value (cell_checked 0 v y [] read s.value s.ahead)
           where
@@ -600,7 +601,7 @@ module _ (plan : Plan) (body_steps : ℕ) (laid : Laid plan body_steps) (act : A
 
         set : Option Value → Option Value → Result
         set a b = on_ending w.marks
-            (with_some a (λ v. with_some b (λ u. Some (with_cell v (λ n. write_cell n u) w.state)))) After
+            (when_some a (λ v. when_some b (λ u. Some (with_cell v (λ n. write_cell n u) w.state)))) After
 
         none : (a : Option Value) → Owed parts before w x (250 + c) (set a None)
         none None = tt

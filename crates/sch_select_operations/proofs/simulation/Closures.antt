@@ -22,7 +22,8 @@ use Rattle.sch_control.specs.declared.operation.Operation.TheVariants as operati
 use Rattle.sch_control.specs.declared.operation.Atom.TheVariants.{Constant, Literal, Variable}
 use Rattle.sch_control.specs.declared.operation.Source.{Source}
 use Rattle.sch_control.specs.declared.operation.Source.TheVariants as source
-use Rattle.sch_control.specs.Operations.{Procedure, operate, and_value, source_value, source_values, with_some}
+use Rattle.sch_control.specs.Operations.{Procedure, operate, and_value, source_value, source_values}
+use Rattle.sch_word.specs.values.Options.{when_some}
 use Rattle.sch_control.specs.Operations.{close, member_bytes, members_made, with_procedures}
 use Rattle.sch_control.specs.Meaning.{World, Result, on_ending, on_outcome, with_value}
 use Rattle.sch_frames.specs.Meaning.{Frame, Is, held, is_slot, with_place, with_members}
@@ -169,10 +170,10 @@ same_members : (at : Place → Option Value) (s : State Procedure) (c : ℕ) (me
     → members_made at (record s { store = record s.store { charged = c } }) members ≡ members_made at s members
 same_members at s c [] = refl
 same_members at s c (m ∷ members) =
-    ap (λ o. and_value (with_some o (λ vs. Some (record { label = m.closure.label; fields = vs })))
+    ap (λ o. and_value (when_some o (λ vs. Some (record { label = m.closure.label; fields = vs })))
     (members_made at (record s { store = record s.store { charged = c } }) members))
     (same_sources at s c m.closure.fields)
-    ∙ ap (and_value (with_some (source_values at s m.closure.fields)
+    ∙ ap (and_value (when_some (source_values at s m.closure.fields)
     (λ vs. Some (record { label = m.closure.label; fields = vs })))) (same_members at s c members)
 
 -- the accumulator stays
@@ -186,7 +187,7 @@ made_count : (at : Place → Option Value) (s : State Procedure) (members : List
     → members_made at s members ≡ Some made → length made ≡ length members
 made_count at s [] made e = let f : Some [] ≡ Some made = e in let is : [] ≡ made = cc in ap length (sym is)
 made_count at s (m ∷ members) made e =
-    let b = both_there (with_some (source_values at s m.closure.fields)
+    let b = both_there (when_some (source_values at s m.closure.fields)
     (λ vs. Some (record { label = m.closure.label; fields = vs }))) (members_made at s members) made e in
     let h = made_count at s members b.1 b.3 in
     ap length b.4 ∙ ap suc h
@@ -384,7 +385,7 @@ module _ (plan : Plan) (body_steps : ℕ) (laid : Laid plan body_steps) (act : A
 
         by : (o : Option (List Value)) → source_values (held f) w.state q.fields ≡ o
             → Owed parts before w x (250 + 3 * length q.fields + c)
-            (on_ending w.marks (with_some o (λ vs. Some (close q.label vs w.state))) After)
+            (on_ending w.marks (when_some o (λ vs. Some (close q.label vs w.state))) After)
         by None v = tt
         by (Some vs) v = subst (λ n. Owed parts before w x (250 + 3 * length q.fields + c)
             (on_outcome w.marks (on_value (with_rest w.state.cells w.state.procedures (charge (procedure_bytes n) t))

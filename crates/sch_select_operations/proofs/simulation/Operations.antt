@@ -15,7 +15,8 @@ use Rattle.sch_word.specs.runs.Computation.{Outcome, gives, stops, spent, read_g
 use Rattle.sch_word.specs.values.PrimitiveRows.{piece, primitive, put_piece}
 use Rattle.sch_control.specs.declared.operation.Operand.{Operand}
 use Rattle.sch_control.specs.declared.operation.Operation.TheVariants as operation
-use Rattle.sch_control.specs.Operations.{operate, operand_value, with_some}
+use Rattle.sch_control.specs.Operations.{operate, operand_value}
+use Rattle.sch_word.specs.values.Options.{when_some}
 use Rattle.sch_control.specs.Meaning.{World, Result, on_ending, on_outcome}
 use Rattle.sch_frames.specs.Meaning.{Frame, Is, held}
 use Rattle.sch_insn.specs.declared.condition.TheConstants.{E}
@@ -158,7 +159,7 @@ module _ (plan : Plan) (body_steps : ℕ) (laid : Laid plan body_steps) (act : A
         (operand_here plan act parts n o w.state.store.charged f w.state x waiting rest e p g h)
       where
         by : (v : Option Value) → Reads plan act parts x waiting 32 rest v
-            → SimOf parts before w x (250 + c) (on_ending w.marks (with_some v (λ v. Some (gives v w.state)))
+            → SimOf parts before w x (250 + c) (on_ending w.marks (when_some v (λ v. Some (gives v w.state)))
             (next_of k f))
         by None s = tt
         by (Some v) s = comes_sim 32 (gives v w.state.store) (omega arith)
@@ -233,7 +234,7 @@ module _ (plan : Plan) (body_steps : ℕ) (laid : Laid plan body_steps) (act : A
 
         by : (v : Option Value) → Reads plan act parts x waiting 32 behind v
             → SimOf parts before w x (250 + c) (on_ending w.marks
-            (with_some v (λ v. Some (gives unspecified (record w.state
+            (when_some v (λ v. Some (gives unspecified (record w.state
             { store = record w.state.store { globals = slice_set w.state.store.globals i (Some v) } })))) (next_of k f))
         by None s = tt
         by (Some v) s =

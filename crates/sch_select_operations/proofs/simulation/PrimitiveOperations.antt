@@ -9,7 +9,8 @@ use Rattle.sch_word.specs.runs.Store.{Store}
 use Rattle.sch_word.specs.runs.Computation.{with_rest, in_store}
 use Rattle.sch_word.specs.values.PrimitiveRows.{primitive}
 use Rattle.sch_control.specs.declared.operation.Operand.{Operand}
-use Rattle.sch_control.specs.Operations.{operand_value, and_value, with_some}
+use Rattle.sch_control.specs.Operations.{operand_value, and_value}
+use Rattle.sch_word.specs.values.Options.{when_some}
 use Rattle.sch_control.specs.Meaning.{World, Result, on_ending, on_outcome}
 use Rattle.sch_frames.specs.Meaning.{Frame, held}
 use Rattle.sch_insn.proofs.Paths.{leads_on}
@@ -72,7 +73,7 @@ module _ (plan : Plan) (body_steps : ℕ) (laid : Laid plan body_steps) (act : A
     -- and one of operands
     abbrev Does : Primitive → Option (List Value) → Type 0
     Does which o = Owed parts before w x (250 + c)
-        (on_ending w.marks (with_some o (λ vs. Some (in_store (primitive which vs) w.state))) Next)
+        (on_ending w.marks (when_some o (λ vs. Some (in_store (primitive which vs) w.state))) Next)
 
     -- one that leaves the store alone, after some steps
     left_alone : (which : Primitive) (vs : List Value) (y : View) (least steps most : ℕ) → steps + most ≤ 100

@@ -11,7 +11,8 @@ use Rattle.sch_word.specs.runs.Computation.{State}
 use Rattle.sch_control.specs.declared.operation.Closure.{Closure}
 use Rattle.sch_control.specs.declared.operation.Member.{Member}
 use Rattle.sch_control.specs.declared.operation.Source.{Source}
-use Rattle.sch_control.specs.Operations.{Procedure, and_value, source_value, source_values, with_some, members_made}
+use Rattle.sch_control.specs.Operations.{Procedure, and_value, source_value, source_values, members_made}
+use Rattle.sch_word.specs.values.Options.{when_some}
 use Rattle.sch_frames.specs.Meaning.{Frame, held}
 use Rattle.sch_frames.specs.Valid.{is_place}
 use Rattle.sch_insn.specs.declared.insn.Arg.TheVariants.{Base32}
@@ -397,12 +398,12 @@ module _ (plan : Plan) (act : Activation plan) (old parts : Parts) (stay : Stay 
     values : source_values (held f) s m.closure.fields ≡ Some vs
     is : record { label = m.closure.label; fields = vs } ≡ p
 
-  member_made : (m : Member Place) (p : Procedure) → with_some (source_values (held f) s m.closure.fields)
+  member_made : (m : Member Place) (p : Procedure) → when_some (source_values (held f) s m.closure.fields)
       (λ vs. Some (record { label = m.closure.label; fields = vs })) ≡ Some p → IsMade m p
   member_made m p e = by (source_values (held f) s m.closure.fields) refl e
     where
       by : (o : Option (List Value)) → source_values (held f) s m.closure.fields ≡ o
-          → with_some o (λ vs. Some (record { label = m.closure.label; fields = vs })) ≡ Some p → IsMade m p
+          → when_some o (λ vs. Some (record { label = m.closure.label; fields = vs })) ≡ Some p → IsMade m p
       by None v e = absurd (let bad : None ≡ Some p = e in cc)
       by (Some vs) v e = let g : Some (record { label = m.closure.label; fields = vs }) ≡ Some p = e in record
           { vs = vs; values = v; is = cc }
@@ -432,7 +433,7 @@ module _ (plan : Plan) (act : Activation plan) (old parts : Parts) (stay : Stay 
         ahead = h;
       })
   records_made o n (m ∷ members) made x following e v spots le p g h =
-      let b = both_there (with_some (source_values (held f) s m.closure.fields)
+      let b = both_there (when_some (source_values (held f) s m.closure.fields)
       (λ vs. Some (record { label = m.closure.label; fields = vs }))) (members_made (held f) s members) made v in
       let own = member_made m b.0 b.2 in
       let checks = and_parts (is_place words m.at) (closure_selected words globals

@@ -1,6 +1,6 @@
 -- Conjunctions and disjunctions, and what their parts are.
-use Rattle.std.specs.Prelude.{◌≡◌, Bool, true, false, ◌&&◌, ◌||◌, not, IsTrue}
-use Rattle.std.proofs.Common.{refl}
+use Rattle.std.specs.Prelude.{◌≡◌, ◌≤◌, Bool, true, false, cond, ◌&&◌, ◌||◌, not, IsTrue}
+use Rattle.std.proofs.Common.{refl, arith}
 
 -- ## Conjunctions
 
@@ -23,6 +23,10 @@ and_parts false b h = absurd (cc)
 pub and_true : (a : Bool) → (a && true) ≡ a
 and_true true = refl
 and_true false = refl
+
+pub and_false : (a : Bool) → (a && false) ≡ false
+and_false true = refl
+and_false false = refl
 
 pub and_and : (a b c : Bool) → ((a && b) && c) ≡ (a && (b && c))
 and_and true b c = refl
@@ -70,9 +74,19 @@ pub not_true : (b : Bool) → IsTrue (not b) → b ≡ false
 not_true true h = absurd (cc)
 not_true false h = refl
 
+pub is_not_true : (b : Bool) → b ≡ false → IsTrue (not b)
+is_not_true true h = absurd (cc)
+is_not_true false h = refl
+
 pub false_true : {b : Bool} → b ≡ true → b ≡ false → ⊥
 false_true h k = absurd (cc)
 
 pub never_true : (b : Bool) → (b ≡ true → ⊥) → b ≡ false
 never_true true n = absurd (n refl)
 never_true false n = refl
+
+-- ## As numbers
+
+pub one_or_none : (b : Bool) → cond b 1 0 ≤ 1
+one_or_none true = omega arith
+one_or_none false = omega arith

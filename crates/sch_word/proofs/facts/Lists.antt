@@ -1,8 +1,8 @@
 -- Lists: what is left of one and what is taken, and an item that is set.
 use Rattle.std.proofs.Common.{◌≡◌, ℕ, zero, suc, ◌+◌, ◌-◌, ◌<◌, ◌≤◌, List, [], ◌∷◌, ◌++◌, length, map, reverse, drop, take, get_or, Some, refl, sym, ap, ◌∙◌, subst, arith, drop-cons}
 use Rattle.std.specs.Prelude.{slice_get, slice_set}
-use Rattle.std.proofs.lemmas.List.{reverse-append, length-append}
-use Rattle.std.proofs.Math.Seq.{take-suc}
+use Rattle.std.proofs.lemmas.List.{reverse-append, length-append, length-reverse, length-drop, map-append, take-append-drop}
+use Rattle.std.proofs.Math.Seq.{take-suc, take-append_seam, drop-append_seam}
 
 pub next_left : {A : Type 0} (xs : List A) (i : ℕ) (x : A) → i < length xs → x ≡ get_or xs i x → drop i xs ≡ x ∷ drop (suc i) xs
 next_left xs i x l e = drop-cons xs i x l ∙ ap (λ y. y ∷ drop (suc i) xs) (sym e)
@@ -21,6 +21,27 @@ map_length f (x ∷ xs) = ap suc (map_length f xs)
 
 pub reverse_cons : {A : Type 0} (x : A) (xs : List A) → reverse (x ∷ xs) ≡ reverse xs ++ x ∷ []
 reverse_cons x xs = reverse-append (x ∷ []) xs
+
+pub map_reverse : {A B : Type 0} (f : A → B) (xs : List A) → map f (reverse xs) ≡ reverse (map f xs)
+map_reverse f [] = refl
+map_reverse f (x ∷ xs) = ap (map f) (reverse_cons x xs) ∙ map-append f (reverse xs) (x ∷ []) ∙ ap (λ l. l ++ f x ∷ []) (map_reverse f xs) ∙ sym (reverse_cons (f x) (map f xs))
+
+-- the first ones of a list that is turned
+reversed_parts : {A : Type 0} (xs : List A) (m : ℕ) → reverse xs ≡ reverse (drop m xs) ++ reverse (take m xs)
+reversed_parts xs m = ap reverse (sym (take-append-drop m xs)) ∙ reverse-append (take m xs) (drop m xs)
+
+reversed_length : {A : Type 0} (xs : List A) (n m : ℕ) → n + m ≡ length xs → length (reverse (drop m xs)) ≡ n
+reversed_length xs n m e = omega (arith, length-reverse (drop m xs), length-drop m xs, e)
+
+pub take_reversed : {A : Type 0} (xs : List A) (n m : ℕ) → n + m ≡ length xs → take n (reverse xs) ≡ reverse (drop m xs)
+take_reversed xs n m e =
+    ap (take n) (reversed_parts xs m) ∙ ap (λ k. take k (reverse (drop m xs) ++ reverse (take m xs))) (sym (reversed_length xs n m e))
+    ∙ take-append_seam (reverse (drop m xs)) (reverse (take m xs))
+
+pub drop_reversed : {A : Type 0} (xs : List A) (n m : ℕ) → n + m ≡ length xs → drop n (reverse xs) ≡ reverse (take m xs)
+drop_reversed xs n m e =
+    ap (drop n) (reversed_parts xs m) ∙ ap (λ k. drop k (reverse (drop m xs) ++ reverse (take m xs))) (sym (reversed_length xs n m e))
+    ∙ drop-append_seam (reverse (drop m xs)) (reverse (take m xs))
 
 pub set_here : {A : Type 0} (xs : List A) (i : ℕ) (v : A) → i < length xs → slice_get (slice_set xs i v) i ≡ Some v
 set_here [] i v l = absurd (omega (arith, l))
@@ -48,6 +69,12 @@ length_joined xs ys p q = omega (arith, length-append xs ys, p, q)
 pub get_seam : {A : Type 0} (before rest : List A) (x : A) → slice_get (before ++ x ∷ rest) (length before) ≡ Some x
 get_seam [] rest x = refl
 get_seam (y ∷ before) rest x = get_seam before rest x
+
+pub head_same : {A : Type 0} {x y : A} {xs ys : List A} → x ∷ xs ≡ y ∷ ys → x ≡ y
+head_same e = cc
+
+pub tail_same : {A : Type 0} {x y : A} {xs ys : List A} → x ∷ xs ≡ y ∷ ys → xs ≡ ys
+tail_same e = cc
 
 pub some_same : {A : Type 0} {x y : A} → Some x ≡ Some y → x ≡ y
 some_same e = cc

@@ -111,3 +111,18 @@ union_next xs i ys ys' whole l h k =
     let x = get_or xs i 0 in
     let n = subst (λ r. union (reverse r) (reverse ys) ≡ whole) (next_left xs i x l (get_or_default xs i 0 x l)) k in
     rw (add-one, h) (sym (union_last (reverse (drop (suc i) xs)) (reverse ys) x) ∙ ap (λ r. union r (reverse ys)) (sym (reverse_cons x (drop (suc i) xs))) ∙ n)
+
+-- ## Numbers below another
+
+-- each is below n
+abbrev pub Under : List ℕ → ℕ → Type 0
+Under [] n = Unit {0}
+Under (x ∷ xs) n = (x < n) × Under xs n
+
+pub unless_under : (b : Bool) (x : ℕ) (xs : List ℕ) (n : ℕ) → x < n → Under xs n → Under (unless b x xs) n
+unless_under true x xs n l u = u
+unless_under false x xs n l u = (l, u)
+
+pub union_under : (xs ys : List ℕ) (n : ℕ) → Under xs n → Under ys n → Under (union xs ys) n
+union_under [] ys n u v = v
+union_under (x ∷ xs) ys n u v = unless_under (has x (union xs ys)) x (union xs ys) n u.0 (union_under xs ys n u.1 v)

@@ -8,7 +8,7 @@ use Rattle.sch_word.specs.values.Values.{fixnum, procedure, is_constant, are_byt
 use Rattle.sch_word.specs.values.Checked.{passes, refused, exhausted, unreachable}
 use Rattle.sch_word.specs.runs.Handed.{handed}
 use Rattle.sch_word.specs.runs.Computation.{callee, depth_left, entry_left}
-use Rattle.sch_word.specs.values.Literals.{constant, text, list, elements, literals, literal_in_range, literal_levels}
+use Rattle.sch_word.specs.values.Literals.{constant, text, list, elements, literals, literal_in_range}
 
 -- ## Constants
 
@@ -30,13 +30,6 @@ literals_out_of_range :
     × (literal_in_range (list (literals (list (literals (constant (Character 97) ∷ [])) (constant Nil) ∷ [])) (text (300 ∷ []))) ≡ false)
     × (literal_in_range (elements (literals (text (97 ∷ []) ∷ constant (Fixnum (pos 300)) ∷ []))) ≡ true)
 literals_out_of_range = (refl, refl, refl)
-
--- `(1 (2))`, `(1 . #(2))` and `#()`
-levels_of_literals :
-    (literal_levels (list (literals (constant (Fixnum (pos 1)) ∷ list (literals (constant (Fixnum (pos 2)) ∷ [])) (constant Nil) ∷ [])) (constant Nil)) ≡ 3)
-    × (literal_levels (list (literals (constant (Fixnum (pos 1)) ∷ [])) (elements (literals (constant (Fixnum (pos 2)) ∷ [])))) ≡ 3)
-    × (literal_levels (elements (literals [])) ≡ 1)
-levels_of_literals = (refl, refl, refl)
 
 -- ## Calls
 

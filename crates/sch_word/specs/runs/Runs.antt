@@ -7,7 +7,7 @@ use Rattle.sch_word.specs.values.Values.{Value, procedure, are_bytes}
 use Rattle.sch_word.specs.runs.Store.{Store}
 use Rattle.sch_word.specs.runs.Computation.{Outcome, gives, stops, spent, State}
 use Rattle.sch_word.specs.runs.Orders.{is_order_table}
-use Rattle.sch_word.specs.values.Literals.{Literals, literal_values, objects_of_each, literals_size, literals_known, literals_in_range, literals_levels}
+use Rattle.sch_word.specs.values.Literals.{Literals, literal_values, objects_of_each, literals_size, literals_known, literals_in_range}
 
 -- What stands ready when a program starts: the names of its symbols; its literals; and its globals,
 -- each with the library's procedure of that number, or unset.
@@ -116,12 +116,6 @@ statics_valid library p =
     nat_le (statics_size p) max_statics
     && (literals_known (length p.symbols) p.literals && library_known library p.globals)
 
--- the levels that the literals of a program nest at most
-abbrev pub max_literal_levels : ℕ
-max_literal_levels = 4000
-
--- names and texts are bytes, constants are words, and the literals are not nested too deeply
+-- names and texts are bytes, and constants are words
 abbrev pub statics_in_range : Statics → Bool
-statics_in_range p =
-    list_all are_bytes p.symbols
-    && (literals_in_range p.literals && nat_le (literals_levels p.literals) max_literal_levels)
+statics_in_range p = list_all are_bytes p.symbols && literals_in_range p.literals

@@ -105,16 +105,3 @@ abbrev mutual
   pub literals_in_range : Literals → Bool
   literals_in_range no_literals = true
   literals_in_range (and_literal l ls) = literal_in_range l && literals_in_range ls
-
--- The levels of nesting: a list and a vector are one level above what they hold, the end of a list
--- among it.
-abbrev mutual
-  pub literal_levels : Literal → ℕ
-  literal_levels (constant c) = 1
-  literal_levels (text bytes) = 1
-  literal_levels (list ls tail) = 1 + max (literals_levels ls) (literal_levels tail)
-  literal_levels (elements ls) = 1 + literals_levels ls
-
-  pub literals_levels : Literals → ℕ
-  literals_levels no_literals = 0
-  literals_levels (and_literal l ls) = max (literal_levels l) (literals_levels ls)

@@ -9,7 +9,7 @@ loop-left-preserved-in-Continue-1 c =
     let r = reverse c.loop-left.xs.items in
     record {
       free = cells_back c.args.cs.now c.loop-left.left (record { variable = 0; content = None }) r _ _ c.loop-left-test.true i.bound
-          (c.in_ok-insert_variable.ensures ∙ ap (λ o. and_some o r) (sym c.in-Some.is)) i.free;
+          (c.in_ok-insert_number.ensures ∙ ap (λ o. and_some o r) (sym c.in-Some.is)) i.free;
       bound = omega (arith, i.bound);
     }
 

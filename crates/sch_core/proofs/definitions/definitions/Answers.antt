@@ -1,15 +1,15 @@
-use Rattle.std.proofs.Common.{None, Some, ap, sym, ◌∙◌, reverse}
+use Rattle.std.proofs.Common.{None, Some, ap, sym, ◌∙◌}
 use Rattle.sch_names.specs.ScopeView.{one_name}
 use Rattle.sch_core.proofs.items.DefinitionSteps.{begin_defined, begin_made, begin_whole, next_defined, next_made, next_whole}
 use Rattle.sch_core.proofs.definitions.definitions.Goals as goal
 
 pub loop-name-init : goal.loop-name-init
 loop-name-init c =
-    let left = c.from_vec-left.ensures ∙ c.reverse.ensures.items ∙ ap reverse c.into_vec-items.ensures in
+    let left = c.reversed-left.ensures in
     record {
       named = begin_defined c.args.names.now c.new-all.result c.new-all.ensures;
-      made = begin_made c.args.drafts c.from_vec-left.result c.new-all.result c.new-all.ensures left;
-      whole = begin_whole c.args.names.now c.args.drafts c.from_vec-left.result left c.requires.whole;
+      made = begin_made c.args.drafts c.reversed-left.result c.new-all.result c.new-all.ensures left;
+      whole = begin_whole c.args.names.now c.args.drafts c.reversed-left.result left c.requires.whole;
     }
 
 pub loop-name-preserved : goal.loop-name-preserved

@@ -1,4 +1,4 @@
-use Rattle.std.proofs.Common.{◌≡◌, [], true, ap, sym, subst, ◌∙◌, rules}
+use Rattle.std.proofs.Common.{◌≡◌, [], true, ap, sym, subst, ◌∙◌}
 use Rattle.sch_read.specs.Views.{data_of}
 use Rattle.sch_names.specs.ScopeView.{given_names}
 use Rattle.sch_link_program.specs.Definitions.{definitions_of}
@@ -21,7 +21,7 @@ first_definition_excess-requires c =
     let read = c.in_ok-names.ensures in
     let ds = definitions_of c.in_ok-definitions.definitions in
     let i = sym (ap given_names c.as_slice.ensures) ∙ c.in_ok-definitions.ensures.named in
-    let sound = items_sound [] items ds (expands items _ _ _ read.names read.reads c.in_default.is ds i c.in_ok-definitions.ensures.made) (c.are_quotable.ensures (search rules)) in
+    let sound = items_sound [] items ds (expands items _ _ _ read.names read.reads c.in_default.is ds i c.in_ok-definitions.ensures.made) (c.in_ok-know_data.ensures) in
     record { formals = subst (λ l. have_few_formals (definitions_of l) ≡ true) (sym c.as_slice-2.ensures) (few_formals ds sound) }
 
 pub returns-in-Some-clause-fault : goal.returns-in-Some-clause-fault
@@ -92,5 +92,5 @@ invariant_of-result c =
     let i = sym (ap given_names c.as_slice.ensures) ∙ c.in_ok-definitions.ensures.named in
     let h = ap (λ l. first_definition_excess (item_places items) (definitions_of l)) (sym c.as_slice-2.ensures) ∙ (sym c.in_ok-kind.ensures ∙ c.in_default-2.is) in
     record {
-      sound = ∣ sound_library items ds (expands items _ _ _ read.names read.reads c.in_default.is ds i c.in_ok-definitions.ensures.made) (c.are_quotable.ensures (search rules)) c.requires.light h ∣₁;
+      sound = ∣ sound_library items ds (expands items _ _ _ read.names read.reads c.in_default.is ds i c.in_ok-definitions.ensures.made) (c.in_ok-know_data.ensures) c.requires.light h ∣₁;
     }

@@ -1,4 +1,4 @@
-use Rattle.std.proofs.Common.{◌≡◌, ◌≤◌, Some, None, true, length, ap, sym, subst, ◌∙◌, arith, rules}
+use Rattle.std.proofs.Common.{◌≡◌, ◌≤◌, Some, None, true, length, ap, sym, subst, ◌∙◌, arith}
 use Rattle.std.proofs.Math.Logic.{∥∥₁_elim}
 use Rattle.std.proofs.Props.{props}
 use Rattle.std.proofs.lemmas.List.{length-map}
@@ -107,7 +107,7 @@ into_program-requires c =
     let n : forms ≡ (program_of ds own es).forms = ap expressions_of c.as_slice-4.ensures ∙ ap (λ p. p.forms) made in
     let none = c.in_default.is in
     let h : first_excess places forms ≡ None = sym c.in_ok-kind.ensures ∙ c.in_default-2.is in
-    let quotable = c.are_quotable.ensures (search rules) in
+    let quotable = c.in_ok-know_data.ensures in
     record {
       valid =
           let v : is_valid (program_of ds own es) ≡ true =

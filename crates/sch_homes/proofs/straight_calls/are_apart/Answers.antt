@@ -1,4 +1,4 @@
-use Rattle.std.proofs.Common.{◌≡◌, ◌∙◌, ℕ, Bool, ap, arith, sym}
+use Rattle.std.proofs.Common.{◌∙◌, ℕ, Bool, ap, arith, sym}
 use Rattle.std.specs.List.{list_all}
 use Rattle.sch_word.specs.trees.Bindings.{numbers}
 use Rattle.sch_layout.specs.BodyLayout.{arguments_at}

@@ -1,4 +1,4 @@
-use Rattle.std.proofs.Common.{◌≡◌, ◌∙◌, ℕ, Bool, ap, arith, sym}
+use Rattle.std.proofs.Common.{◌∙◌, ℕ, Bool, ap, arith, sym}
 use Rattle.std.specs.Prelude.{not}
 use Rattle.sch_layout.specs.BodyLayout.{operand_at}
 use Rattle.sch_homes.specs.CallMoves.{operand_tree}

@@ -1,4 +1,4 @@
-use Rattle.std.proofs.Common.{◌≡◌, ℕ, suc, ◌∙◌, ap, arith, length, map}
+use Rattle.std.proofs.Common.{◌≡◌, suc, ◌∙◌, ap, arith, length, map}
 use Rattle.std.proofs.lemmas.List.{map-append}
 use Rattle.sch_word.specs.trees.Bindings.{numbers}
 use Rattle.sch_writer.specs.View.{move_of, moves_of}

@@ -23,4 +23,4 @@ pub returns : goal.returns
 returns c =
     let named = names_of c.args.asked.now.named.now in
     let held = names_of c.args.asked.now.held.now in
-    all_looked named held c.args.definitions.now c.loop-left.left.now c.loop-left.all _ (none_below c.loop-left.left.now c.in_default.len_below) c.loop-left.invariant.list (c.from_vec.ensures ∙ c.reverse.ensures.items ∙ ap reverse c.into_vec-items.ensures)
+    all_looked named held c.args.definitions.now c.loop-left.left.now c.loop-left.all _ (none_below c.loop-left.left.now c.in_default.len_below) c.loop-left.invariant.list c.reversed.ensures

@@ -3,7 +3,7 @@ use Rattle.sch_link_tables.proofs.ProcedureLists.{next_procedure, no_procedure, 
 use Rattle.sch_link_tables.proofs.nodes.procedures_of.Goals as goal
 
 pub loop-e-init : goal.loop-e-init
-loop-e-init c = all_left c.args.es c.from_vec-left.result c.new-all.result c.new-all.ensures (c.from_vec-left.ensures ∙ c.reverse.ensures.items ∙ ap reverse c.into_vec-items.ensures)
+loop-e-init c = all_left c.args.es c.reversed-left.result c.new-all.result c.new-all.ensures c.reversed-left.ensures
 
 pub loop-e-preserved : goal.loop-e-preserved
 loop-e-preserved c =

@@ -1,5 +1,5 @@
 use Rattle.std.proofs.Common.{arith}
-use Rattle.sch_read.proofs.ReleaseEffort.{lighter}
+use Rattle.sch_word.proofs.values.LiteralEffort.{lighter}
 use Rattle.sch_read.proofs.release.joined.Goals as goal
 
 pub returns-then-is_empty-clause-less : goal.returns-then-is_empty-clause-less

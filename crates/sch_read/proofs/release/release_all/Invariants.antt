@@ -1,5 +1,6 @@
 use Rattle.std.proofs.Common.{◌≡◌, [], IfNone}
-use Rattle.sch_read.specs.ReleaseEffort.{effort, weight_next}
+use Rattle.sch_read.specs.ReleaseEffort.{weight_next}
+use Rattle.sch_word.specs.values.Effort.{effort}
 use Rattle.sch_read.specs.Valid.{weights}
 use Rattle.sch_read.specs.Views.{data_of}
 use Rattle.sch_read.proofs.release.release_all.Given as goal

@@ -8,7 +8,7 @@ use Rattle.sch_asm.specs.declared.assembly.Word.TheVariants.{Fixed}
 use Rattle.sch_asm.specs.declared.item.Item.{Item}
 use Rattle.sch_asm.specs.Items.{AreItems, AreKnown, AreOwn, IsEachOnce, labels_in, marks_arrive}
 use Rattle.sch_asm.specs.Codes.{instructions_in, text_size}
-use Rattle.sch_asm.specs.Narrow.{is_narrow_item, narrowed}
+use Rattle.sch_asm.specs.Narrow.{is_narrow_item}
 use Rattle.sch_asm.proofs.NarrowItems.{all_narrow, narrowed_marked, narrowed_size, narrowed_sound}
 use Rattle.sch_frames.specs.ProgramView.{source}
 use Rattle.sch_frames.specs.Sizes.{program_copies, program_work}
@@ -18,9 +18,8 @@ use Rattle.sch_select_data.specs.Data.{static_count, objects_unit, names_of, clo
 use Rattle.sch_select_data.specs.Data.{data_words, program_words}
 use Rattle.sch_select.specs.Program.{max_data, max_stack, program_code, program_zeros, own_label, selected_code, stack_bytes}
 use Rattle.sch_select_memory.specs.Addresses.{max_heap_end, names_address}
-use Rattle.sch_select_memory.specs.OwnCode.{own_code}
 use Rattle.sch_select.specs.MarkedStores.{stores_marked}
-use Rattle.sch_select.specs.Parted.{ArePartedBefore}
+use Rattle.sch_select.specs.FrameWords.{keeps_frame}
 use Rattle.sch_select.specs.Sizes.{kinds_in, kinds_of, steps_size}
 use Rattle.sch_select.proofs.programs.CoveredPrograms.{codes_free, entries_selected, globals_known, labels_known}
 use Rattle.sch_select.proofs.programs.CoveredPrograms.{covered_selected, texts_are, literals_are, literals_named}
@@ -39,7 +38,7 @@ use Rattle.sch_select.proofs.items.InstructionCounts.{program_instructions}
 use Rattle.sch_select.proofs.items.MarkKinds.{program_kinds}
 use Rattle.sch_select.proofs.items.NarrowProgram.{narrowed_ahead, narrowed_instructions, narrowed_kinds, narrowed_known, narrowed_once, narrowed_own, narrowed_stores}
 use Rattle.sch_select.proofs.items.ProgramStores.{program_stands}
-use Rattle.sch_select.proofs.items.ProgramFrames.{program_parted}
+use Rattle.sch_select.proofs.items.ProgramFrames.{program_reach}
 use Rattle.sch_select.proofs.items.JumpsAhead.{program_ahead}
 use Rattle.sch_select.specs.Jumps.{jumps_ahead}
 use Rattle.sch_select.proofs.items.TextSize.{text_small}
@@ -207,7 +206,7 @@ no_more k m n a b = omega (arith, a, b)
 pub returns-clause-text : goal.returns-clause-text
 returns-clause-text c =
     let q = source c.args.p.now in
-    subst (λ is. text_size is ≤ 2048 + (64 * program_work q + 8 * program_copies q)) (items_made c.before)
+    subst (λ is. text_size is ≤ 64 + (64 * program_work q + 8 * program_copies q)) (items_made c.before)
     (no_more _ (text_size (wide c.before)) _ (narrowed_size (wide c.before)) (text_small q c.args.limits.heap c.args.limits.depth))
 
 pub returns-clause-ahead : goal.returns-clause-ahead
@@ -237,12 +236,11 @@ returns-clause-stores c = λ stand.
     subst (λ is. IsTrue (stores_marked None is)) (items_made c.before)
     (narrowed_stores None (wide c.before) ∙ program_stands (source c.args.p.now) c.args.limits.heap c.args.limits.depth stand)
 
-pub returns-clause-parts : goal.returns-clause-parts
-returns-clause-parts c =
+pub returns-clause-frame : goal.returns-clause-frame
+returns-clause-frame c =
     let p = c.args.p.now in
     let l = c.args.limits in
-    subst (ArePartedBefore (narrowed (own_code (heap_of (source p) + l.heap)))) (items_made c.before)
-    (program_parted (source p) l.heap l.depth (covered_selected p c.requires.covered))
+    subst (λ is. IsTrue (list_all keeps_frame is)) (items_made c.before) (program_reach (source p) l.heap l.depth (covered_selected p c.requires.covered))
 
 pub returns-clause-words : goal.returns-clause-words
 returns-clause-words c = subst (λ ws. 0x10000000 + 8 * length ws ≡ heap_of (source c.args.p.now)) (words_made c.before) (ends_there c.before)

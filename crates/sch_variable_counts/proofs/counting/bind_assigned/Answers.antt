@@ -1,7 +1,9 @@
-use Rattle.std.proofs.Common.{length, ◌∙◌, ◌+◌, ap, arith, refl}
+use Rattle.std.proofs.Common.{◌≡◌, [], length, ◌∙◌, ◌+◌, ap, arith, refl, rules}
 use Rattle.std.proofs.lemmas.List.{take-append-le}
 use Rattle.std.proofs.Math.Seq.{take-length}
+use Rattle.sch_lang.specs.Variables.{assigns}
 use Rattle.sch_variable_counts.specs.Walked.{capped}
+use Rattle.sch_variable_counts.proofs.Marks.{none_marked}
 use Rattle.sch_variable_counts.proofs.CappedCounts.{pushed_longer, sum_small, bound_turn, bound_start, bound_rest, bound_total, bound_once_all}
 use Rattle.sch_variable_counts.proofs.counting.bind_assigned.Goals as goal
 
@@ -38,4 +40,19 @@ returns-clause-once c = λ e. record {
   taken = λ rest h.
       let k = c.loop-left.invariant.taken e rest h in
       (bound_rest e c.args.count c.loop-left.left c.loop-left.total rest c.args.once.now.items c.loop-left.marks.items c.loop-left.once.items c.loop-left-test.false k, bound_once_all e c.args.count c.loop-left.left c.loop-left.total rest c.args.once.now.items c.loop-left.marks.items c.loop-left.once.items c.loop-left-test.false k);
+}
+
+-- a loop that finds no mark was given too few of them
+pub returns-in_default-clause-count : goal.returns-in_default-clause-count
+returns-in_default-clause-count c = λ e. record {
+  taken = λ rest h.
+      let none : c.loop-left.marks.items ≡ [] = search rules in
+      absurd (none_marked (assigns e) c.loop-left.left rest c.loop-left.marks.items c.loop-left-test.true none (c.loop-left.invariant.taken e rest h).marks_are);
+}
+
+pub returns-in_default-clause-once : goal.returns-in_default-clause-once
+returns-in_default-clause-once c = λ e. record {
+  taken = λ rest h.
+      let none : c.loop-left.marks.items ≡ [] = search rules in
+      absurd (none_marked (assigns e) c.loop-left.left rest c.loop-left.marks.items c.loop-left-test.true none (c.loop-left.invariant.taken e rest h).marks_are);
 }

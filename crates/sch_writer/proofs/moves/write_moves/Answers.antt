@@ -1,12 +1,9 @@
-use Rattle.std.proofs.Common.{◌≡◌, ◌∷◌, [], ◌++◌, List, length, refl, sym, ap, ◌∙◌, arith}
+use Rattle.std.proofs.Common.{◌≡◌, ◌∷◌, [], ◌++◌, length, sym, ap, ◌∙◌, arith}
 use Rattle.std.specs.Vec.Iter.{into_iter_items}
 use Rattle.sch_layout.specs.BodyLayout.{move_all}
 use Rattle.sch_writer.specs.View.{moves_of}
 use Rattle.sch_writer.proofs.moves.write_moves.Goals as goal
-
-nothing_left : {X : Type 0} (l : List X) → length l ≡ 0 → l ≡ []
-nothing_left [] h = refl
-nothing_left (x ∷ xs) h = absurd (omega (arith, h))
+use Rattle.sch_word.proofs.facts.Lists.{length_none}
 
 pub loop-m-preserved : goal.loop-m-preserved
 loop-m-preserved c =
@@ -25,7 +22,7 @@ pub returns-clause-instructions : goal.returns-clause-instructions
 returns-clause-instructions c rest =
     let at = c.loop-m in
     let none = c.in-None.ensures.steps in
-    let empty : into_iter_items at.m-iterator ≡ [] = nothing_left _ (sym at.invariant.counted ∙ none.0) in
+    let empty : into_iter_items at.m-iterator ≡ [] = length_none _ (sym at.invariant.counted ∙ none.0) in
     ap (λ ms. at.out.instructions ++ move_all c.args.limit (moves_of ms) rest) (sym empty)
     ∙ (at.invariant.written rest
     ∙ ap (λ ms. c.args.out.now.instructions ++ move_all c.args.limit (moves_of ms) rest) (c.into_iter-m-iterator.ensures.into_iter_gives.0 ∙ c.into_vec-m-items.ensures))

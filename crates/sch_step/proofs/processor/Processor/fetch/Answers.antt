@@ -1,6 +1,10 @@
 use Rattle.std.proofs.Common.{◌∙◌, sym, ap, arith}
-use Rattle.sch_insn.specs.Decode.{decode, when_some}
+use Rattle.sch_insn.specs.Decode.{decode}
+use Rattle.sch_word.specs.values.Options.{when_some}
+use Rattle.sch_step.specs.Fetched.{is_fixed}
 use Rattle.sch_step.proofs.Memory.{served_open, served_shut, none_serves}
+use Rattle.sch_step.proofs.FetchedStays.{is_fixed_by, read_low}
+use Rattle.sch_step.specs.Layout.{segment_view}
 use Rattle.sch_step.proofs.processor.Processor.fetch.Goals as goal
 
 pub returns-in_err-i-clause-value : goal.returns-in_err-i-clause-value
@@ -11,7 +15,21 @@ returns-then-not-s-clause-value c = sym (ap (λ o. when_some o decode)
     (served_shut (λ g. g.executable) c.args.self.now.segments.items c.in_ok-i.i c.args.self.now.at 1 c.index-s.result.now
     (omega arith) c.args.self.now.laid_out c.in_ok-i.ensures.within c.in_ok-i.ensures.some c.index-s.ensures c.if-not-s.true))
 
-pub returns-clause-value : goal.returns-clause-value
-returns-clause-value c = c.decode.ensures.read ∙ ap decode c.tail.ensures
+pub returns-then-not-s-2-clause-value : goal.returns-then-not-s-2-clause-value
+returns-then-not-s-2-clause-value c = c.decode-found.ensures.read ∙ ap decode c.tail.ensures
     ∙ sym (ap (λ o. when_some o decode) (served_open (λ g. g.executable) c.args.self.now.segments.items c.in_ok-i.i c.args.self.now.at 1 c.index-s.result.now
     (omega arith) c.args.self.now.laid_out c.in_ok-i.ensures.within c.in_ok-i.ensures.some c.index-s.ensures c.if-not-s.false))
+
+pub returns-else-not-s-2-clause-value : goal.returns-else-not-s-2-clause-value
+returns-else-not-s-2-clause-value c = c.decode-found.ensures.read ∙ ap decode c.tail.ensures
+    ∙ sym (ap (λ o. when_some o decode) (served_open (λ g. g.executable) c.args.self.now.segments.items c.in_ok-i.i c.args.self.now.at 1 c.index-s.result.now
+    (omega arith) c.args.self.now.laid_out c.in_ok-i.ensures.within c.in_ok-i.ensures.some c.index-s.ensures c.if-not-s.false))
+
+pub returns-else-not-s-2-clause-low : goal.returns-else-not-s-2-clause-low
+returns-else-not-s-2-clause-low c = read_low c.args.self.now.segments.items c.in_ok-i.i c.args.self.now.at c.index-s.result.now c.tail.result.now c.decode-found.result
+    c.args.self.now.laid_out c.in_ok-i.ensures.within c.in_ok-i.ensures.some c.index-s.ensures c.tail.ensures c.decode-found.ensures.within
+
+pub keep-requires-clause-fixed : goal.keep-requires-clause-fixed
+keep-requires-clause-fixed c = ap (λ o. when_some o decode) (served_open is_fixed c.args.self.now.segments.items c.in_ok-i.i c.args.self.now.at 1 c.index-s.result.now
+    (omega arith) c.args.self.now.laid_out c.in_ok-i.ensures.within c.in_ok-i.ensures.some c.index-s.ensures
+    (is_fixed_by (segment_view c.index-s.result.now) c.if-not-s.false c.if-not-s-2.true)) ∙ sym (c.decode-found.ensures.read ∙ ap decode c.tail.ensures)

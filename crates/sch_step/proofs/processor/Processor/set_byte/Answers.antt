@@ -2,6 +2,7 @@ use Rattle.std.proofs.Common.{[], ◌∷◌, arith, refl, sym}
 use Rattle.sch_insn.specs.Machine.{with_place}
 use Rattle.sch_step.specs.View.{core_of}
 use Rattle.sch_step.proofs.Memory.{written, not_written, stays_laid_out}
+use Rattle.sch_step.proofs.FetchedStays.{still_fetched}
 use Rattle.sch_step.proofs.processor.Processor.set_byte.Goals as goal
 
 pub returns-in-None-clause-value : goal.returns-in-None-clause-value
@@ -16,4 +17,7 @@ pub invariant_of-self : goal.invariant_of-self
 invariant_of-self c = record {
   laid_out = stays_laid_out c.args.self.now.segments.items c.in-Some.i c.args.address c.index_mut-s.result.now c.put_byte.new.self
       (c.args.value ∷ []) c.args.self.now.laid_out c.in-Some.ensures.within c.in-Some.ensures.some c.index_mut-s.ensures.value c.put_byte.ensures;
+  counted = c.args.self.now.counted;
+  kept = still_fetched c.args.self.now.segments.items c.in-Some.i c.args.address c.index_mut-s.result.now c.put_byte.new.self
+      (c.args.value ∷ []) c.args.self.now.fetched.items c.args.self.now.kept c.in-Some.ensures.within c.in-Some.ensures.some c.index_mut-s.ensures.value c.in-Some.ensures.writable c.put_byte.ensures;
 }
