@@ -1,7 +1,7 @@
 #!/usr/bin/env python3
 """Refuses each request for memory of a call of `schc`, one in each run, and looks at how the call ends.
 
-Run by hand, after the program was built:  bench/refused.py [--every N] [--host]
+Run by hand, after the program was built:  bench/refused.py [--every N] [--host] [--jobs N]
 Three lines over a small but whole text: `run`, `compile` with a listing and `count`. The call is made over a disk in memory that
 never fails and has ample room, by a small program of its own (`refused.rt.txt`), which is proved and built in a copy of the
 checkout, over the libraries that are proved there. It asks for a telling number of bytes right before the call and right behind
@@ -9,12 +9,14 @@ it, and only requests between the two are refused: none that makes the disk, the
 them afterwards. A call must end with 10 and its line, with nothing printed and no file of the disk changed; or with 0, and all
 is as where nothing is refused, which is what the built program does with files of the host.
 
-With `--every N` only each Nth request is refused. With `--host` the built program is run, on files of the host, and each request
+With `--every N` only each Nth request is refused, with `--jobs N` so many runs go on side by side. With `--host` the built program is run, on files of the host, and each request
 of its process counts. It needs gcc, and prints how many requests were refused. The end is 1 where something is otherwise.
 """
 import argparse
 import collections
+import concurrent.futures
 import os
+import queue
 import shutil
 import subprocess
 import sys
@@ -80,14 +82,14 @@ def build(folder):
 
 
 class Caller:
-    """A program that calls `schc`, on files in a folder of the host, or in memory."""
+    """A program that calls `schc`, on files in a folder of its own on the host, or in memory."""
 
-    def __init__(self, program, folder, files, mark):
+    def __init__(self, program, shim, files, mark):
         self.program = program
-        self.folder = folder
+        self.folder = tempfile.mkdtemp(dir=os.path.dirname(shim))
         self.files = files
-        self.requests = os.path.join(folder, "requests")
-        self.env = {"LD_PRELOAD": os.path.join(folder, "refused.so"), "REQUESTS": self.requests, **mark}
+        self.requests = os.path.join(self.folder, "requests")
+        self.env = {"LD_PRELOAD": shim, "REQUESTS": self.requests, **mark}
 
     def end_of(self, words, number):
         """How a line ends whose request of this number is refused, and how many requests it has. None has the number 0."""
@@ -109,15 +111,31 @@ class Caller:
         return End(done.returncode, parted(parts)), requests
 
 
-def refuses(caller, words, every, wanted):
+def ends_of(callers, words, numbers):
+    """How a line ends for each of these numbers of the request that is refused, by callers that work side by side."""
+    free = queue.SimpleQueue()
+    for caller in callers:
+        free.put(caller)
+
+    def end_of(number):
+        caller = free.get()
+        try:
+            return caller.end_of(words, number)
+        finally:
+            free.put(caller)
+
+    with concurrent.futures.ThreadPoolExecutor(len(callers)) as pool:
+        yield from zip(numbers, pool.map(end_of, numbers))
+
+
+def refuses(callers, words, every, wanted):
     """Refuses requests of a line, which without a refusal ends as is wanted, prints how it ended, and says whether all was well."""
-    whole, asked = caller.end_of(words, 0)
+    whole, asked = callers[0].end_of(words, 0)
     well = whole == wanted and wanted.status == 0 and asked.numbered > 0 and asked.more == asked.refused == 0
     if not well:
         print(f"{words[0]}, without a refusal: status {whole.status}, {asked}, {whole.left[:100]!r}")
     kinds = collections.Counter()
-    for number in range(1, asked.numbered + 1, every):
-        end, requests = caller.end_of(words, number)
+    for number, (end, requests) in ends_of(callers, words, range(1, asked.numbered + 1, every)):
         kind = {OUT_OF_MEMORY: "status 10", wanted: "status 0"}.get(end, "otherwise") if requests.refused == 1 else "otherwise"
         kinds[kind] += 1
         if kind == "otherwise":
@@ -131,13 +149,15 @@ def main():
     parser = argparse.ArgumentParser()
     parser.add_argument("--every", type=int, default=1)
     parser.add_argument("--host", action="store_true")
+    parser.add_argument("--jobs", type=int, default=1)
     words = parser.parse_args()
     with tempfile.TemporaryDirectory() as folder:
-        shim = ["gcc", "-O2", "-shared", "-fPIC", "-o", os.path.join(folder, "refused.so"), os.path.join(BENCH, "refused.c")]
-        subprocess.run(shim, check=True)
-        host = Caller([PROGRAM], folder, BEFORE, {})
-        caller = host if words.host else Caller([build(folder), TEXT], folder, {}, {"MARK": MARK})
-        well = [refuses(caller, line, words.every, host.end_of(line, 0)[0]) for line in LINES]
+        shim = os.path.join(folder, "refused.so")
+        subprocess.run(["gcc", "-O2", "-shared", "-fPIC", "-o", shim, os.path.join(BENCH, "refused.c")], check=True)
+        host = [Caller([PROGRAM], shim, BEFORE, {}) for _ in range(words.jobs)]
+        program = [] if words.host else [build(folder), TEXT]
+        callers = host if words.host else [Caller(program, shim, {}, {"MARK": MARK}) for _ in range(words.jobs)]
+        well = [refuses(callers, line, words.every, host[0].end_of(line, 0)[0]) for line in LINES]
     sys.exit(0 if all(well) else 1)
 
 

@@ -6,7 +6,9 @@ use Rattle.std.specs.List.Sorted.{IsNonDecreasing}
 use Rattle.std.proofs.lemmas.Bool.{leb-true}
 use Rattle.std.proofs.lemmas.List.{drop_all, drop-map, take-map, get_or_default}
 use Rattle.std.proofs.lemmas.List.Folds.{list_all-append}
-use Rattle.sch_word.proofs.Walking.{next_is, next_left}
+use Rattle.std.proofs.lemmas.Option.{slice_get_within}
+use Rattle.sch_word.proofs.Walking.{next_left}
+use Rattle.sch_word.proofs.facts.Lists.{next_left as next_is}
 use Rattle.sch_flat.specs.declared.tree.Exp.{Exp}
 use Rattle.sch_flat.specs.declared.tree.Body as flat_body
 use Rattle.sch_flat.specs.Tree.{Tree, Trees, Made, Body, constant, literal, variable, global, set_global, define, branch, sequence, bind, make_closure, fix_closures, call, operation, new_cells, cell_get, cell_set, no_trees, and_tree, count}
@@ -56,13 +58,8 @@ module _ (bodies : List Body) (more : ℕ) (few : length bodies + more ≤ 2 ^ 3
   there None n h = absurd (cc)
   there (Some b) n h = (b, refl)
 
-  below : (bs : List Body) (label : ℕ) (b : Body) → slice_get bs label ≡ Some b → label < length bs
-  below [] label b h = absurd (cc)
-  below (x ∷ bs) zero b h = omega arith
-  below (x ∷ bs) (suc label) b h = let k = below bs label b h in omega (arith, k)
-
   pub label_fits : (label n : ℕ) → has_fields (slice_get bodies label) n ≡ true → label + more < 2 ^ 32
-  label_fits label n h = let t = there (slice_get bodies label) n h in let k = below bodies label t.0 t.1 in omega (arith, k, few)
+  label_fits label n h = let t = there (slice_get bodies label) n h in let k = slice_get_within bodies label t.0 t.1 in omega (arith, k, few)
 
   made_fits : (names : List ℕ) (fields : ℕ) (m : Made) → is_made bodies names fields m ≡ true → m.label + more < 2 ^ 32
   made_fits names fields m h = label_fits m.label (length m.fields) (and_right (list_all (is_known names fields) m.fields) (has_fields (slice_get bodies m.label) (length m.fields)) h)

@@ -2,7 +2,8 @@
 use Rattle.std.proofs.Common.{◌≡◌, ℕ, suc, ◌+◌, ◌<◌, ◌^◌, Bool, true, false, cond, List, ◌∷◌, length, drop, get_or, refl, sym, ap, ◌∙◌, subst, arith, add-one, Result, Ok, Err}
 use Rattle.std.specs.Prelude.{OnOk}
 use Rattle.std.proofs.lemmas.List.{get_or_default}
-use Rattle.sch_word.proofs.Walking.{next_is, next_left}
+use Rattle.sch_word.proofs.Walking.{next_left}
+use Rattle.sch_word.proofs.facts.Lists.{next_left as next_is}
 use Rattle.sch_flat.specs.declared.tree.Exp.{Exp}
 use Rattle.sch_flat.specs.Tree.{Tree, Trees, and_tree}
 use Rattle.sch_flat.specs.View.{tree, trees_of}

@@ -1,8 +1,8 @@
 -- A table of numbers has what is bound, and a binding can be undone.
-use Rattle.std.proofs.Common.{◌≡◌, ◌≢◌, ℕ, zero, suc, ◌+◌, ◌-◌, ◌<◌, ◌≤◌, Bool, true, false, List, [], ◌∷◌, ◌++◌, length, reverse, map, take, drop, replicate, get_or, set, refl, sym, ap, ◌∙◌, subst, arith, add-one, length-append, take-take}
+use Rattle.std.proofs.Common.{◌≡◌, ℕ, zero, suc, ◌+◌, ◌-◌, ◌<◌, ◌≤◌, Bool, true, false, List, [], ◌∷◌, ◌++◌, length, reverse, map, take, drop, replicate, get_or, set, refl, sym, ap, ◌∙◌, subst, arith, add-one, length-append, take-take}
 use Rattle.std.specs.Prelude.{nat_eq, nat_lt, ◌&&◌}
 use Rattle.std.specs.List.{list_all}
-use Rattle.std.proofs.lemmas.Bool.{eq-eqb, eqb-true, lt-ltb, ltb-true, false≢true}
+use Rattle.std.proofs.lemmas.Bool.{eq-eqb, eqb-true, lt-ltb, ltb-true, eqb-false}
 use Rattle.std.proofs.lemmas.List.{get_or-set_same, get_or-set_other, get_or_append_left, set-append_left, set-get_or, set-set, length-set, reverse-append}
 use Rattle.std.proofs.lemmas.List.Folds.{list_all-append}
 use Rattle.sch_word.specs.trees.Bindings.{numbers, with_variables}
@@ -13,9 +13,6 @@ use Rattle.sch_flat.specs.View.{new_cell}
 use Rattle.sch_anf.specs.declared.variables.Binding.{Binding}
 use Rattle.sch_anf_laws.specs.Normal.{Scope, number_of, cells_scope}
 use Rattle.sch_anf.specs.ScopeTable.{pairs_of, scope_of, undoes, is_table}
-
-differs : (x y : ℕ) → nat_eq x y ≡ false → x ≢ y
-differs x y e h = false≢true (sym e ∙ eq-eqb x y h)
 
 none_in : (table : List ℕ) (x : ℕ) → list_all (λ y. nat_eq y 0) table ≡ true → get_or table x 0 ≡ 0
 none_in [] x h = refl
@@ -42,7 +39,7 @@ found table (b ∷ bs) x h = go (nat_eq x b.variable) refl (found (set table b.v
   where
     go : (t : Bool) → nat_eq x b.variable ≡ t → get_or (set table b.variable b.before) x 0 ≡ number_of (pairs_of bs) x → get_or table x 0 ≡ number_of (pairs_of (b ∷ bs)) x
     go true e k = let n = number table b bs h in rw e (ap (λ y. get_or table y 0) (eqb-true x b.variable e) ∙ n)
-    go false e k = rw e (sym (get_or-set_other table b.variable x b.before 0 (differs x b.variable e)) ∙ k)
+    go false e k = rw e (sym (get_or-set_other table b.variable x b.before 0 (eqb-false x b.variable e)) ∙ k)
 
 -- what the table has is what the scope gives
 pub number_found : (table : List ℕ) (bound : List Binding) (x : ℕ) → is_table table bound ≡ true → get_or table x 0 ≡ number_of (scope_of bound) x

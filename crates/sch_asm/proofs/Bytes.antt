@@ -8,7 +8,8 @@ use Rattle.std.proofs.lemmas.Slice.{between_is, take-put_mid_below, drop-put_mid
 use borrow.Rule.Slice.PartMut.{put_mid}
 use Rattle.sch_word.specs.values.Memory.{Segment}
 use Rattle.sch_insn.specs.declared.state.StuckCause.{StuckCause}
-use Rattle.sch_insn.specs.Machine.{bytes_from, put_bytes, with_bytes, behind_segment, stored, or_access, when_ok, byte_at, head_or_0}
+use Rattle.sch_word.specs.values.Options.{first_or_0}
+use Rattle.sch_insn.specs.Machine.{bytes_from, put_bytes, with_bytes, behind_segment, stored, or_access, when_ok, byte_at}
 use Rattle.sch_asm.specs.Stands.{Setting}
 use Rattle.sch_asm.specs.Data.{data_at, word_in}
 use Rattle.sch_asm.proofs.Words.{eight_count, take_eight, memory, not_text, in_data}
@@ -65,11 +66,11 @@ word_beside_byte bs a v b low lt low' far =
         ∙ ap (drop j) (take-put_mid_below k 1 bs (v ∷ []) (j + 8) le within) ∙ sym (between_is bs j (j + 8)) ∙ take_eight bs j)
 
 module _ (setting : Setting) where
-  pub loads_byte : (bs : List ℕ) (a : ℕ) → 0x10000000 ≤ a → a < 0x10000000 + length bs → byte_at (memory setting bs) a ≡ Ok (head_or_0 (drop (a - 0x10000000) bs))
+  pub loads_byte : (bs : List ℕ) (a : ℕ) → 0x10000000 ≤ a → a < 0x10000000 + length bs → byte_at (memory setting bs) a ≡ Ok (first_or_0 (drop (a - 0x10000000) bs))
   loads_byte bs a low high =
       let found : Option (List ℕ) = Some (drop (a - 0x10000000) bs) in
       let none : Option (List ℕ) = None in
-      let read : Option (List ℕ) → Result ℕ StuckCause = λ o. when_ok (or_access a o) (λ l. Ok (head_or_0 l)) in
+      let read : Option (List ℕ) → Result ℕ StuckCause = λ o. when_ok (or_access a o) (λ l. Ok (first_or_0 l)) in
       ap (λ b. read (cond b (cond setting.text.readable (Some (drop (a - setting.text.address) setting.text.bytes)) none) (bytes_from (λ g. g.readable) (data_at bs ∷ []) a 1))) (not_text setting a 1 low (omega arith))
       ∙ ap (λ b. read (cond b found none)) (in_data setting bs a 1 low (omega (arith, high)))
 

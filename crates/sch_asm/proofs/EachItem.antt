@@ -9,8 +9,8 @@ use Rattle.sch_insn.specs.declared.insn.Insn.{Insn}
 use Rattle.sch_insn.specs.declared.insn.Insn.TheVariants as insn
 use Rattle.sch_insn.specs.declared.state.StuckCause.{StuckCause}
 use Rattle.sch_insn.specs.Decode.{decode}
-use Rattle.sch_word.specs.values.Options.{when_some}
-use Rattle.sch_insn.specs.Machine.{holds, bytes_from, add64, word, condition, set_register, word_at, byte_at, stored, when_ok, or_access, with_segments, with_register, with_place, head_or_0}
+use Rattle.sch_word.specs.values.Options.{when_some, first_or_0}
+use Rattle.sch_insn.specs.Machine.{holds, bytes_from, add64, word, condition, set_register, word_at, byte_at, stored, when_ok, or_access, with_segments, with_register, with_place}
 use Rattle.sch_insn.specs.Step.{Progress, Runs, done, fetch, fetched, perform, moved, step, jump_if}
 use Rattle.sch_insn.proofs.Paths.{leads_step}
 use Rattle.sch_asm.specs.declared.item.Item.{Item}
@@ -102,7 +102,7 @@ module _ (setting : Setting) where
   stores_number x v n a m waiting f e h = goes x _ (insn.MovNumber m v) n waiting f (number_performs x v (x.place + n) a m e h)
 
   abbrev byte_loaded : View → ℕ → ℕ → ℕ → View
-  byte_loaded x r next a = record x { registers = set_register x.registers r (head_or_0 (drop (a - 0x10000000) x.bytes)); place = next }
+  byte_loaded x r next a = record x { registers = set_register x.registers r (first_or_0 (drop (a - 0x10000000) x.bytes)); place = next }
 
   byte_read_by : (x : View) (r next a b : ℕ) → b ≡ a → 0x10000000 ≤ a → a < 0x10000000 + length x.bytes → loaded_to x r next (byte_at (memory setting x.bytes) b) ≡ Runs (full setting (byte_loaded x r next a))
   byte_read_by x r next a b e low high = ap (loaded_to x r next) (ap (byte_at (memory setting x.bytes)) e ∙ loads_byte setting x.bytes a low high)

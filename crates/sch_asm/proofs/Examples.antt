@@ -17,7 +17,7 @@ use Rattle.sch_word.specs.declared.mark.MarkKind.TheVariants.{Enter, Save}
 use Rattle.sch_asm.specs.declared.routine.LeftOver.TheVariants.{FromFirst, InSlots}
 use Rattle.sch_asm.specs.declared.routine.Routine.TheVariants.{End, Stop, Put, PutFixnum, FillWords, FillBytes, PutValue, NewVector, NewString, NewList}
 use Rattle.sch_asm.specs.Routines.{label_of}
-use Rattle.sch_asm.specs.Items.{IsPlain, is_routine, labels_in, marks_arrive, uses_in, word_uses}
+use Rattle.sch_asm.specs.Items.{IsPlain, is_inner, is_routine, labels_in, marks_arrive, uses_in, word_uses}
 use Rattle.sch_asm.specs.Stands.{marks_at}
 use Rattle.sch_asm.specs.Codes.{Codes, IsTooLarge, bytes_of, instructions_in, text_size}
 use Rattle.sch_asm.specs.Data.{IsShifted, word_in, with_word}
@@ -96,6 +96,9 @@ routine_labels :
     × (is_routine 24 ≡ true)
     × (is_routine 25 ≡ false)
 routine_labels = (refl, refl, refl, refl, refl, refl, refl, refl, refl, refl, refl, refl, refl, refl)
+
+inner_labels : (is_inner 63 ≡ false) × (is_inner 64 ≡ true) × (is_inner 1023 ≡ true) × (is_inner 1024 ≡ false)
+inner_labels = (refl, refl, refl, refl)
 
 scratch : (is_scratch RAX ≡ true) × (is_scratch R11 ≡ true) × (is_scratch RSI ≡ false) × (is_scratch R12 ≡ false)
 scratch = (refl, refl, refl, refl)

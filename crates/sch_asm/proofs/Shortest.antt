@@ -4,6 +4,7 @@ use Rattle.std.specs.Prelude.{ℤ, pos, negsuc, FitsSigned, not, ◌&&◌, int_l
 use Rattle.std.specs.Int.{w8}
 use Rattle.std.proofs.lemmas.Bool.{and_parts}
 use Rattle.std.proofs.lemmas.Int.{ints}
+use Rattle.std.proofs.Math.Nat.{le_trans}
 use Rattle.sch_insn.specs.declared.insn.Arg.{Arg}
 use Rattle.sch_insn.specs.declared.insn.Arg.TheVariants.{Base8, Base32}
 use Rattle.sch_insn.specs.declared.insn.Insn.{Insn}
@@ -135,13 +136,10 @@ size_operands (Shr m k) b d = behind_shorter 0xC1 5 b d (k ∷ [])
 size_operands (Sar m k) b d = behind_shorter 0xC1 7 b d (k ∷ [])
 size_operands _ b d = omega (arith, length-append (sib b) (one_byte d), length-append (sib b) (four_bytes d))
 
-then_less : (k m n : ℕ) → k ≤ m → m ≤ n → k ≤ n
-then_less k m n a b = omega (arith, a, b)
-
 pub size_narrow : (i : Insn) → length (spelling (narrow i)) ≤ length (spelling i)
 size_narrow i =
-    narrow_keeps (λ j. length (spelling j) ≤ length (spelling i)) (λ j e h. then_less _ (length (spelling j)) _ (size_numbers j) h)
-    (λ j b d e h. then_less _ (length (spelling (with_operand (Base32 b d) j))) _ (size_operands j b d) h) i (omega arith)
+    narrow_keeps (λ j. length (spelling j) ≤ length (spelling i)) (λ j e h. le_trans (size_numbers j) h)
+    (λ j b d e h. le_trans (size_operands j b d) h) i (omega arith)
 
 -- ---- it is narrow
 

@@ -1,23 +1,27 @@
 -- The tables of a text are those of its items.
-use Rattle.std.proofs.Common.{◌-◌, ◌≡◌, ◌≢◌, ℕ, zero, suc, ◌+◌, ◌*◌, ◌<◌, ◌≤◌, List, [], ◌∷◌, ◌++◌, length, Bool, true, false, refl, sym, subst, arith, ⊎_elim, ◌==◌, ◌||◌, ◌&&◌}
-use Rattle.std.specs.Prelude.{nat_le, nat_lt, slice_index, IsTrue, All, AllPairs}
+use Rattle.std.proofs.Common.{◌-◌, ◌≡◌, ◌≢◌, ℕ, zero, suc, ◌+◌, ◌*◌, ◌<◌, ◌≤◌, List, [], ◌∷◌, ◌++◌, length, Bool, true, false, refl, sym, subst, arith, ⊎_elim, ◌==◌, ◌||◌}
+use Rattle.std.specs.Prelude.{not, slice_index, IsTrue, All, AllPairs}
 use Rattle.std.specs.List.{AllByRecursion}
-use Rattle.std.proofs.lemmas.Bool.{eqb-true, eqb-false, cases_lt, or_parts}
+use Rattle.std.proofs.lemmas.Bool.{eqb-true, eqb-false, and_parts, cases_lt, or_parts}
 use Rattle.std.proofs.lemmas.Bool.Decides.{nat_tests}
 use Rattle.std.proofs.lemmas.List.{map-append}
 use Rattle.std.proofs.lemmas.List.Elements.{recursion_from_All}
+use Rattle.std.proofs.lemmas.List.Kept.{AllPairs-cons}
 use Rattle.std.proofs.Math.ListN.{get_or-eq_default}
 use Rattle.sch_insn.proofs.PrefixCode.{spelling_short}
+use Rattle.sch_word.specs.trees.NumberSets.{has, without_repeats}
+use Rattle.sch_word.proofs.facts.Booleans.{not_true}
 use Rattle.sch_word.specs.declared.stop.Stop.TheVariants.{WrongType, OutOfRange, NotProcedure, WrongCount, DivideByZero, Overflow, HeapLimit, DepthLimit, Unset, OutputFailed}
 use Rattle.sch_asm.specs.declared.assembly.Word.{Word}
 use Rattle.sch_asm.specs.declared.assembly.Word.TheVariants.{Fixed, Address}
 use Rattle.sch_asm.specs.declared.item.Item.{Item}
 use Rattle.sch_asm.specs.declared.item.Item.TheVariants.{Label, Plain, Jump, JumpIf, LoadLabel, LoadWord, StoreWord, Mark}
+use Rattle.sch_asm.specs.declared.routine.TheConstants.{FIRST_LABEL}
 use Rattle.sch_asm.specs.declared.routine.Routine.{Routine}
 use Rattle.sch_asm.specs.declared.routine.LeftOver.TheVariants.{FromFirst, FromSecond, FromThird, FromFourth, FromFifth, FromSixth, InSlots}
 use Rattle.sch_asm.specs.declared.routine.Routine.TheVariants.{End, Stop, Put, PutFixnum, FillWords, FillBytes, PutValue, NewVector, NewString, NewList}
 use Rattle.sch_asm.specs.Routines.{label_of}
-use Rattle.sch_asm.specs.Items.{AreItems, AreKnown, AreOwn, IsEachOnce, is_among, is_routine, labels_in, uses_in, word_uses}
+use Rattle.sch_asm.specs.Items.{AreItems, AreKnown, AreOwn, IsEachOnce, is_inner, is_routine, labels_in, uses_in, word_uses}
 use Rattle.sch_asm.specs.Codes.{item_size, text_size}
 use Rattle.sch_jumps.specs.declared.piece.Piece.{Piece}
 use Rattle.sch_jumps.specs.declared.piece.Piece.TheVariants as piece
@@ -48,14 +52,14 @@ size_bound (i ∷ is) = let h = size_small i in let k = size_bound is in omega a
 
 -- ---- labels that stand
 
-among_by : (m l n : ℕ) (ms : List ℕ) (t : Bool) → (m == l) ≡ t → m < n → (IsTrue (is_among ms l) → l < n) → IsTrue (t || is_among ms l) → l < n
-among_by m l n ms true t lt h e = let same = eqb-true m l t in subst (λ k. k < n) same lt
+among_by : (m l n : ℕ) (ms : List ℕ) (t : Bool) → (l == m) ≡ t → m < n → (IsTrue (has l ms) → l < n) → IsTrue (t || has l ms) → l < n
+among_by m l n ms true t lt h e = let same = eqb-true l m t in subst (λ k. k < n) (sym same) lt
 among_by m l n ms false t lt h e = h e
 
 -- a label that is among those that stand is below
-pub among_below : (is : List Item) (l n : ℕ) → StandBelow n is → IsTrue (is_among (labels_in is) l) → l < n
+pub among_below : (is : List Item) (l n : ℕ) → StandBelow n is → IsTrue (has l (labels_in is)) → l < n
 among_below [] l n h e = absurd cc
-among_below (Label m ∷ is) l n h e = among_by m l n (labels_in is) (m == l) refl h.0 (among_below is l n h.1) e
+among_below (Label m ∷ is) l n h e = among_by m l n (labels_in is) (l == m) refl h.0 (among_below is l n h.1) e
 among_below (Plain i ∷ is) l n h e = among_below is l n h.1 e
 among_below (Jump m ∷ is) l n h e = among_below is l n h.1 e
 among_below (JumpIf c m ∷ is) l n h e = among_below is l n h.1 e
@@ -191,7 +195,7 @@ absent_append l (piece.Bytes n ∷ ps) qs h k = absent_append l ps qs h k
 absent_append l (piece.Label m ∷ ps) qs h k = (h.0, absent_append l ps qs h.1 k)
 absent_append l (piece.Jump n m ∷ ps) qs h k = absent_append l ps qs h k
 
-absent_above : (l : ℕ) (is : List Item) → StandBelow 1024 is → 1024 ≤ l → Absent l (skeleton is)
+absent_above : (l : ℕ) (is : List Item) → StandBelow FIRST_LABEL is → FIRST_LABEL ≤ l → Absent l (skeleton is)
 absent_above l [] h le = tt
 absent_above l (Label m ∷ is) h le = (λ e. omega (arith, h.0, le, e), absent_above l is h.1 le)
 absent_above l (Plain i ∷ is) h le = absent_above l is h.1 le
@@ -203,7 +207,7 @@ absent_above l (StoreWord a r ∷ is) h le = absent_above l is h.1 le
 absent_above l (Mark m ∷ is) h le = absent_above l is h.1 le
 
 -- a program's own labels are none of the routines'
-once_append : (xs ys : List Item) → Once (skeleton xs) → Once (skeleton ys) → AllByRecursion (λ l. 1024 ≤ l) (labels_in xs) → StandBelow 1024 ys → Once (skeleton xs ++ skeleton ys)
+once_append : (xs ys : List Item) → Once (skeleton xs) → Once (skeleton ys) → AllByRecursion (λ l. FIRST_LABEL ≤ l) (labels_in xs) → StandBelow FIRST_LABEL ys → Once (skeleton xs ++ skeleton ys)
 once_append [] ys h k own low = k
 once_append (Label m ∷ xs) ys h k own low = (absent_append m (skeleton xs) (skeleton ys) h.0 (absent_above m ys low own.0), once_append xs ys h.1 k own.1 low)
 once_append (Plain i ∷ xs) ys h k own low = once_append xs ys h k own low
@@ -215,7 +219,7 @@ once_append (StoreWord a r ∷ xs) ys h k own low = once_append xs ys h k own lo
 once_append (Mark m ∷ xs) ys h k own low = once_append xs ys h k own low
 
 -- No label stands twice in the items of a program and of routines.
-pub once_in_both : (xs ys : List Item) → IsEachOnce (labels_in xs) → IsEachOnce (labels_in ys) → AllByRecursion (λ l. 1024 ≤ l) (labels_in xs) → StandBelow 1024 ys → Once (skeleton (xs ++ ys))
+pub once_in_both : (xs ys : List Item) → IsEachOnce (labels_in xs) → IsEachOnce (labels_in ys) → AllByRecursion (λ l. FIRST_LABEL ≤ l) (labels_in xs) → StandBelow FIRST_LABEL ys → Once (skeleton (xs ++ ys))
 once_in_both xs ys once once' own low = subst Once (sym (map-append piece_of xs ys)) (once_append xs ys (once_by xs once) (once_by ys once') own low)
 
 -- A table that has room for all pieces has room for each label that stands.
@@ -263,44 +267,39 @@ below_anywhere t n some h k =
 -- ---- all labels that are used have a place in the table
 
 -- a list of known labels
-known_below : (xs ys : List Item) (n : ℕ) → ((k : Routine) → IsTrue (is_among (labels_in ys) (label_of k))) → StandBelow n xs → StandBelow n ys → (l : ℕ) → IsTrue (is_routine l || is_among (labels_in xs) l) → l < n
+known_below : (xs ys : List Item) (n : ℕ) → ((k : Routine) → IsTrue (has (label_of k) (labels_in ys))) → StandBelow n xs → StandBelow n ys → (l : ℕ) → IsTrue (is_routine l || has l (labels_in xs)) → l < n
 known_below xs ys n complete h k l e = by (is_routine l) refl e
   where
-    by : (t : Bool) → is_routine l ≡ t → IsTrue (t || is_among (labels_in xs) l) → l < n
+    by : (t : Bool) → is_routine l ≡ t → IsTrue (t || has l (labels_in xs)) → l < n
     by true t e =
         let r = routine_at l (routine_low l t) in
-        among_below ys l n k (subst (λ m. IsTrue (is_among (labels_in ys) m)) r.1 (complete r.0))
+        among_below ys l n k (subst (λ m. IsTrue (has m (labels_in ys))) r.1 (complete r.0))
     by false t e = among_below xs l n h e
 
-pub uses_known : (xs ys : List Item) (ws : List Word) (n : ℕ) → ((k : Routine) → IsTrue (is_among (labels_in ys) (label_of k))) → StandBelow n xs → StandBelow n ys → AreKnown xs ws → UseBelow n xs × WordsBelow n ws
+pub uses_known : (xs ys : List Item) (ws : List Word) (n : ℕ) → ((k : Routine) → IsTrue (has (label_of k) (labels_in ys))) → StandBelow n xs → StandBelow n ys → AreKnown xs ws → UseBelow n xs × WordsBelow n ws
 uses_known xs ys ws n complete h k known =
-    let all = all_by (λ l. IsTrue (is_routine l || is_among (labels_in xs) l)) (λ l. l < n) (known_below xs ys n complete h k) (uses_in xs ++ word_uses ws) (recursion_from_All _ (uses_in xs ++ word_uses ws) known) in
+    let all = all_by (λ l. IsTrue (is_routine l || has l (labels_in xs))) (λ l. l < n) (known_below xs ys n complete h k) (uses_in xs ++ word_uses ws) (recursion_from_All _ (uses_in xs ++ word_uses ws) known) in
     (use_below xs n (front_of (λ l. l < n) (uses_in xs) (word_uses ws) all), words_below ws n (back_of (λ l. l < n) (uses_in xs) (word_uses ws) all))
 
-low_label : (l : ℕ) → IsTrue (is_routine l || (nat_le 64 l && nat_lt l 1024)) → l < 1024
+low_label : (l : ℕ) → IsTrue (is_routine l || is_inner l) → l < FIRST_LABEL
 low_label l e = grind (arith, nat_tests)
 
--- the labels of routines are below 1,024
-pub routines_low : (ys : List Item) → All (λ l. IsTrue (is_routine l || (nat_le 64 l && nat_lt l 1024))) (labels_in ys) → StandBelow 1024 ys
-routines_low ys h = stand_by ys 1024 (all_by (λ l. IsTrue (is_routine l || (nat_le 64 l && nat_lt l 1024))) (λ l. l < 1024) low_label (labels_in ys) (recursion_from_All _ (labels_in ys) h))
+-- the labels of routines are below those of a program
+pub routines_low : (ys : List Item) → All (λ l. IsTrue (is_routine l || is_inner l)) (labels_in ys) → StandBelow FIRST_LABEL ys
+routines_low ys h = stand_by ys FIRST_LABEL (all_by (λ l. IsTrue (is_routine l || is_inner l)) (λ l. l < FIRST_LABEL) low_label (labels_in ys) (recursion_from_All _ (labels_in ys) h))
 
-pub own_high : (xs : List Item) → AreOwn xs → AllByRecursion (λ l. 1024 ≤ l) (labels_in xs)
+pub own_high : (xs : List Item) → AreOwn xs → AllByRecursion (λ l. FIRST_LABEL ≤ l) (labels_in xs)
 own_high xs h = recursion_from_All _ (labels_in xs) h
 
 -- ---- a list without repeats, by a test
 
-abbrev pub repeats : List ℕ → Bool
-repeats [] = false
-repeats (l ∷ ls) = is_among ls l || repeats ls
+differs_from : (ls : List ℕ) (l : ℕ) → has l ls ≡ false → All (λ m. l ≢ m) ls
+differs_from [] l e k d lt same = absurd (omega arith)
+differs_from (m ∷ ms) l e zero d lt same = let p = or_parts (l == m) (has l ms) e in eqb-false l m p.0 same
+differs_from (m ∷ ms) l e (suc k) d lt same = let p = or_parts (l == m) (has l ms) e in differs_from ms l p.1 k d (omega arith) same
 
-among_none : (ls : List ℕ) (l : ℕ) → is_among ls l ≡ false → All (λ m. l ≢ m) ls
-among_none [] l e k d lt same = absurd (omega arith)
-among_none (m ∷ ms) l e zero d lt same = let p = or_parts (m == l) (is_among ms l) e in eqb-false m l p.0 (sym same)
-among_none (m ∷ ms) l e (suc k) d lt same = let p = or_parts (m == l) (is_among ms l) e in among_none ms l p.1 k d (omega arith) same
-
-pub each_once : (ls : List ℕ) → repeats ls ≡ false → IsEachOnce ls
-each_once [] e i j d lt within = absurd (omega arith)
-each_once (l ∷ ls) e zero zero d lt within = absurd (omega arith)
-each_once (l ∷ ls) e zero (suc j) d lt within = let p = or_parts (is_among ls l) (repeats ls) e in among_none ls l p.0 j d (omega arith)
-each_once (l ∷ ls) e (suc i) zero d lt within = absurd (omega arith)
-each_once (l ∷ ls) e (suc i) (suc j) d lt within = let p = or_parts (is_among ls l) (repeats ls) e in each_once ls p.1 i j d (omega arith) (omega arith)
+pub each_once : (ls : List ℕ) → without_repeats ls ≡ true → IsEachOnce ls
+each_once [] e = λ i j d lt within. absurd (omega arith)
+each_once (l ∷ ls) e =
+    let p = and_parts (not (has l ls)) (without_repeats ls) e in
+    AllPairs-cons (λ a b. a ≢ b) l ls (differs_from ls l (not_true (has l ls) p.0)) (each_once ls p.1)

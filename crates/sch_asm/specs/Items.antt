@@ -1,6 +1,7 @@
 -- What items and words keep before they have addresses.
-use Rattle.std.specs.Prelude.{◌≡◌, ◌≢◌, ℕ, ◌<◌, ◌≤◌, nat_le, nat_lt, List, [], ◌∷◌, ◌++◌, All, AllPairs, Bool, true, false, not, ◌&&◌, ◌||◌, ◌==◌, IsTrue}
+use Rattle.std.specs.Prelude.{◌≡◌, ◌≢◌, ℕ, ◌<◌, ◌≤◌, nat_le, nat_lt, List, [], ◌∷◌, ◌++◌, All, AllPairs, Bool, true, false, not, ◌&&◌, ◌||◌, IsTrue}
 use Rattle.sch_word.specs.runs.ProgramLayout.{data_address}
+use Rattle.sch_word.specs.trees.NumberSets.{has}
 use Rattle.sch_insn.specs.declared.insn.Arg.{Arg}
 use Rattle.sch_insn.specs.declared.insn.Arg.TheVariants.{Rip}
 use Rattle.sch_insn.specs.declared.insn.Insn.{Insn}
@@ -11,7 +12,8 @@ use Rattle.sch_asm.specs.declared.item.Item.TheVariants.{Label, Plain, Jump, Jum
 use Rattle.sch_asm.specs.declared.assembly.Word.{Word}
 use Rattle.sch_asm.specs.declared.assembly.Word.TheVariants.{Fixed, Address}
 use Rattle.sch_asm.specs.declared.routine.Routine.{Routine}
-use Rattle.sch_asm.specs.Routines.{label_of, routine_count}
+use Rattle.sch_asm.specs.declared.routine.TheConstants.{FIRST_LABEL}
+use Rattle.sch_asm.specs.Routines.{first_inner_label, label_of, routine_count}
 
 -- ---- one item
 
@@ -114,13 +116,13 @@ IsEachOnce ls = AllPairs (λ l m. l ≢ m) ls
 abbrev pub is_routine : ℕ → Bool
 is_routine l = nat_lt l routine_count
 
-abbrev pub is_among : List ℕ → ℕ → Bool
-is_among [] l = false
-is_among (m ∷ ms) l = (m == l) || is_among ms l
+-- Whether it is one inside a routine.
+abbrev pub is_inner : ℕ → Bool
+is_inner l = nat_le first_inner_label l && nat_lt l FIRST_LABEL
 
 -- Each label that is used is a routine's or stands in the items.
 abbrev pub AreKnown : List Item → List Word → Type 0
-AreKnown is ws = All (λ l. IsTrue (is_routine l || is_among (labels_in is) l)) (uses_in is ++ word_uses ws)
+AreKnown is ws = All (λ l. IsTrue (is_routine l || has l (labels_in is))) (uses_in is ++ word_uses ws)
 
 -- ---- marks
 
@@ -134,14 +136,14 @@ marks_arrive waiting (_ ∷ is) = marks_arrive false is
 
 -- ---- what `resolve` joins
 
--- The labels of a program's own items are 1,024 or more.
+-- The labels of a program's own items begin behind those of the routines.
 abbrev pub AreOwn : List Item → Type 0
-AreOwn is = All (λ l. 1024 ≤ l) (labels_in is)
+AreOwn is = All (λ l. FIRST_LABEL ≤ l) (labels_in is)
 
--- The items of the routines: every routine's label stands in them, and their other labels are from 64 to
--- 1,023. They have no data.
+-- The items of the routines: every routine's label stands in them, and their other labels are inside
+-- routines. They have no data.
 pub record AreRoutines (items : List Item) (words : List Word) (zeros : ℕ) : Type 0 where
-  pub complete : (k : Routine) → IsTrue (is_among (labels_in items) (label_of k))
-  pub others : All (λ l. IsTrue (is_routine l || (nat_le 64 l && nat_lt l 1024))) (labels_in items)
+  pub complete : (k : Routine) → IsTrue (has (label_of k) (labels_in items))
+  pub others : All (λ l. IsTrue (is_routine l || is_inner l)) (labels_in items)
   pub no_words : words ≡ []
   pub no_zeros : zeros ≡ 0

@@ -1,6 +1,7 @@
 -- The labels of the run-time routines.
-use Rattle.std.specs.Prelude.{ℕ, ◌+◌, ◌-◌}
+use Rattle.std.specs.Prelude.{ℕ, ◌+◌, ◌-◌, length}
 use Rattle.sch_word.specs.runs.Stops.{status_of}
+use Rattle.sch_word.specs.values.Registers.{argument_registers}
 use Rattle.sch_asm.specs.declared.routine.LeftOver.{LeftOver}
 use Rattle.sch_asm.specs.declared.routine.LeftOver.TheVariants.{FromFirst, FromSecond, FromThird, FromFourth, FromFifth, FromSixth, InSlots}
 use Rattle.sch_asm.specs.declared.routine.Routine.{Routine}
@@ -14,7 +15,7 @@ registers_before FromThird = 2
 registers_before FromFourth = 3
 registers_before FromFifth = 4
 registers_before FromSixth = 5
-registers_before InSlots = 6
+registers_before InSlots = length argument_registers
 
 -- A routine that exits has the label of its status modulo 64.
 abbrev pub label_of : Routine → ℕ
@@ -32,3 +33,7 @@ label_of (NewList which) = 18 + registers_before which
 -- Their labels are the numbers below this one.
 abbrev pub routine_count : ℕ
 routine_count = 25
+
+-- Labels inside routines are from this one on.
+abbrev pub first_inner_label : ℕ
+first_inner_label = 64

@@ -3,7 +3,10 @@
 ghost use Rattle.std.specs.Prelude.{◌≡◌};
 ghost use Rattle.sch_asm.specs.Routines.{label_of, registers_before};
 
-use sch_word::Stop;
+use sch_word::{ARGUMENT_REGISTERS, Stop};
+
+/// The labels of a program's own items are this one or more. Below it are those of the routines and those inside them.
+pub const FIRST_LABEL: u32 = 1024;
 
 /// Which operands are left over for a list, by where the first of them was handed over: from one of the six argument
 /// registers on, or in slots alone.
@@ -19,7 +22,7 @@ pub enum LeftOver {
 }
 
 impl LeftOver {
-    /// How many argument registers come before, from 0 to 6.
+    /// How many argument registers come before, from none to all of them.
     pub fn registers_before(self) -> u32
         ensures { result ≡ registers_before self }
     {
@@ -30,7 +33,7 @@ impl LeftOver {
             LeftOver::FromFourth => 3,
             LeftOver::FromFifth => 4,
             LeftOver::FromSixth => 5,
-            LeftOver::InSlots => 6,
+            LeftOver::InSlots => ARGUMENT_REGISTERS.len() as u32,
         }
     }
 }

@@ -9,8 +9,9 @@ use Rattle.sch_word.specs.runs.Computation.{Outcome, gives, stops, spent, State,
 use Rattle.sch_word.specs.runs.Runs.{seen, starting_state}
 use Rattle.sch_word.proofs.Similar.{Correspondence, Similar, SimilarOutcome, Same, similar_checked, similar_after}
 use Rattle.sch_word.proofs.SameStore.{Gives, Pairs, no_pairs, and_pair, pairs_length, pairs_append, SameEntry, checked_call_same}
-use Rattle.sch_assign.proofs.Worlds.{World, Cells, Grows, stays, on, Holds, holds_none, holds_plain, holds_boxed, boxes, rank, get_plain, get_boxed, set_holds, set_boxes, holds_append, boxes_append, get_grow, rank_grow}
+use Rattle.sch_assign.proofs.Worlds.{World, Cells, Grows, stays, on, Holds, holds_none, holds_plain, holds_boxed, boxes, rank, get_plain, get_boxed, set_holds, set_boxes, holds_append, boxes_append, rank_grow}
 use Rattle.sch_word.proofs.Lengths.{procedures_length}
+use Rattle.sch_word.proofs.facts.Lists.{get_grown}
 
 -- one after another, where both give the same value, with a promise on it
 pub similar_keeping : {S S' : Type 0} (L : Correspondence S S') {V U U' : Type 0} (Keep : V → Type 0) {Promise' : L.World → U → U' → Type 0} {w : L.World} {c : S → Outcome S V} {d : S' → Outcome S' V} {next : V → S → Outcome S U} {next' : V → S' → Outcome S' U'} →
@@ -32,10 +33,6 @@ holds_length : {w : World} {cs : Cells} → Holds w cs → length cs ≡ length 
 holds_length holds_none = refl
 holds_length (holds_plain v h) = ap suc (holds_length h)
 holds_length (holds_boxed c h) = ap suc (holds_length h)
-
-pub get_behind : (w r : World) (i : ℕ) → slice_get (w ++ r) (length w + i) ≡ slice_get r i
-get_behind [] r i = let q : 0 + i ≡ i = omega arith in rw q refl
-get_behind (x ∷ w) r i = let q : suc (length w) + i ≡ suc (length w + i) = omega arith in rw q (get_behind w r i)
 
 pub rank_behind : (w r : World) (i : ℕ) → rank (w ++ r) (length w + i) ≡ boxed_count w + rank r i
 unfolding boxed_count
@@ -99,7 +96,7 @@ module _ {P Q : Type 0} (Becomes : World → P → Q → Type 0) (grow : (w w' :
   pub same_plain : {w : World} {i : ℕ} {v : Value} → slice_get w i ≡ Some (Some v) → DoesSame w (read_cell i) (gives v)
   same_plain {w} {i} {v} e = record {
     from = λ w0 g s t r.
-        let e0 : slice_get w0 i ≡ Some (Some v) = rw g.is (get_grow w g.more i (Some v) e) in
+        let e0 : slice_get w0 i ≡ Some (Some v) = rw g.is (get_grown w g.more i (Some v) e) in
         rw (get_plain r.holds i e0) (w0, t, v, stays w0, r, refl, refl);
   }
 
@@ -111,7 +108,7 @@ module _ {P Q : Type 0} (Becomes : World → P → Q → Type 0) (grow : (w w' :
   pub same_read : {w : World} {i j : ℕ} → slice_get w i ≡ Some None → j ≡ rank w i → DoesSame w (read_cell i) (read_cell j)
   same_read {w} {i} {j} e q = record {
     from = λ w0 g s t r.
-        let e0 : slice_get w0 i ≡ Some None = rw g.is (get_grow w g.more i None e) in
+        let e0 : slice_get w0 i ≡ Some None = rw g.is (get_grown w g.more i None e) in
         let q0 : j ≡ rank w0 i = q ∙ rw g.is (rank_grow w g.more i None e) in
         let c : slice_get s.cells i ≡ slice_get t.cells j = get_boxed r.holds i e0 ∙ rw (r.is, q0) refl in
         rw (← c) (set_or_stop_same w0 (slice_get s.cells i) s t r);
@@ -120,7 +117,7 @@ module _ {P Q : Type 0} (Becomes : World → P → Q → Type 0) (grow : (w w' :
   pub same_write : {w : World} {i j : ℕ} (v : Value) → slice_get w i ≡ Some None → j ≡ rank w i → DoesSame w (write_cell i v) (write_cell j v)
   same_write {w} {i} {j} v e q = record {
     from = λ w0 g s t r.
-        let e0 : slice_get w0 i ≡ Some None = rw g.is (get_grow w g.more i None e) in
+        let e0 : slice_get w0 i ≡ Some None = rw g.is (get_grown w g.more i None e) in
         let q0 : j ≡ rank w0 i = q ∙ rw g.is (rank_grow w g.more i None e) in
         (w0, _, unspecified, stays w0, record { qs = r.qs; holds = set_holds r.holds i (Some v) e0; pairs = r.pairs; is = rw (r.is, q0, set_boxes r.holds i (Some v) e0) refl }, refl, refl);
   }

@@ -4,13 +4,13 @@ use Rattle.std.specs.Prelude.{IsTrue, ◌||◌, ◌&&◌, not, nat_eq, nat_lt}
 use Rattle.std.proofs.lemmas.Bool.{eqb-true, ltb-true}
 use Rattle.sch_word.proofs.facts.Booleans.{not_true, or_left, or_right, neither, not_left}
 use Rattle.sch_word.proofs.facts.NumberSets.{has_append}
-use Rattle.sch_word.specs.trees.NumberSets.{has}
+use Rattle.sch_word.specs.trees.NumberSets.{has, without_repeats}
 use Rattle.sch_word.specs.trees.Bindings.{numbers, scope_with}
 use Rattle.sch_word.specs.values.Literals.{count_literals}
 use Rattle.sch_word.specs.trees.Shape.{names_known, well_formed}
 use Rattle.sch_word.proofs.Shaped.{parts}
 use Rattle.sch_cells.specs.Tree.{Tree, Trees, Lambdas, Source, constant, literal, variable, global, set_variable, set_global, define, branch, sequence, bind, fix, letrec, lambda, call, operation, new_cells, cell_get, cell_set, no_trees, and_tree, no_lambdas, and_lambda, count, count_lambdas}
-use Rattle.sch_cells.specs.Variables.{assigns, assigns_lambdas, bound, bound_each, bound_lambdas, closed, closed_each, closed_lambdas, distinct, below}
+use Rattle.sch_cells.specs.Variables.{assigns, assigns_lambdas, bound, bound_each, bound_lambdas, closed, closed_each, closed_lambdas, below}
 use Rattle.sch_cells.specs.Measures.{over, over_each, over_lambdas, shape, every}
 use Rattle.sch_cells.specs.Valid.{has_form, none_assigned, fix_unassigned, scoped, formed, bound_of}
 use Rattle.sch_cells.specs.Clear.{In, Apart}
@@ -89,7 +89,7 @@ module _ (has_cell : ℕ → Bool) (n : ℕ) where
   -- A part of a program that binds these variables and gives cells by f: the variables are all different, not
   -- in scope, below n, and get their cells by f.
   record Fine (S bs : List ℕ) (f : ℕ → Bool) : Type 0 where
-    different : IsTrue (distinct bs)
+    different : IsTrue (without_repeats bs)
     apart : Apart bs S
     low : (y : ℕ) → In y bs → y < n
     local : (y : ℕ) → In y bs → has_cell y ≡ f y
@@ -288,8 +288,8 @@ module _ (has_cell : ℕ → Bool) (n : ℕ) where
 -- a valid program without cells is right for its conversion
 pub program_right : (has_cell : ℕ → Bool) (p : Source) → ((y : ℕ) → has_cell y ≡ celled_in p y) → IsTrue (scoped p) → IsTrue (formed false p) → IsRight has_cell p.variables p
 program_right has_cell p same s f =
-    let q = parts (distinct (bound_of p) && below p.variables (bound_of p)) (closed_lambdas p.library [] && closed_each p.forms []) s in
-    let d = parts (distinct (bound_of p)) (below p.variables (bound_of p)) q.0 in
+    let q = parts (without_repeats (bound_of p) && below p.variables (bound_of p)) (closed_lambdas p.library [] && closed_each p.forms []) s in
+    let d = parts (without_repeats (bound_of p)) (below p.variables (bound_of p)) q.0 in
     let c = parts (closed_lambdas p.library []) (closed_each p.forms []) q.1 in
     let a = parts (every (λ e. has_form false (shape e)) p && every (λ e. names_known (length p.statics.symbols) (count_literals p.statics.literals) (length p.statics.globals) (shape e)) p) (every (λ e. well_formed (shape e)) p && every fix_unassigned p) f in
     let b = parts (every (λ e. has_form false (shape e)) p) (every (λ e. names_known (length p.statics.symbols) (count_literals p.statics.literals) (length p.statics.globals) (shape e)) p) a.0 in

@@ -1,13 +1,13 @@
 -- What loops have made and have left.
-use Rattle.std.proofs.Common.{◌≡◌, ℕ, zero, suc, ◌+◌, ◌-◌, ◌<◌, ◌≤◌, Bool, true, false, List, [], ◌∷◌, ◌++◌, length, map, drop, get_or, None, refl, sym, ap, ◌∙◌, subst, arith, add-one, append_assoc}
+use Rattle.std.proofs.Common.{◌≡◌, ℕ, zero, suc, ◌+◌, ◌-◌, ◌<◌, ◌≤◌, Bool, true, false, List, [], ◌∷◌, ◌++◌, length, drop, get_or, None, refl, sym, ap, ◌∙◌, subst, arith, add-one, append_assoc}
 use Rattle.std.specs.Prelude.{slice_set}
 use Rattle.sch_cells.specs.declared.tree.Exp.{Exp}
 use Rattle.sch_cells.specs.declared.tree.Lambda.{Lambda}
 use Rattle.sch_cells.specs.declared.tree.NewCell.{NewCell}
 use Rattle.sch_cells.specs.Tree as plain
-use Rattle.sch_cells.specs.Tree.{Tree, Trees, Lambdas, cell_set, variable, and_tree, no_trees, and_lambda, no_lambdas, trees, lambdas}
-use Rattle.sch_cells.specs.View.{tree, trees_of, lambdas_of, function}
-use Rattle.sch_cells.proofs.Rows.{trees_of_list, lambdas_of_list}
+use Rattle.sch_cells.specs.Tree.{Tree, Trees, Lambdas, cell_set, variable, and_tree, no_trees, and_lambda, no_lambdas}
+use Rattle.sch_cells.specs.View.{tree, trees_of, lambdas_of}
+use Rattle.sch_cells.proofs.Rows.{trees_of_list, lambdas_of_list, left, left_lambdas, and_then, and_then_lambda, trees_onto, lambdas_onto}
 use Rattle.sch_word.specs.trees.Walk.{onto}
 use Rattle.sch_word.proofs.Walking.{end_items, next_item, next_left, onto_more}
 use Rattle.sch_assign.specs.Converted.{and_cell, cells_for, empty_cells, filling, converted, converted_each, converted_lambdas}
@@ -50,33 +50,6 @@ marked_size (b ∷ bs) zero = refl
 marked_size (b ∷ bs) (suc x) = ap suc (marked_size bs x)
 
 -- ## Lists of trees
-
-abbrev pub and_then : Exp → Trees → Trees
-and_then q rest = and_tree (tree q) rest
-
-abbrev pub and_then_lambda : Lambda → Lambdas → Lambdas
-and_then_lambda q rest = and_lambda q.name q.first q.formals q.rest (tree q.body) rest
-
-onto_trees : (qs : List Exp) → trees (map tree qs) ≡ onto and_then qs no_trees
-onto_trees [] = refl
-onto_trees (q ∷ qs) = ap (and_tree (tree q)) (onto_trees qs)
-
-trees_onto : (qs : List Exp) → trees_of qs ≡ onto and_then qs no_trees
-trees_onto qs = trees_of_list qs ∙ onto_trees qs
-
-onto_lambdas : (qs : List Lambda) → lambdas (map function qs) ≡ onto and_then_lambda qs no_lambdas
-onto_lambdas [] = refl
-onto_lambdas (q ∷ qs) = ap (and_then_lambda q) (onto_lambdas qs)
-
-lambdas_onto : (qs : List Lambda) → lambdas_of qs ≡ onto and_then_lambda qs no_lambdas
-lambdas_onto qs = lambdas_of_list qs ∙ onto_lambdas qs
-
--- what is left of a list, as trees
-abbrev pub left : List Exp → Trees
-left es = trees (map tree es)
-
-abbrev pub left_lambdas : List Lambda → Lambdas
-left_lambdas ls = lambdas (map function ls)
 
 pub fill_step : (n : ℕ) (all : List Exp) (q : Exp) (r : Trees) (x m i : ℕ) (e : Tree) → i < m → tree q ≡ cell_set (x + i + n) (variable (x + i)) → onto and_then all (filling n (x + i) (m - i) e) ≡ r →
     onto and_then (all ++ q ∷ []) (filling n (x + (i + 1)) (m - (i + 1)) e) ≡ r

@@ -24,11 +24,12 @@ use Rattle.sch_cells.specs.BoxedMeaning.{with_cells, contents}
 use Rattle.sch_word.specs.runs.Orders.{Orders, order_at}
 use Rattle.sch_assign.specs.Converted.{cells_for, empty_cells, wrapped, reading, filling, converted, converted_each, converted_lambdas, converted_source, Agree, AllAre, Low, Right, RightEach, RightLambdas}
 use Rattle.sch_assign.proofs.kept.FreeMoved.{AllLow, low_with, count_lambdas_same, lambda_free}
-use Rattle.sch_assign.proofs.Worlds.{World, Grows, stays, on, Holds, holds_none, holds_plain, holds_boxed, boxes, rank, get_grow, rank_grow}
+use Rattle.sch_assign.proofs.Worlds.{World, Grows, stays, on, Holds, holds_none, holds_plain, holds_boxed, boxes, rank, rank_grow}
 use Rattle.sch_assign.proofs.Lookups.{Apart, Where, inside, outside, where_is, in_outside, in_group, outside_variables, inside_variables, numbers_get, one_more_if, count_before, charges_same, outside_cells, inside_cells, and_content, chosen, contents_are, chosen_length, all_next, all_first}
 use Rattle.sch_assign.proofs.Boxes as boxes_lib
-use Rattle.sch_assign.proofs.Boxes.{similar_keeping, boxed_count, get_behind, rank_behind, Made, Fixed}
+use Rattle.sch_assign.proofs.Boxes.{similar_keeping, boxed_count, rank_behind, Made, Fixed}
 use Rattle.sch_word.proofs.Lengths.{some_length, unset_length, numbers_length}
+use Rattle.sch_word.proofs.facts.Lists.{get_behind, get_grown}
 
 -- one variable on both sides: it keeps its value for ever, or its cell is in the other variable
 data Look (w : World) : Bool → Option ℕ → Value → Value → Type 0 where
@@ -36,8 +37,8 @@ data Look (w : World) : Bool → Option ℕ → Value → Value → Type 0 where
   boxed : {i j : ℕ} {v : Value} → slice_get w i ≡ Some None → j ≡ rank w i → Look w true (Some i) v (cell j)
 
 look_grow : {b : Bool} {o : Option ℕ} {v u : Value} (w w' : World) → Grows w w' → Look w b o v u → Look w' b o v u
-look_grow w w' g (plain {i} {v} e) = plain (rw g.is (get_grow w g.more i (Some v) e))
-look_grow w w' g (boxed {i} {j} e r) = boxed (rw g.is (get_grow w g.more i None e)) (r ∙ rw g.is (rank_grow w g.more i None e))
+look_grow w w' g (plain {i} {v} e) = plain (rw g.is (get_grown w g.more i (Some v) e))
+look_grow w w' g (boxed {i} {j} e r) = boxed (rw g.is (get_grown w g.more i None e)) (r ∙ rw g.is (rank_grow w g.more i None e))
 
 look_to : {w : World} {b b' : Bool} {o o' : Option ℕ} {v v' u u' : Value} → b' ≡ b → o' ≡ o → v' ≡ v → u' ≡ u → Look w b o v u → Look w b' o' v' u'
 look_to a e f g h = rw (a, e, f, g) h

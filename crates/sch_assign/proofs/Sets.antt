@@ -2,10 +2,10 @@
 use Rattle.std.proofs.Common.{◌≡◌, ℕ, zero, suc, Bool, true, false, List, [], ◌∷◌, map, refl, sym, ap, ◌∙◌}
 use Rattle.std.specs.Prelude.{IsTrue, ◌||◌, ◌&&◌, not, nat_eq}
 use Rattle.std.proofs.lemmas.Bool.{eqb-true}
-use Rattle.sch_word.specs.trees.NumberSets.{has, unless, insert, union}
+use Rattle.sch_word.specs.trees.NumberSets.{has, unless, insert, union, without_repeats}
 use Rattle.sch_word.specs.trees.Bindings.{numbers, remove, without}
 use Rattle.sch_word.proofs.Shaped.{both_true}
-use Rattle.sch_cells.specs.Variables.{without_each, distinct}
+use Rattle.sch_cells.specs.Variables.{without_each}
 use Rattle.sch_word.proofs.facts.Booleans.{or_swap}
 
 -- a set without those of which something holds
@@ -90,14 +90,14 @@ drop_map p f (x ∷ xs) = rw (drop_map p f xs) (go (p (f x)))
 
 -- ## No repeats
 
-distinct_insert : (x : ℕ) (xs : List ℕ) → IsTrue (distinct xs) → IsTrue (distinct (insert x xs))
+distinct_insert : (x : ℕ) (xs : List ℕ) → IsTrue (without_repeats xs) → IsTrue (without_repeats (insert x xs))
 distinct_insert x xs h = go (has x xs) refl
   where
-    go : (b : Bool) → has x xs ≡ b → IsTrue (distinct (unless b x xs))
+    go : (b : Bool) → has x xs ≡ b → IsTrue (without_repeats (unless b x xs))
     go true e = h
     go false e = both_true (ap not e) h
 
-pub distinct_union : (xs ys : List ℕ) → IsTrue (distinct ys) → IsTrue (distinct (union xs ys))
+pub distinct_union : (xs ys : List ℕ) → IsTrue (without_repeats ys) → IsTrue (without_repeats (union xs ys))
 distinct_union [] ys h = h
 distinct_union (x ∷ xs) ys h = distinct_insert x (union xs ys) (distinct_union xs ys h)
 
@@ -110,30 +110,30 @@ fewer p y (x ∷ xs) h = go (p x) (nat_eq y x) refl (fewer p y xs)
     go true false d k = let q : (false || has y xs) ≡ false = rw d at h in k q
     go false false d k = let q : (false || has y xs) ≡ false = rw d at h in rw d (k q)
 
-pub distinct_drop : (p : ℕ → Bool) (xs : List ℕ) → IsTrue (distinct xs) → IsTrue (distinct (drop p xs))
+pub distinct_drop : (p : ℕ → Bool) (xs : List ℕ) → IsTrue (without_repeats xs) → IsTrue (without_repeats (drop p xs))
 distinct_drop p [] h = refl
 distinct_drop p (x ∷ xs) h = go (p x) (first (has x xs) refl) (distinct_drop p xs (rest (has x xs) h))
   where
     first : (b : Bool) → has x xs ≡ b → b ≡ false
-    first true e = absurd (let q : (not true && distinct xs) ≡ true = rw e at h in cc)
+    first true e = absurd (let q : (not true && without_repeats xs) ≡ true = rw e at h in cc)
     first false e = refl
 
-    rest : (b : Bool) → IsTrue (not b && distinct xs) → IsTrue (distinct xs)
+    rest : (b : Bool) → IsTrue (not b && without_repeats xs) → IsTrue (without_repeats xs)
     rest true k = absurd (cc)
     rest false k = k
 
-    go : (b : Bool) → has x xs ≡ false → IsTrue (distinct (drop p xs)) → IsTrue (distinct (unless b x (drop p xs)))
+    go : (b : Bool) → has x xs ≡ false → IsTrue (without_repeats (drop p xs)) → IsTrue (without_repeats (unless b x (drop p xs)))
     go true e k = k
     go false e k = both_true (ap not (fewer p x xs e)) k
 
-pub union_nothing : (xs : List ℕ) → IsTrue (distinct xs) → union xs [] ≡ xs
+pub union_nothing : (xs : List ℕ) → IsTrue (without_repeats xs) → union xs [] ≡ xs
 union_nothing [] h = refl
 union_nothing (x ∷ xs) h = rw (union_nothing xs (rest (has x xs) h)) (go (has x xs) refl)
   where
-    rest : (b : Bool) → IsTrue (not b && distinct xs) → IsTrue (distinct xs)
+    rest : (b : Bool) → IsTrue (not b && without_repeats xs) → IsTrue (without_repeats xs)
     rest true k = absurd (cc)
     rest false k = k
 
     go : (b : Bool) → has x xs ≡ b → unless (has x xs) x xs ≡ x ∷ xs
-    go true e = absurd (let q : (not true && distinct xs) ≡ true = rw e at h in cc)
+    go true e = absurd (let q : (not true && without_repeats xs) ≡ true = rw e at h in cc)
     go false e = rw e refl

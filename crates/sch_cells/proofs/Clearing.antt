@@ -2,11 +2,11 @@
 use Rattle.std.proofs.Common.{◌≡◌, ℕ, zero, suc, Bool, true, false, List, [], ◌∷◌, ◌++◌, refl, sym, ap, ◌∙◌, subst}
 use Rattle.std.specs.Prelude.{IsTrue, ◌&&◌, ◌||◌, not, nat_eq}
 use Rattle.std.proofs.lemmas.Bool.{eqb-true}
-use Rattle.sch_word.specs.trees.NumberSets.{has}
-use Rattle.sch_word.proofs.Shaped.{parts}
+use Rattle.sch_word.specs.trees.NumberSets.{has, without_repeats}
+use Rattle.sch_word.proofs.Shaped.{parts, both_true}
 use Rattle.sch_cells.specs.Tree.{Tree, Trees, Lambdas, Source, constant, literal, variable, global, set_variable, set_global, define, branch, sequence, bind, fix, letrec, lambda, call, operation, new_cells, cell_get, cell_set, no_trees, and_tree, no_lambdas, and_lambda, count, count_lambdas}
 use Rattle.sch_word.specs.trees.Bindings.{numbers, scope_with}
-use Rattle.sch_cells.specs.Variables.{scope_of, cells_bound, cells_used, all_in, bound, bound_each, bound_lambdas, closed, closed_each, closed_lambdas, distinct, below}
+use Rattle.sch_cells.specs.Variables.{scope_of, cells_bound, cells_used, all_in, bound, bound_each, bound_lambdas, closed, closed_each, closed_lambdas, below}
 use Rattle.sch_cells.specs.Valid.{scoped, bound_of}
 use Rattle.sch_cells.specs.Clear.{In, Apart, Clear, ClearEach, ClearLambdas}
 use Rattle.sch_word.proofs.facts.NumberSets.{has_append}
@@ -48,37 +48,33 @@ list_has y (z ∷ zs) S p q = list_has y zs (z ∷ S) (not_right (nat_eq y z) _ 
 -- ## Lists without repeats
 
 pub record Parts (xs ys : List ℕ) : Type 0 where
-  pub left : IsTrue (distinct xs)
-  pub right : IsTrue (distinct ys)
+  pub left : IsTrue (without_repeats xs)
+  pub right : IsTrue (without_repeats ys)
   pub apart : Apart xs ys
 
-pub distinct_parts : (xs ys : List ℕ) → IsTrue (distinct (xs ++ ys)) → Parts xs ys
+pub distinct_parts : (xs ys : List ℕ) → IsTrue (without_repeats (xs ++ ys)) → Parts xs ys
 distinct_parts [] ys h = record { left = refl; right = h; apart = record { at = λ y i. absurd (cc) } }
 distinct_parts (x ∷ xs) ys h =
-    let p = parts (not (has x (xs ++ ys))) (distinct (xs ++ ys)) h in
+    let p = parts (not (has x (xs ++ ys))) (without_repeats (xs ++ ys)) h in
     let d = distinct_parts xs ys p.1 in
     let f : (has x xs || has x ys) ≡ false = sym (has_append x xs ys) ∙ not_true (has x (xs ++ ys)) p.0 in
     let n : IsTrue (not (has x xs)) = ap not (not_left (has x xs) (has x ys) f) in
-    record { left = both n d.left; right = d.right; apart = record { at = λ y i. go y (nat_eq y x) refl i (not_right (has x xs) (has x ys) f) (d.apart.at y) } }
+    record { left = both_true n d.left; right = d.right; apart = record { at = λ y i. go y (nat_eq y x) refl i (not_right (has x xs) (has x ys) f) (d.apart.at y) } }
   where
-    both : {a b : Bool} → IsTrue a → IsTrue b → IsTrue (a && b)
-    both {a = true} p q = q
-    both {a = false} p q = p
-
     go : (y : ℕ) (b : Bool) → nat_eq y x ≡ b → (nat_eq y x || has y xs) ≡ true → has x ys ≡ false → (In y xs → has y ys ≡ false) → has y ys ≡ false
     go y true e i f k = subst (λ z. has z ys ≡ false) (sym (eqb-true y x e)) f
     go y false e i f k = k (let j : (false || has y xs) ≡ true = rw e at i in j)
 
-pub distinct_left : (xs ys : List ℕ) → IsTrue (distinct (xs ++ ys)) → IsTrue (distinct xs)
+pub distinct_left : (xs ys : List ℕ) → IsTrue (without_repeats (xs ++ ys)) → IsTrue (without_repeats xs)
 distinct_left xs ys h = (distinct_parts xs ys h).left
 
-pub distinct_right : (xs ys : List ℕ) → IsTrue (distinct (xs ++ ys)) → IsTrue (distinct ys)
+pub distinct_right : (xs ys : List ℕ) → IsTrue (without_repeats (xs ++ ys)) → IsTrue (without_repeats ys)
 distinct_right xs ys h = (distinct_parts xs ys h).right
 
 -- ## Trees
 
 mutual
-  pub clear : (e : Tree) (S : List ℕ) → IsTrue (closed e S) → IsTrue (distinct (bound e)) → Apart (bound e) S → Clear e S
+  pub clear : (e : Tree) (S : List ℕ) → IsTrue (closed e S) → IsTrue (without_repeats (bound e)) → Apart (bound e) S → Clear e S
   clear (constant c) S k d a = tt
   clear (literal n) S k d a = tt
   clear (variable x) S k d a = k
@@ -144,14 +140,14 @@ mutual
   clear (cell_get x) S k d a = k
   clear (cell_set x e) S k d a = let p = parts (has x S) (closed e S) k in (p.0, clear e S p.1 d a)
 
-  pub clear_each : (es : Trees) (S : List ℕ) → IsTrue (closed_each es S) → IsTrue (distinct (bound_each es)) → Apart (bound_each es) S → ClearEach es S
+  pub clear_each : (es : Trees) (S : List ℕ) → IsTrue (closed_each es S) → IsTrue (without_repeats (bound_each es)) → Apart (bound_each es) S → ClearEach es S
   clear_each no_trees S k d a = tt
   clear_each (and_tree e es) S k d a =
       let p = parts (closed e S) (closed_each es S) k in
       let s = distinct_parts (bound e) (bound_each es) d in
       (clear e S p.0 s.left (left_apart (bound e) (bound_each es) S a), clear_each es S p.1 s.right (right_apart (bound e) (bound_each es) S a))
 
-  pub clear_lambdas : (ls : Lambdas) (S : List ℕ) → IsTrue (closed_lambdas ls S) → IsTrue (distinct (bound_lambdas ls)) → Apart (bound_lambdas ls) S → ClearLambdas ls S
+  pub clear_lambdas : (ls : Lambdas) (S : List ℕ) → IsTrue (closed_lambdas ls S) → IsTrue (without_repeats (bound_lambdas ls)) → Apart (bound_lambdas ls) S → ClearLambdas ls S
   clear_lambdas no_lambdas S k d a = tt
   clear_lambdas (and_lambda name x m rest e ls) S k d a =
       let p = parts (closed e (scope_with x m S)) (closed_lambdas ls S) k in
@@ -172,8 +168,8 @@ nothing_apart xs = record { at = λ y i. refl }
 -- a valid program is clear
 pub program_clear : (p : Source) → IsTrue (scoped p) → ClearLambdas p.library [] × ClearEach p.forms []
 program_clear p h =
-    let q = parts (distinct (bound_of p) && below p.variables (bound_of p)) (closed_lambdas p.library [] && closed_each p.forms []) h in
-    let d = parts (distinct (bound_of p)) (below p.variables (bound_of p)) q.0 in
+    let q = parts (without_repeats (bound_of p) && below p.variables (bound_of p)) (closed_lambdas p.library [] && closed_each p.forms []) h in
+    let d = parts (without_repeats (bound_of p)) (below p.variables (bound_of p)) q.0 in
     let c = parts (closed_lambdas p.library []) (closed_each p.forms []) q.1 in
     let s = distinct_parts (bound_lambdas p.library) (bound_each p.forms) d.0 in
     (clear_lambdas p.library [] c.0 s.left (nothing_apart _), clear_each p.forms [] c.1 s.right (nothing_apart _))

@@ -4,7 +4,8 @@ use Rattle.std.proofs.Common.{◌≡◌, refl, true, false, [], ◌∷◌, List,
 use Rattle.std.specs.Prelude.{codes}
 use Rattle.std.specs.Fmt.{digits}
 use Rattle.sch_word.specs.runs.Runs.{Runs, Run}
-use Rattle.sch_cells.specs.Examples.{ends, assigned_formal, assigned_formal_boxed, unset_init, unset_init_boxed, recursive_inits, recursive_inits_boxed, even_odd, nested_lambdas, let_of}
+use Rattle.sch_word.specs.runs.WorkedRuns.{ends}
+use Rattle.sch_cells.specs.Examples.{assigned_formal, assigned_formal_boxed, unset_init, unset_init_boxed, recursive_inits, recursive_inits_boxed, even_odd, nested_lambdas, let_of}
 use Rattle.sch_cells.specs.UnboxedMeaning as unboxed
 use Rattle.sch_cells.specs.BoxedMeaning as boxed
 use Rattle.sch_cells.specs.Bodies.{bodies_of}

@@ -8,7 +8,8 @@ use Rattle.sch_word.specs.values.Literals.{no_literals}
 use Rattle.sch_word.specs.runs.Orders.{in_text_order}
 use Rattle.sch_word.specs.runs.Runs.{Run}
 use Rattle.sch_cells.specs.BoxedMeaning as boxed
-use Rattle.sch_cells.specs.Examples.{number, function, apply, new_cell, two, ends}
+use Rattle.sch_word.specs.runs.WorkedRuns.{ends}
+use Rattle.sch_cells.specs.Examples.{number, function, apply, new_cell, two}
 use Rattle.sch_cells.specs.Tree.{Tree, Source, constant, variable, set_variable, set_global, define, branch, sequence, bind, fix, letrec, new_cells, cell_get, cell_set, no_lambdas, and_lambda, trees}
 use Rattle.sch_cells.specs.UnboxedMeaning as unboxed
 

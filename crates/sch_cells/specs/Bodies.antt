@@ -3,6 +3,8 @@ use Rattle.std.specs.Prelude.{ℕ, zero, suc, ◌+◌, Bool, true, false, not, L
 use Rattle.sch_cells.specs.Tree.{Tree, Trees, Lambdas, Source, constant, literal, variable, global, set_variable, set_global, define, branch, sequence, bind, fix, letrec, lambda, call, operation, new_cells, cell_get, cell_set, no_trees, and_tree, no_lambdas, and_lambda, count, count_lambdas}
 use Rattle.sch_word.specs.trees.Bindings.{Bindings, bound_to, with_variables, without}
 use Rattle.sch_word.specs.trees.Shape.{Procedure}
+use Rattle.sch_word.specs.values.Options.{or_false}
+use Rattle.sch_word.specs.trees.VariableCounts.{one_unless, twice_if, three_each}
 use Rattle.sch_cells.specs.declared.tree.NewCell.{NewCell}
 use Rattle.sch_cells.specs.Variables.{free, assigns}
 
@@ -14,19 +16,11 @@ use Rattle.sch_cells.specs.Variables.{free, assigns}
 -- With its return address and its closure a body has two variables more.
 
 -- `once` tells of the body's own variables which of them count once
-abbrev pub once_or_not : Option Bool → Bool
-once_or_not (Some once) = once
-once_or_not None = false
-
 abbrev pub counts_nothing : Tree → (once : Bindings Bool) → Bool
 counts_nothing (constant c) once = true
 counts_nothing (literal n) once = true
-counts_nothing (variable x) once = once_or_not (bound_to x once)
+counts_nothing (variable x) once = or_false (bound_to x once)
 counts_nothing _ once = false
-
-abbrev pub one_unless : Bool → ℕ
-one_unless true = 0
-one_unless false = 1
 
 -- of the m variables from x on, which are not assigned
 abbrev pub unassigned : (x m : ℕ) → Tree → List Bool
@@ -37,17 +31,9 @@ abbrev pub all_same : ℕ → Bool → List Bool
 all_same zero b = []
 all_same (suc m) b = b ∷ all_same m b
 
-abbrev pub twice_if : Bool → ℕ
-twice_if true = 2
-twice_if false = 1
-
 abbrev pub bound_count : (x m : ℕ) → Tree → ℕ
 bound_count x zero e = 0
 bound_count x (suc m) e = twice_if (assigns e x) + bound_count (suc x) m e
-
-abbrev pub three_each : ℕ → ℕ
-three_each zero = 0
-three_each (suc m) = 3 + three_each m
 
 abbrev pub with_cells : List NewCell → Bindings Bool → Bindings Bool
 with_cells [] once = once

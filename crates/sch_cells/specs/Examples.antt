@@ -40,10 +40,6 @@ program variables sites forms = record {
   variables = variables;
 }
 
--- a run that ended, with what it took
-abbrev pub ends : (output : List ℕ) → (status entries charged : ℕ) → Run
-ends output status entries charged = record { output = output; entries = entries; charged = charged; answers = 0; end = ended status }
-
 -- ## Programs
 
 -- ((lambda (x) (set! x (+ x 1)) (%put x)) 4)

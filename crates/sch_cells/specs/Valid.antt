@@ -5,7 +5,8 @@ use Rattle.sch_word.specs.runs.Runs.{statics_valid, statics_in_range}
 use Rattle.sch_word.specs.trees.Shape as shapes
 use Rattle.sch_word.specs.trees.Shape.{Shape, names_known, constant_in_range, well_formed, fits, procedures_fit, sites_once, max_levels, max_variables}
 use Rattle.sch_cells.specs.Tree.{Tree, Trees, Lambdas, Source, fix, no_trees, and_tree, count_lambdas}
-use Rattle.sch_cells.specs.Variables.{assigns, assigns_lambdas, bound_each, bound_lambdas, closed_each, closed_lambdas, distinct, below}
+use Rattle.sch_word.specs.trees.NumberSets.{without_repeats}
+use Rattle.sch_cells.specs.Variables.{assigns, assigns_lambdas, bound_each, bound_lambdas, closed_each, closed_lambdas, below}
 use Rattle.sch_cells.specs.Bodies.{variables, procedures}
 use Rattle.sch_cells.specs.Measures.{shape, every, sites_of, levels_each, levels_lambdas}
 
@@ -17,7 +18,7 @@ bound_of p = bound_lambdas p.library ++ bound_each p.forms
 -- each variable has one number in the whole program, below the program's, and is bound where it is used
 abbrev pub scoped : Source → Bool
 scoped p =
-    (distinct (bound_of p) && below p.variables (bound_of p)) && (closed_lambdas p.library [] && closed_each p.forms [])
+    (without_repeats (bound_of p) && below p.variables (bound_of p)) && (closed_lambdas p.library [] && closed_each p.forms [])
 
 -- ## Nodes
 

@@ -163,11 +163,6 @@ abbrev mutual
   closed_lambdas no_lambdas scope = true
   closed_lambdas (and_lambda name first formals rest e ls) scope = closed e (scope_with first formals scope) && closed_lambdas ls scope
 
--- all different
-abbrev pub distinct : List ℕ → Bool
-distinct [] = true
-distinct (x ∷ xs) = not (has x xs) && distinct xs
-
 -- all below a number
 abbrev pub below : ℕ → List ℕ → Bool
 below n [] = true

@@ -56,9 +56,9 @@ unread_compiles source target listing heap depth disk failure.TooLong h same cal
 unread_compiles source target listing heap depth disk failure.Memory h same calls = no_memory same (at_most_one disk calls)
 unread_compiles source target listing heap depth disk _ h same calls = absurd h
 
-pub took_nothing : (told : Option (List ℕ)) → Tells told told (λ before after. after ≡ before)
+pub took_nothing : {A : Type 0} (told : Option A) → Tells told told (λ before after. after ≡ before)
 took_nothing None = tt
-took_nothing (Some bytes) = refl
+took_nothing (Some before) = refl
 
 pub unread_runs : (name : List ℕ) (heap depth steps : ℕ) (disk : DiskChange) (out : StreamChange) (why : Failure) → IsUnread name max_source_size why disk → TookNothing out
     → RunsSource name heap depth steps disk out (Err why)

@@ -1,7 +1,5 @@
 -- A command whose words were not read, for want of memory: nothing was touched, and each verb ends so.
 use Rattle.std.proofs.Common.{◌≡◌, ℕ, Option, Some, None, Err, refl, arith}
-use Rattle.sch_io.specs.Files.{Files}
-use Rattle.sch_io.specs.Told.{Tells}
 use Rattle.sch_commands.specs.Command.{Command, IfCompile, IfCount, IfGen, IfList, IfRun, IfStep, compile, count, gen, list, run, step}
 use Rattle.sch_cli.specs.Compiles as compiles
 use Rattle.sch_cli.specs.Compiles.{EndsCompile}
@@ -15,13 +13,10 @@ use Rattle.sch_cli.specs.Seen.{DiskChange, DiskState, HadAtMostCalls, StreamChan
 use Rattle.sch_cli.specs.Steps as runs
 use Rattle.sch_cli.specs.Steps.{EndsRun, RunsSource, StepsImage}
 use Rattle.sch_cli.specs.declared.failure.Failure.TheVariants.{Memory}
+use Rattle.sch_cli.proofs.DiskSteps.{took_nothing}
 
 abbrev untouched : DiskState → DiskChange
 untouched state = record { before = state; after = state }
-
-same : (files : Option Files) → Tells files files (λ before after. after ≡ before)
-same None = tt
-same (Some files) = refl
 
 no_calls : (state : DiskState) → HadAtMostCalls 1 (untouched state)
 no_calls state few = (omega arith, omega arith)
@@ -29,7 +24,7 @@ no_calls state few = (omega arith, omega arith)
 pub unread_compile : (command : Option Command) (status : ℕ) (disk : DiskState) (err : StreamChange) → status ≡ 10 → Says out_of_memory_line err
     → IfCompile command (λ source target listing heap depth. EndsCompile source target listing heap depth status (untouched disk) err)
 unread_compile (Some (compile source target listing heap depth)) status disk err is says =
-    record { answer = Err Memory; status_is = is; says = says; compiles = compiles.no_memory (same disk.files) (no_calls disk) }
+    record { answer = Err Memory; status_is = is; says = says; compiles = compiles.no_memory (took_nothing disk.files) (no_calls disk) }
 unread_compile (Some (run source heap depth steps)) status disk err is says = tt
 unread_compile (Some (step image steps)) status disk err is says = tt
 unread_compile (Some (gen number steps)) status disk err is says = tt
@@ -44,7 +39,7 @@ unread_run (Some (run source heap depth steps)) status disk err out is says noth
   answer = Err Memory;
   status_is = is;
   says = says;
-  unchanged = same disk.files;
+  unchanged = took_nothing disk.files;
   calls = λ other. absurd (other refl);
   few_calls = no_calls disk;
   did = runs.no_memory nothing;
@@ -63,7 +58,7 @@ unread_step (Some (step image steps)) status disk err out is says nothing = reco
   answer = Err Memory;
   status_is = is;
   says = says;
-  unchanged = same disk.files;
+  unchanged = took_nothing disk.files;
   calls = λ other. absurd (other refl);
   few_calls = no_calls disk;
   did = runs.no_memory nothing;
@@ -90,7 +85,7 @@ unread_list (Some (list source heap depth)) status disk err out is says nothing 
   answer = Err Memory;
   status_is = is;
   says = says;
-  unchanged = same disk.files;
+  unchanged = took_nothing disk.files;
   calls = λ other. absurd (other refl);
   few_calls = no_calls disk;
   lists = lists.no_memory nothing;
@@ -108,7 +103,7 @@ unread_count (Some (count source heap depth steps)) status disk err out is says 
   answer = Err Memory;
   status_is = is;
   says = says;
-  unchanged = same disk.files;
+  unchanged = took_nothing disk.files;
   calls = λ other. absurd (other refl);
   few_calls = no_calls disk;
   counts = counts.no_memory nothing;

@@ -1,5 +1,5 @@
 -- The turns of the loops that find free variables.
-use Rattle.std.proofs.Common.{◌≡◌, ℕ, zero, suc, ◌+◌, ◌-◌, ◌<◌, ◌≤◌, Bool, true, false, List, [], ◌∷◌, ◌++◌, length, map, reverse, drop, take, get_or, refl, sym, ap, ◌∙◌, arith, add-one, append_assoc}
+use Rattle.std.proofs.Common.{◌≡◌, ℕ, zero, suc, ◌+◌, ◌-◌, ◌<◌, ◌≤◌, Bool, true, false, List, [], ◌∷◌, ◌++◌, length, reverse, drop, take, get_or, refl, sym, ap, ◌∙◌, arith, add-one, append_assoc}
 use Rattle.std.specs.Prelude.{nat_eq, nat_lt, nat_le, ◌||◌}
 use Rattle.std.proofs.lemmas.Bool.{eq-eqb, lt-ltb, leb-true}
 use Rattle.std.proofs.Math.Dec.{leb-suc-zero, leb-suc-suc}
@@ -11,20 +11,12 @@ use Rattle.sch_word.proofs.Walking.{next_left}
 use Rattle.sch_cells.specs.declared.tree.Exp.{Exp}
 use Rattle.sch_cells.specs.declared.tree.Lambda.{Lambda}
 use Rattle.sch_cells.specs.declared.tree.NewCell.{NewCell}
-use Rattle.sch_cells.specs.Tree.{Trees, Lambdas, trees, lambdas}
-use Rattle.sch_cells.specs.View.{tree, trees_of, function, lambdas_of}
-use Rattle.sch_cells.proofs.Rows.{trees_of_list, lambdas_of_list}
+use Rattle.sch_cells.specs.View.{tree, trees_of, lambdas_of}
+use Rattle.sch_cells.proofs.Rows.{trees_of_list, lambdas_of_list, left, left_lambdas}
 use Rattle.sch_cells.specs.Variables.{and_some, without_each}
 use Rattle.sch_closure.specs.Found.{found, found_cells, found_each, found_lambdas, fields_found, fields_of_each, fields_of_lambdas}
 use Rattle.sch_word.proofs.facts.NumberTests.{differ}
 use Rattle.sch_word.proofs.facts.Lists.{reverse_cons, turn_back}
-
--- trees of the items of a list
-abbrev pub left : List Exp → Trees
-left es = trees (map tree es)
-
-abbrev pub left_lambdas : List Lambda → Lambdas
-left_lambdas ls = lambdas (map function ls)
 
 -- ## Numbers
 

@@ -1,7 +1,7 @@
 -- The turns of the loops that make flat trees.
 use Rattle.std.proofs.Common.{◌≡◌, ℕ, zero, suc, ◌+◌, ◌<◌, ◌≤◌, Bool, List, [], ◌∷◌, ◌++◌, length, map, drop, get_or, refl, sym, ap, ◌∙◌, subst, arith, add-one, append_assoc, append-nil}
 use Rattle.std.specs.Prelude.{nat_eq, slice_get, slice_set, Some}
-use Rattle.std.proofs.lemmas.List.{drop_all, get_or_default}
+use Rattle.std.proofs.lemmas.List.{drop_all, get_or_default, map-append}
 use Rattle.std.proofs.lemmas.Bool.{eq-eqb}
 use Rattle.sch_word.specs.trees.Walk.{onto}
 use Rattle.sch_word.proofs.Walking.{next_made, next_count, next_left, end_made}
@@ -11,7 +11,7 @@ use Rattle.sch_cells.specs.Tree.{Tree, Trees, Lambdas}
 use Rattle.sch_cells.specs.Tree as from_tree
 use Rattle.sch_cells.specs.View as from
 use Rattle.sch_cells.specs.View.{tree}
-use Rattle.sch_cells.proofs.Rows.{trees_of_list, lambdas_of_list}
+use Rattle.sch_cells.proofs.Rows.{trees_of_list, lambdas_of_list, left, left_lambdas}
 use Rattle.sch_flat.specs.declared.tree.Exp as to
 use Rattle.sch_flat.specs.declared.tree.Made as to_made
 use Rattle.sch_flat.specs.declared.tree.Body as to_body
@@ -23,7 +23,6 @@ use Rattle.sch_closure.specs.Closed as closing
 use Rattle.sch_closure.specs.Closed.{place_from, fields_of, procedures, procedures_each, procedures_lambdas, captured, closed, closed_each, made, made_each, starts}
 use Rattle.sch_closure.specs.Fresh.{EachStands, LambdasStand}
 use Rattle.sch_closure.specs.Walked.{with_bodies, with_bodies_each, with_bodies_lambdas}
-use Rattle.sch_closure.proofs.Loops.{left, left_lambdas}
 use Rattle.sch_closure.proofs.Walks.{body_set}
 use Rattle.sch_word.proofs.facts.NumberTests.{differ}
 use Rattle.sch_word.proofs.facts.Lists.{map_length, some_same}
@@ -45,15 +44,11 @@ place_none fields k x whole l h = let t = rw (drop_all k fields l) at h in t
 
 -- ## Lists of what is made of each item
 
-map_append : {A B : Type 0} (f : A → B) (xs ys : List A) → map f (xs ++ ys) ≡ map f xs ++ map f ys
-map_append f [] ys = refl
-map_append f (x ∷ xs) ys = ap (λ l. f x ∷ l) (map_append f xs ys)
-
 module _ {A B C : Type 0} (f : A → C) (g : B → C) (items : List A) (i : ℕ) (d : A) (all : List B) (whole : List C) where
   pub mapped_next : (b : B) → i < length items → g b ≡ f (get_or items i d) → map g all ++ map f (drop i items) ≡ whole → map g (all ++ b ∷ []) ++ map f (drop (i + 1) items) ≡ whole
   mapped_next b l h k =
       let a = get_or items i d in
-      rw (add-one, map_append g all (b ∷ []), append_assoc (map g all) (g b ∷ []) (map f (drop (suc i) items)), h)
+      rw (add-one, map-append g all (b ∷ []), append_assoc (map g all) (g b ∷ []) (map f (drop (suc i) items)), h)
       (next_left items i (λ r. map g all ++ map f r ≡ whole) a l (get_or_default items i d a l) k)
 
 pub mapped_end : {A B C : Type 0} (f : A → C) (g : B → C) (items : List A) (i : ℕ) (all : List B) (whole : List C) → length items ≤ i → map g all ++ map f (drop i items) ≡ whole → map g all ≡ whole
@@ -159,7 +154,7 @@ pub body_made : (e : Tree) (old pushed new : List to_body.Body) (label : ℕ) (b
 body_made e old pushed new label blank b whole p q l h =
     let n : label ≡ length (map view.body old) = l ∙ sym (map_length view.body old) in
     map_set view.body new label b
-    ∙ ap (λ r. slice_set r label (view.body b)) (q ∙ ap (λ r. with_bodies e (map view.body r)) p ∙ ap (with_bodies e) (map_append view.body old (blank ∷ [])))
+    ∙ ap (λ r. slice_set r label (view.body b)) (q ∙ ap (λ r. with_bodies e (map view.body r)) p ∙ ap (with_bodies e) (map-append view.body old (blank ∷ [])))
     ∙ ap (λ k. slice_set (with_bodies e (map view.body old ++ view.body blank ∷ [])) k (view.body b)) n
     ∙ body_set e (map view.body old) (view.body blank) (view.body b)
     ∙ ap (λ c. with_bodies e (map view.body old ++ c ∷ [])) (h ∙ ap whole n)

@@ -1,6 +1,7 @@
 -- The bodies of a tree stand in the list of all bodies, each at its label.
 use Rattle.std.proofs.Common.{◌≡◌, ℕ, suc, ◌+◌, Bool, List, [], ◌∷◌, ◌++◌, length, Some, refl, sym, ap, ◌∙◌, subst, arith, append_assoc, length-append, append-nil}
 use Rattle.std.specs.Prelude.{slice_get}
+use Rattle.std.proofs.Math.Nat.{zero-add}
 use Rattle.sch_word.proofs.facts.Lists.{get_seam, length_joined}
 use Rattle.sch_cells.specs.Tree.{Tree, Trees, Lambdas, constant, literal, variable, global, set_variable, set_global, define, branch, sequence, bind, fix, letrec, lambda, call, operation, new_cells, cell_get, cell_set, no_trees, and_tree, no_lambdas, and_lambda}
 use Rattle.sch_closure.specs.Closed.{procedures, procedures_each, procedures_lambdas, all_procedures, all_of_each, all_of_lambdas}
@@ -35,9 +36,6 @@ module _ {A : Type 0} {all : List A} where
     is = h.is ∙ sym (append_assoc h.before (x ∷ []) (xs ++ h.behind));
     long = omega (arith, length-append h.before (x ∷ []), h.long);
   }
-
-from_zero : (n : ℕ) → 0 + n ≡ n
-from_zero n = omega arith
 
 module _ {A : Type 0} (of : (name : List ℕ) → (first formals : ℕ) → (rest : Bool) → Tree → (label : ℕ) → A) where
   mutual
@@ -121,4 +119,4 @@ module _ {A : Type 0} (of : (name : List ℕ) → (first formals : ℕ) → (res
 
     pub stands_forms : EachStands of (all_of_lambdas of ls 0 ++ all_of_each of es (procedures_lambdas ls)) es (procedures_lambdas ls)
     stands_forms = stands_each _ es (procedures_lambdas ls) (subst (λ n. Part (all_of_lambdas of ls 0 ++ all_of_each of es (procedures_lambdas ls)) n (all_of_each of es (procedures_lambdas ls)))
-        (from_zero (procedures_lambdas ls)) (right (all_of_lambdas of ls 0) (all_of_each of es (procedures_lambdas ls)) (procedures_lambdas ls) (size_lambdas ls 0) whole))
+        (zero-add (procedures_lambdas ls)) (right (all_of_lambdas of ls 0) (all_of_each of es (procedures_lambdas ls)) (procedures_lambdas ls) (size_lambdas ls 0) whole))

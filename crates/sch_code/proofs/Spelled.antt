@@ -1,8 +1,8 @@
 -- A text spells the instructions whose spellings it is.
-use Rattle.std.proofs.Common.{◌≡◌, ℕ, zero, suc, ◌+◌, ◌<◌, ◌≤◌, List, [], ◌∷◌, ◌++◌, length, drop, take, Some, None, refl, sym, ap, ◌∙◌, subst, arith, append-nil, length-append}
+use Rattle.std.proofs.Common.{◌≡◌, ℕ, zero, suc, ◌+◌, ◌<◌, ◌≤◌, List, [], ◌∷◌, ◌++◌, length, take, Some, None, refl, sym, ap, ◌∙◌, subst, arith, append-nil, length-append}
 use Rattle.std.specs.List.{flat_map}
 use Rattle.std.proofs.lemmas.List.Concat.{flat_map-append}
-use Rattle.std.proofs.Math.Seq.{take-append-add}
+use Rattle.std.proofs.Math.Seq.{take-append-add, drop-append_seam}
 use Rattle.sch_insn.specs.declared.insn.Insn.{Insn}
 use Rattle.sch_insn.specs.Decode.{decode}
 use Rattle.sch_insn.specs.Spelling.{AllValid, IsValid, spelling}
@@ -17,10 +17,6 @@ some_bytes i [] v e =
     absurd cc
 some_bytes i (b ∷ bs) v e = omega arith
 
-drop_front : (xs ys : List ℕ) → drop (length xs) (xs ++ ys) ≡ ys
-drop_front [] ys = refl
-drop_front (x ∷ xs) ys = drop_front xs ys
-
 -- spellings are read as their instructions
 reads_back : (is : List Insn) (n : ℕ) → AllValid is → length (flat_map spelling is) ≤ n → first_spelled n (flat_map spelling is) ≡ is
 reads_back [] zero v le = refl
@@ -32,7 +28,7 @@ reads_back (i ∷ is) (suc n) v le =
     let some = some_bytes i (spelling i) v.0 refl in
     let l = length-append (spelling i) rest in
     ap (and_behind (first_spelled n) (spelling i ++ rest)) (decode_spelling i rest v.0)
-    ∙ ap (λ bs. i ∷ first_spelled n bs) (drop_front (spelling i) rest)
+    ∙ ap (λ bs. i ∷ first_spelled n bs) (drop-append_seam (spelling i) rest)
     ∙ ap (λ all. i ∷ all) (reads_back is n v.1 (omega (arith, le, some, l)))
 
 spelled_back : (is : List Insn) → AllValid is → spelled_by (flat_map spelling is) ≡ is

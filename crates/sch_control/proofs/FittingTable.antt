@@ -4,12 +4,12 @@ use Rattle.std.specs.Prelude.{nat_eq, nat_lt, ◌&&◌, ◌||◌}
 use Rattle.std.specs.List.{list_all, sum_by}
 use Rattle.std.proofs.lemmas.Bool.{eq-eqb, eqb-true, eqb-false, ltb-true, ltb-false}
 use Rattle.std.proofs.lemmas.List.Sums.{sum_by-cons}
-use Rattle.sch_word.specs.trees.NumberSets.{has, unless}
+use Rattle.sch_word.specs.trees.NumberSets.{has, unless, without_repeats}
 use Rattle.sch_word.specs.trees.Bindings.{numbers}
 use Rattle.sch_word.specs.runs.Orders.{is_permutation, is_order_table}
 use Rattle.sch_control.specs.Tree.{Source}
 use Rattle.sch_control.specs.Fits.{begins_with, fits, table_fits}
-use Rattle.sch_control.specs.Valid.{bound_parts, bound_known, without_repeats}
+use Rattle.sch_control.specs.Valid.{bound_parts, bound_known}
 use Rattle.sch_control.specs.OrderTable.{others, given_order, given_orders, given_table}
 use Rattle.sch_control.proofs.NumberRows.{permuted}
 use Rattle.sch_word.proofs.facts.NumberSets.{numbers_length}

@@ -4,6 +4,8 @@ mod ValidExamples
 mod CoveredExamples
 mod WorkExamples
 pub mod RegisterUnits
+pub mod OperandSizes
+pub mod Environments
 pub mod FittingTable
 pub mod OrderLists
 pub mod PlainMarks

@@ -11,12 +11,11 @@ use Rattle.std.proofs.lemmas.Bool.Decides.{nat_tests}
 use Rattle.std.proofs.Math.Bool.{and-false}
 use Rattle.sch_sets.specs.Members.{NumberSet, IsMember, HasNone, IsFirst}
 use Rattle.sch_sets.proofs.Membership.{contains-insert}
-use Rattle.sch_word.specs.trees.NumberSets.{has}
+use Rattle.sch_word.specs.trees.NumberSets.{has, without_repeats}
 use Rattle.sch_word.specs.trees.Bindings.{numbers}
-use Rattle.sch_word.proofs.Walking.{next_is}
-use Rattle.sch_word.proofs.facts.Booleans.{and_left, and_right, and_of, not_true, never_true}
+use Rattle.sch_word.proofs.facts.Lists.{next_left}
+use Rattle.sch_word.proofs.facts.Booleans.{and_left, and_right, and_of, not_true, never_true, or_around}
 use Rattle.sch_word.proofs.facts.NumberSets.{below_numbers}
-use Rattle.sch_control.specs.Valid.{without_repeats}
 
 -- ## What is in a list
 
@@ -136,7 +135,7 @@ members_end s xs whole k n none e =
 -- ## Loops over a list
 
 next_number : (xs : List ℕ) (i : ℕ) → i < length xs → drop i xs ≡ get_or xs i 0 ∷ drop (suc i) xs
-next_number xs i l = next_is xs i (get_or xs i 0) l (get_or_default xs i 0 (get_or xs i 0) l)
+next_number xs i l = next_left xs i (get_or xs i 0) l (get_or_default xs i 0 (get_or xs i 0) l)
 
 pub others_turn : (f : ℕ → Bool) (xs ys ys' : List ℕ) (i : ℕ) → i < length xs → ys' ≡ ys ++ filter f (get_or xs i 0 ∷ [])
     → ys ++ filter f (drop i xs) ≡ filter f xs → ys' ++ filter f (drop (i + 1) xs) ≡ filter f xs
@@ -154,11 +153,6 @@ below_turn p xs i l h =
     let x = get_or xs i 0 in
     let h' : (p x && list_all p (drop (suc i) xs)) ≡ true = subst (λ r. list_all p r ≡ true) (next_number xs i l) h in
     (and_left (p x) _ h', rw add-one (and_right (p x) _ h'))
-
-pub or_around : (a b c : Bool) → (b || (a || c)) ≡ ((a || b) || c)
-or_around true true c = refl
-or_around true false c = refl
-or_around false b c = refl
 
 pub all_turn : (s s' : NumberSet) (xs : List ℕ) (i : ℕ) (whole : ℕ → Bool) → i < length xs → s' ≡ set.insert s (get_or xs i 0)
     → ((y : ℕ) → (has y (drop i xs) || set.contains s y) ≡ whole y) → (y : ℕ) → (has y (drop (i + 1) xs) || set.contains s' y) ≡ whole y

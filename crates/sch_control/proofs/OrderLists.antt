@@ -3,10 +3,10 @@ use Rattle.std.proofs.Common.{◌≡◌, ℕ, suc, ◌+◌, ◌-◌, ◌<◌, �
 use Rattle.std.specs.Prelude.{nat_lt, ◌&&◌}
 use Rattle.std.specs.List.{list_all}
 use Rattle.std.proofs.lemmas.List.{drop_all, get_or_default}
-use Rattle.sch_word.specs.trees.NumberSets.{has, unless}
+use Rattle.sch_word.specs.trees.NumberSets.{has, unless, without_repeats}
 use Rattle.sch_word.specs.trees.Bindings.{numbers}
-use Rattle.sch_word.proofs.Walking.{next_is}
-use Rattle.sch_control.specs.Valid.{bound_parts, without_repeats}
+use Rattle.sch_word.proofs.facts.Lists.{next_left}
+use Rattle.sch_control.specs.Valid.{bound_parts}
 use Rattle.sch_control.specs.OrderTable.{others, given_order, given_orders}
 use Rattle.sch_word.proofs.facts.Booleans.{and_right}
 
@@ -33,8 +33,8 @@ pub orders_turn : (sites : List ℕ) (bound : List (List ℕ)) (i : ℕ) (parts 
     → all ++ given_orders (drop i sites) (drop i bound) ≡ whole → all' ++ given_orders (drop (i + 1) sites) (drop (i + 1) bound) ≡ whole
 orders_turn sites bound i parts order all all' whole l m is o h k =
     let x = get_or sites i 0 in
-    let s : drop i sites ≡ x ∷ drop (suc i) sites = next_is sites i x l (get_or_default sites i 0 x l) in
-    let b : drop i bound ≡ parts ∷ drop (suc i) bound = next_is bound i parts m is in
+    let s : drop i sites ≡ x ∷ drop (suc i) sites = next_left sites i x l (get_or_default sites i 0 x l) in
+    let b : drop i bound ≡ parts ∷ drop (suc i) bound = next_left bound i parts m is in
     let k1 : all ++ given_orders (x ∷ drop (suc i) sites) (drop i bound) ≡ whole = subst (λ r. all ++ given_orders r (drop i bound) ≡ whole) s k in
     let k2 : all ++ given_orders (x ∷ drop (suc i) sites) (parts ∷ drop (suc i) bound) ≡ whole = subst (λ r. all ++ given_orders (x ∷ drop (suc i) sites) r ≡ whole) b k1 in
     rw (h, add-one, append_assoc all (order ∷ []) (given_orders (drop (suc i) sites) (drop (suc i) bound)), o) k2

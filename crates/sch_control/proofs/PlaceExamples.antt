@@ -8,7 +8,8 @@ use Rattle.sch_word.specs.declared.place.Place.TheVariants.{Reg, Slot}
 use Rattle.sch_control.specs.declared.operation.Member.{Member}
 use Rattle.sch_control.specs.Tree.{Expression, bind, sequence, branch, fix, call, return, end, save}
 use Rattle.sch_control.specs.flow.Live.{MayGive, Live, Later}
-use Rattle.sch_control.specs.flow.Places.{place_of, count_slots, link_place, closure_place, arrival, formals_of, stays, is_usual}
+use Rattle.sch_word.specs.values.Places.{link_place, closure_place}
+use Rattle.sch_control.specs.flow.Places.{place_of, count_slots, arrival, formals_of, stays, is_usual}
 use Rattle.sch_control.specs.flow.Apart.{Around, Alone, Apart, BoundAlone, PointsApart}
 use Rattle.sch_control.proofs.Examples.{held_in, applied}
 

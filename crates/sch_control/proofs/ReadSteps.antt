@@ -1,5 +1,5 @@
 -- What a set holds as variables are read into it and taken out of it.
-use Rattle.std.proofs.Common.{◌≡◌, ℕ, suc, ◌+◌, ◌<◌, ◌≤◌, Bool, true, false, List, [], ◌∷◌, ◌++◌, length, drop, get_or, refl, ap, sym, ◌∙◌, subst, add-one}
+use Rattle.std.proofs.Common.{◌≡◌, ℕ, suc, ◌+◌, ◌<◌, ◌≤◌, Bool, true, List, [], ◌∷◌, ◌++◌, length, drop, get_or, refl, ap, sym, ◌∙◌, subst, add-one}
 use Rattle.std.specs.Prelude.{◌||◌, ◌&&◌, not, nat_eq, nat_lt}
 use Rattle.std.specs.FinSet as set
 use Rattle.std.specs.List.{list_all}
@@ -7,8 +7,8 @@ use Rattle.std.proofs.lemmas.List.{drop_all}
 use Rattle.sch_sets.specs.Members.{NumberSet}
 use Rattle.sch_sets.proofs.Membership.{contains-insert, contains-remove}
 use Rattle.sch_word.specs.trees.NumberSets.{has}
-use Rattle.sch_word.proofs.Walking.{next_is}
-use Rattle.sch_word.proofs.facts.Booleans.{and_left, and_right, and_of, or_false}
+use Rattle.sch_word.proofs.facts.Lists.{next_left}
+use Rattle.sch_word.proofs.facts.Booleans.{and_left, and_right, and_of, or_false, or_around, not_either}
 use Rattle.sch_word.proofs.facts.NumberSets.{has_append}
 use Rattle.sch_control.specs.declared.operation.Atom.{Atom}
 use Rattle.sch_control.specs.declared.operation.Atom.TheVariants.{Constant, Literal, Variable}
@@ -18,7 +18,6 @@ use Rattle.sch_control.specs.AtomsAndSites.{source_atom, source_atoms}
 use Rattle.sch_control.specs.Valid.{member_variables}
 use Rattle.sch_control.specs.flow.Live.{named}
 use Rattle.sch_control.specs.flow.Reads.{IsWith, AtomsBelow}
-use Rattle.sch_control.proofs.NumberLists.{or_around}
 
 -- ## Two lists of atoms
 
@@ -80,7 +79,7 @@ module _ {A : Type 0} (one : A → List (Atom ℕ)) (all : List A → List (Atom
   pub read_turn : (items : List A) (i : ℕ) (a : A) (s s' : NumberSet) (whole : ℕ → Bool) → i < length items → a ≡ get_or items i a
       → IsWith (one a) s s' → Left all (drop i items) s whole → Left all (drop (i + 1) items) s' whole
   read_turn items i a s s' whole l e w h =
-      let h' : Left all (a ∷ drop (suc i) items) s whole = subst (λ r. Left all r s whole) (next_is items i a l e) h in
+      let h' : Left all (a ∷ drop (suc i) items) s whole = subst (λ r. Left all r s whole) (next_left items i a l e) h in
       rw add-one (one_read a (drop (suc i) items) s s' whole w h')
 
   pub read_end : all [] ≡ [] → (items : List A) (i : ℕ) (s : NumberSet) (whole : ℕ → Bool) → length items ≤ i
@@ -93,7 +92,7 @@ module _ {A : Type 0} (one : A → List (Atom ℕ)) (all : List A → List (Atom
       → AtomsBelow bound (all (drop i items)) → AtomsBelow bound (one a) × AtomsBelow bound (all (drop (i + 1) items))
   below_turn bound items i a l e h =
       let h' : AtomsBelow bound (one a ++ all (drop (suc i) items))
-      = subst (AtomsBelow bound) (more a (drop (suc i) items)) (subst (λ r. AtomsBelow bound (all r)) (next_is items i a l e) h) in
+      = subst (AtomsBelow bound) (more a (drop (suc i) items)) (subst (λ r. AtomsBelow bound (all r)) (next_left items i a l e) h) in
       rw add-one (below_parts bound (one a) (all (drop (suc i) items)) h')
 
 -- ## Turns of the loop that takes the variables of a group out
@@ -102,20 +101,15 @@ module _ {A : Type 0} (one : A → List (Atom ℕ)) (all : List A → List (Atom
 abbrev pub OutLeft : List (Member ℕ) → NumberSet → (whole : ℕ → Bool) → Type 0
 OutLeft members s whole = (x : ℕ) → (not (has x (member_variables members)) && set.contains s x) ≡ whole x
 
-not_swap : (a b c : Bool) → (not b && (not a && c)) ≡ (not (a || b) && c)
-not_swap true true c = refl
-not_swap true false c = refl
-not_swap false b c = refl
-
 pub remove_turn : (members : List (Member ℕ)) (i : ℕ) (m : Member ℕ) (s s' : NumberSet) (whole : ℕ → Bool) → i < length members → m ≡ get_or members i m
     → s' ≡ set.remove s m.at → OutLeft (drop i members) s whole → OutLeft (drop (i + 1) members) s' whole
 remove_turn members i m s s' whole l e r h =
     let rest = drop (suc i) members in
-    let h' : OutLeft (m ∷ rest) s whole = subst (λ ms. OutLeft ms s whole) (next_is members i m l e) h in
+    let h' : OutLeft (m ∷ rest) s whole = subst (λ ms. OutLeft ms s whole) (next_left members i m l e) h in
     rw (r, add-one)
     (λ x.
     ap (λ b. not (has x (member_variables rest)) && b) (contains-remove s m.at x)
-    ∙ (not_swap (nat_eq x m.at) (has x (member_variables rest)) (set.contains s x) ∙ h' x))
+    ∙ (not_either (nat_eq x m.at) (has x (member_variables rest)) (set.contains s x) ∙ h' x))
 
 pub remove_end : (members : List (Member ℕ)) (i : ℕ) (s : NumberSet) (whole : ℕ → Bool) → length members ≤ i → OutLeft (drop i members) s whole
     → (x : ℕ) → set.contains s x ≡ whole x
@@ -126,5 +120,5 @@ pub variables_turn : (bound : ℕ) (members : List (Member ℕ)) (i : ℕ) (m : 
     → (nat_lt m.at bound ≡ true) × (list_all (λ x. nat_lt x bound) (member_variables (drop (i + 1) members)) ≡ true)
 variables_turn bound members i m l e h =
     let h' : list_all (λ x. nat_lt x bound) (member_variables (m ∷ drop (suc i) members)) ≡ true
-    = subst (λ ms. list_all (λ x. nat_lt x bound) (member_variables ms) ≡ true) (next_is members i m l e) h in
+    = subst (λ ms. list_all (λ x. nat_lt x bound) (member_variables ms) ≡ true) (next_left members i m l e) h in
     rw add-one (and_left (nat_lt m.at bound) _ h', and_right (nat_lt m.at bound) _ h')

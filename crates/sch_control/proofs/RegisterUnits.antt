@@ -2,15 +2,10 @@
 use Rattle.std.proofs.Common.{ℕ, ◌+◌, ◌*◌, ◌≤◌, List, [], ◌∷◌, length, Option, Some, None, arith}
 use Rattle.sch_control.specs.declared.body.Entry.{Entry}
 use Rattle.sch_control.specs.declared.operation.Operand.{Operand}
-use Rattle.sch_control.specs.declared.operation.Operand.TheVariants as operand
-use Rattle.sch_control.specs.Sizes.{operand_size}
 use Rattle.sch_control.specs.Tree.{Expression, perform, bind, sequence, branch, fix, call, tail_call, return, end, save, Code}
 use Rattle.sch_control.specs.Work.{code_work, codes_work, entry_work, expression_work, operands_work}
 use Rattle.sch_control.specs.RegisterWork.{code_copies, code_done, codes_copies, codes_done, entry_copies, entry_done, expression_copies, expression_done}
-
-operand_long : (o : Operand ℕ) → 1 ≤ operand_size o
-operand_long (operand.Atom a) = omega arith
-operand_long (operand.Read site which atoms) = omega arith
+use Rattle.sch_control.proofs.OperandSizes.{operand_long}
 
 operands_long : (operands : List (Operand ℕ)) → 4 * length operands ≤ operands_work operands
 operands_long [] = omega arith

@@ -28,6 +28,7 @@ pub use nodes::{
     boxed_seq, boxed_tail_call, copied_do, copied_fix, copied_save, copied_tail_call,
 };
 pub use operation::{Application, Atom, Closure, Member, Operand, Operation, Source};
+pub use order_table::add_other;
 pub use placed_body::PlacedBody;
 pub use program::ControlProgram;
 pub use program_orders::{a_table_that_fits_is_an_order_table, given_orders};

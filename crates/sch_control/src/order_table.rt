@@ -7,8 +7,8 @@ ghost use Rattle.sch_control.specs.OrderTable as table;
 use sch_word::{List, Mem, is_in};
 use std::alloc::Global;
 
-// Adds a number unless it is one of the parts.
-fn add_other(k: u32, parts: &[u32], all: &mut List<u32>) -> Result<(), Mem>
+/// Adds a number unless it is one of the parts.
+pub fn add_other(k: u32, parts: &[u32], all: &mut List<u32>) -> Result<(), Mem>
     ensures { OnOk result (all.new ≡ all.old ++ unless (has k parts.now) k []) }
 {
     if !is_in(k, parts) {

@@ -7,7 +7,8 @@ ghost use Rattle.sch_control.specs.flow.Apart.{EachBoundAlone, EachPointApart, E
 ghost use Rattle.sch_control.specs.flow.Bare.{erased};
 ghost use Rattle.sch_control.specs.flow.LiveSets.{HasLiveSets};
 ghost use Rattle.sch_control.specs.flow.Middle.{code_with};
-ghost use Rattle.sch_control.specs.flow.Places.{arrival, closure_place, count_slots, formals_of, is_usual, link_place, place_of, stays};
+ghost use Rattle.sch_word.specs.values.Places.{closure_place, link_place};
+ghost use Rattle.sch_control.specs.flow.Places.{arrival, count_slots, formals_of, is_usual, place_of, stays};
 ghost use Rattle.sch_control.specs.flow.RestoredView.{restored, restored_listed};
 ghost use Rattle.sch_control.specs.flow.Regions.{regions_apart, restores_saved};
 

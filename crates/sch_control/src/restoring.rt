@@ -3,7 +3,7 @@
 ghost use Rattle.std.specs.Prelude.{IsTrue};
 ghost use Rattle.std.specs.FinSet as set;
 ghost use Rattle.std.specs.List.{list_all};
-ghost use Rattle.sch_control.specs.Valid.{without_repeats};
+ghost use Rattle.sch_word.specs.trees.NumberSets.{without_repeats};
 
 use sch_sets::Set;
 use sch_word::List;

@@ -1,6 +1,7 @@
 -- With a library, data have a program or an error, and never both.
 use Rattle.std.proofs.Common.{◌≡◌, ◌≢◌, ◌⊎◌, inl, inr, ℕ, Bool, true, false, cond, List, [], ◌∷◌, Option, Some, None, refl, sym, ap, ◌∙◌, subst}
 use Rattle.std.specs.Prelude.{Result, Ok, Err, IsErrAnd, MatchResult}
+use Rattle.std.proofs.lemmas.Option.{none-some}
 use Rattle.sch_lang.specs.Tree.{Source, Expressions, no_expressions, and_expression}
 use Rattle.sch_read.specs.Grammar.{Data}
 use Rattle.sch_sketch.specs.Draft.{Drafts}
@@ -18,9 +19,6 @@ use Rattle.sch_core.specs.declared.error.CoreError.TheVariants as errors
 use Rattle.sch_core.specs.declared.error.Kind.{Kind}
 use Rattle.sch_core.specs.declared.error.Kind.TheVariants as kinds
 use Rattle.sch_word.proofs.facts.Lists.{some_same}
-
-pub none_some : {A : Type 0} {a : A} → None ≡ Some a → ⊥
-none_some e = cc
 
 pub left_is : {p q : Kind × ℕ} → Some p ≡ Some q → p.0 ≡ q.0
 left_is e = ap (λ p. p.0) (some_same e)
@@ -40,7 +38,7 @@ IsCounted kinds.Free = Unit {0}
 IsCounted _ = ⊥
 
 pub excess_counted : (a b : Bool) (k : Kind) → cond a (cond b None (Some kinds.Free)) (Some kinds.Variables) ≡ Some k → IsCounted k
-excess_counted true true k e = absurd (none_some e)
+excess_counted true true k e = absurd (none-some _ e)
 excess_counted true false k e = subst IsCounted (some_same e) tt
 excess_counted false b k e = subst IsCounted (some_same e) tt
 
@@ -50,8 +48,8 @@ place_counted at (Some j) others k at' e h r = h k (ap Some (left_is e))
 place_counted at None others k at' e h r = r e
 
 pub first_counted : (places : List ℕ) (es : Expressions) (k : Kind) (at : ℕ) → first_excess places es ≡ Some (k, at) → IsCounted k
-first_counted [] es k at e = absurd (none_some e)
-first_counted (p ∷ places) no_expressions k at e = absurd (none_some e)
+first_counted [] es k at e = absurd (none-some _ e)
+first_counted (p ∷ places) no_expressions k at e = absurd (none-some _ e)
 first_counted (p ∷ places) (and_expression x es) k at e =
     place_counted p (excess 0 x) (first_excess places es) k at e (λ j i. excess_counted _ _ j i) (λ i. first_counted places es k at i)
 
@@ -137,7 +135,7 @@ module _ (ds : List Definition) (items : Data) where
 
   program_fits : (p : Source) (kind : Kind) (at : ℕ) → IsProgramOf ds items p → ExceedsAt ds items kind at → ⊥
   program_fits p kind at a b =
-      none_some (sym (subst (λ q. first_excess (form_places items) q.forms ≡ None) (a.numbered ∙ program_one a.expands b.expands) a.fits) ∙ b.exceeding)
+      none-some _ (sym (subst (λ q. first_excess (form_places items) q.forms ≡ None) (a.numbered ∙ program_one a.expands b.expands) a.fits) ∙ b.exceeding)
 
   pub never_both : (p : Source) (e : CoreError) → IsProgramOf ds items p → IsErrorIn ds items e → e ≡ errors.Memory
   never_both p errors.Memory a b = refl

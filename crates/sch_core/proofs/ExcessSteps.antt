@@ -4,7 +4,8 @@ use Rattle.std.proofs.lemmas.List.{drop_all}
 use Rattle.sch_lang.specs.declared.tree.Exp.{Exp}
 use Rattle.sch_lang.specs.Tree.{no_expressions}
 use Rattle.sch_lang.specs.View.{expression}
-use Rattle.sch_variable_counts.proofs.ListsLeft.{left, next_expression, no_expression}
+use Rattle.sch_lang.proofs.ListViews.{left}
+use Rattle.sch_variable_counts.proofs.ListsLeft.{next_expression, no_expression}
 use Rattle.sch_core.specs.declared.error.Kind.{Kind}
 use Rattle.sch_core.specs.Excess.{excess, first_excess}
 

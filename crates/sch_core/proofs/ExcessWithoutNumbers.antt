@@ -8,7 +8,8 @@ use Rattle.sch_lang.specs.Variables.{free, free_each, free_lambdas, assigns, ass
 use Rattle.sch_lang.specs.Measures.{counts_nothing, onto_assigned, onto_all, bound_count, variables, variables_each, variables_operands, variables_parts, procedure}
 use Rattle.sch_variable_counts.specs.Within.{each_procedure, each_procedure_in, each_lambda, has_few_variables, has_few_free}
 use Rattle.sch_sketch.specs.Draft as draft
-use Rattle.sch_sketch.specs.Draft.{Names, Draft, Drafts, no_drafts, and_draft}
+use Rattle.sch_names.specs.Scope.{Names}
+use Rattle.sch_sketch.specs.Draft.{Draft, Drafts, no_drafts, and_draft}
 use Rattle.sch_link_tables.specs.Assigned.{is_group}
 use Rattle.sch_link_tables.specs.Sites.{unless_group, widths, widths_of_each}
 use Rattle.sch_link_tables.specs.Quoted.{quotes_in, quotes_in_each}

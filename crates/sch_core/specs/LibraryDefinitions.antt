@@ -2,11 +2,12 @@
 use Rattle.std.specs.Prelude.{◌≡◌, ◌≤◌, ◌*◌, ℕ, true, List, [], ◌∷◌, ◌++◌, length, map, Some}
 use Rattle.sch_word.specs.trees.Shape.{max_levels}
 use Rattle.sch_read.specs.Valid.{max_weight}
-use Rattle.sch_names.specs.Scope.{is_among}
-use Rattle.sch_sketch.specs.Draft.{Names, Draft, Drafts, lambda, no_drafts, and_draft}
+use Rattle.sch_names.specs.Scope.{is_among, Names}
+use Rattle.sch_sketch.specs.Draft.{Draft, Drafts, lambda, no_drafts, and_draft}
 use Rattle.sch_link_tables.specs.Constants.{HasConstants}
 use Rattle.sch_link_tables.specs.Named.{own_global, library_global, globals_in, globals_in_each}
 use Rattle.sch_link_tables.specs.Programs.{Definition, names_of_each}
+use Rattle.sch_link_program.specs.Size.{size_of_definitions}
 use Rattle.sch_core.specs.SoundDrafts.{IsProcedure, IsSound, levels}
 use Rattle.sch_core.specs.Excess.{AreFew}
 use Rattle.sch_core.specs.Quotable.{HasWords}
@@ -57,10 +58,11 @@ AreKnown ds own forms = AreAmong (map own_global own ++ map library_global (name
 -- ## Libraries
 
 -- A library of valid programs' definitions: its procedures are sound, each names itself and earlier ones alone, none
--- has too much of anything, together they are small, and they are no more than the items of a text can be.
+-- has too much of anything, together they are small, and they are no more than the items of a text can be, nor have they more nodes.
 pub record IsSoundLibrary (ds : List Definition) : Type 0 where
   pub sound : AreDefinitions ds
   pub ordered : AreOrdered [] ds
   pub few : AreFew ds
   pub small : statics_in_each (procedures_of_each ds) ≤ 2 * max_weight
   pub few_definitions : length ds ≤ max_weight
+  pub few_nodes : size_of_definitions ds ≤ 16 * max_weight

@@ -1,6 +1,6 @@
 //! The definitions of a library's text.
 
-ghost use Rattle.std.specs.Prelude.{◌≡◌, ◌≤◌, ◌*◌, true, Some, map, IfOk, IfErr, MatchResult, List as Listed};
+ghost use Rattle.std.specs.Prelude.{◌≡◌, ◌≤◌, ◌<◌, ◌^◌, ◌*◌, true, Some, map, IfOk, IfErr, MatchResult, List as Listed};
 ghost use Rattle.sch_word.specs.trees.Shape.{max_operands};
 ghost use Rattle.sch_names.specs.ScopeView.{given_names};
 ghost use Rattle.sch_link_tables.specs.Programs as words;
@@ -9,6 +9,7 @@ ghost use Rattle.sch_link_program.specs.Definitions.{definition_of, definitions_
 ghost use Rattle.sch_link_program.specs.Size.{size_of_definitions, have_few_formals};
 ghost use Rattle.sch_read.specs.Valid.{max_weight, weights};
 ghost use Rattle.sch_read.specs.Views.{data_of};
+ghost use Rattle.sch_sketch.specs.DraftMeasures.{size};
 ghost use Rattle.sch_sketch.specs.DraftView.{draft_of};
 ghost use Rattle.sch_core.specs.LibraryDefinitions.{procedure_of, AreNamedProcedures};
 ghost use Rattle.sch_core.specs.SoundDrafts.{IsProcedure};
@@ -76,6 +77,7 @@ fn definitions<'a>(
 /// counted, where the numbers of globals, symbols, sites and literals are all one.
 fn definition_excess(alloc: Global, d: &Definition<'_>) -> Result<Option<Kind>, Mem>
     requires formals { d.now.formals ≤ max_operands }
+    requires few { size (draft_of d.now.body) < 2 ^ 32 }
     ensures { IfOk result (λ kind. kind ≡ definition_excess (definition_of d.now)) }
 {
     if is_small(d) {
@@ -99,6 +101,7 @@ fn first_definition_excess(
     definitions: &[Definition<'_>],
 ) -> Result<Option<(Kind, u32)>, Mem>
     requires formals { have_few_formals (definitions_of definitions.now) ≡ true }
+    requires small { size_of_definitions (definitions_of definitions.now) < 2 ^ 32 }
     ensures { IfOk result (λ found. found ≡ first_definition_excess (item_places (data_of items.now)) (definitions_of definitions.now)) }
 {
     let n = items.len().min(definitions.len());

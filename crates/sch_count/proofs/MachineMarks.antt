@@ -17,6 +17,7 @@ use Rattle.sch_step.specs.declared.machine.Machine.{Machine}
 use Rattle.sch_step.specs.Run.{Does, state_of}
 use Rattle.sch_step.specs.Machine.{ComesTo, MachineRuns, MachineSteps, core_of, standing_of}
 use Rattle.sch_step.proofs.Outlets.{quiet, then, weaker}
+use Rattle.sch_step.proofs.MachineRuns.{comes_here}
 use Rattle.sch_count.specs.declared.error.CountError.{CountError}
 use Rattle.sch_count.specs.declared.error.CountError.TheVariants as count_error
 use Rattle.sch_count.specs.declared.tally.Tally.{Tally}
@@ -131,15 +132,10 @@ module _ (marks_at : ℕ → List MarkKind) where
 abbrev pub FollowsTo : (ℕ → List MarkKind) → ℕ → List MarkKind → Machine → Machine → (List ℕ → List Answer → List ℕ → List Answer → Type 0)
 FollowsTo marks_at n events old new = λ b k b' k'. Followed marks_at n events (standing_of old b k) (state_of (core_of new) b' k')
 
-comes_still : (e : Progress) → ComesTo 0 e e
-comes_still (Runs s) = record { way = []; last = s; path = refl; long = refl; runs = refl }
-comes_still (Exited status s) = (refl, refl)
-comes_still (Stuck cause s) = (refl, refl)
-
 module _ (marks_at : ℕ → List MarkKind) (are_counted : List MarkKind → Type 0) (steps : ℕ) (old : Machine) where
   -- no memory before the first step
   pub forgets_first : (ob : Option (List ℕ)) (ol : Option (List Answer)) (of : ℕ) → Does (Follows steps marks_at are_counted (Err count_error.Memory) old old) ob ob ol ol of of
-  forgets_first ob ol of = quiet (Follows steps marks_at are_counted (Err count_error.Memory) old old) ob ol of (λ b k. (0, omega arith, comes_still (standing_of old b k)))
+  forgets_first ob ol of = quiet (Follows steps marks_at are_counted (Err count_error.Memory) old old) ob ol of (λ b k. (0, omega arith, comes_here (standing_of old b k)))
 
   module _ (new : Machine) (ob nb : Option (List ℕ)) (ol nl : Option (List Answer)) (of nf : ℕ) where
     pub first_runs : Does (MachineRuns 0 run_end.Spent old new) ob nb ol nl of nf → Does (FollowsTo marks_at 0 [] old new) ob nb ol nl of nf

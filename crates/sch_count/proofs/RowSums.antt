@@ -5,9 +5,9 @@ use Rattle.std.specs.List.{cons_option, filter, list_any, sum_by}
 use Rattle.std.proofs.lemmas.List.Sums.{sum_by-cons, sum_by-append, sum_by_push, sum_by-le-sum_by, length-filter, count_by-le-length}
 use Rattle.sch_word.specs.declared.mark.MarkKind.{MarkKind}
 use Rattle.sch_word.specs.declared.mark.MarkKind.TheVariants.{Enter}
-use Rattle.sch_word.specs.runs.Activations.{is_enter}
+use Rattle.sch_word.specs.runs.Activations.{is_enter, is_call}
 use Rattle.sch_count.specs.declared.row.Row.{Row}
-use Rattle.sch_count.specs.ActivationCounts.{is_of, is_save, is_call, has_no_call, saves_of, row_over}
+use Rattle.sch_count.specs.ActivationCounts.{is_of, is_save, has_no_call, saves_of, row_over}
 use Rattle.sch_count.specs.Tallied.{marks_in}
 
 abbrev pub row_from : ℕ → ℕ → ℕ → ℕ → Row

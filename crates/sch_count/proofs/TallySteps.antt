@@ -8,13 +8,13 @@ use Rattle.std.proofs.lemmas.Bool.{cases_eq}
 use Rattle.std.proofs.lemmas.Option.{slice_get_read}
 use Rattle.sch_word.specs.declared.mark.MarkKind.{MarkKind}
 use Rattle.sch_word.specs.declared.mark.MarkKind.TheVariants.{Enter, Save, Call, Return, Tail}
-use Rattle.sch_word.specs.runs.Activations.{Activations, is_enter, pass, recorded, resumed, settled, with_mark}
+use Rattle.sch_word.specs.runs.Activations.{Activations, is_enter, pass, recorded, resumed, settled, with_mark, is_call}
 use Rattle.sch_word.proofs.facts.Lists.{set_here, set_elsewhere}
 use Rattle.sch_word.proofs.facts.NumberTests.{same, differ}
 use Rattle.sch_count.specs.declared.row.Row.{Row}
 use Rattle.sch_count.specs.declared.tally.Open.{Open}
 use Rattle.sch_count.specs.declared.tally.Tally.{Tally}
-use Rattle.sch_count.specs.ActivationCounts.{is_of, is_call, is_save, has_no_call, saves_of, replaced_by, row_over, unended}
+use Rattle.sch_count.specs.ActivationCounts.{is_of, is_save, has_no_call, saves_of, replaced_by, row_over, unended}
 use Rattle.sch_count.specs.Tallied.{IsOpen, IsTop, IsHandedOver, AreSuspended, Tallies, HasRoom, marks_in}
 use Rattle.sch_count.proofs.RowSums.{row_from, nothing_more, row_entered, row_changed, row_closed, is_of_more, saves_more, calls_more, activations-le, saves-le, leaves-le, leaf_saves-le, open_saves-le}
 

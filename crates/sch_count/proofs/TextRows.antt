@@ -1,11 +1,8 @@
 -- Texts of made-up counts, computed.
-use Rattle.std.specs.Prelude.{◌≡◌, ℕ, [], ◌∷◌, codes, refl}
+use Rattle.std.specs.Prelude.{◌≡◌, [], ◌∷◌, codes, refl}
 use Rattle.std.specs.Fmt.{digits}
-use Rattle.sch_count.specs.declared.row.Row.{Row}
 use Rattle.sch_count.specs.CountsText.{counts_text}
-
-abbrev row : ℕ → ℕ → ℕ → ℕ → Row
-row a l s k = record { activations = a; leaves = l; saves = s; leaf_saves = k }
+use Rattle.sch_count.proofs.RowSums.{row_from as row}
 
 -- (define (fact n) (if (= n 0) 1 (* n (fact (- n 1))))) (display (fact 5)), where each activation that calls saves n and where it
 -- returns

@@ -1,12 +1,9 @@
 -- Rows of small runs, computed.
-use Rattle.std.specs.Prelude.{◌≡◌, ℕ, List, [], ◌∷◌, ◌++◌, refl}
+use Rattle.std.specs.Prelude.{◌≡◌, List, [], ◌∷◌, ◌++◌, refl}
 use Rattle.sch_word.specs.declared.mark.MarkKind.{MarkKind}
 use Rattle.sch_word.specs.declared.mark.MarkKind.TheVariants.{Enter, Save, Restore, Call, Return, Tail}
-use Rattle.sch_count.specs.declared.row.Row.{Row}
 use Rattle.sch_count.specs.ActivationCounts.{row_of}
-
-abbrev row : ℕ → ℕ → ℕ → ℕ → Row
-row a l s k = record { activations = a; leaves = l; saves = s; leaf_saves = k }
+use Rattle.sch_count.proofs.RowSums.{row_from as row}
 
 -- (define (fact n) (if (= n 0) 1 (* n (fact (- n 1))))) (display (fact 5)): `display` is body 0, the forms are 1 and 3, and
 -- `fact` is 2. Each activation that calls saves n and where it returns; the one that does not saves nothing.

@@ -4,7 +4,7 @@ use Rattle.std.specs.Prelude.{◌≡◌, ℕ, ◌<◌, Bool, true, false, not, n
 use Rattle.std.specs.List.{cons_option, count_by, filter, list_any, sum_by}
 use Rattle.sch_word.specs.declared.mark.MarkKind.{MarkKind}
 use Rattle.sch_word.specs.declared.mark.MarkKind.TheVariants.{Enter, Save, Call}
-use Rattle.sch_word.specs.runs.Activations.{Activations, activations, none_yet, pass, settled}
+use Rattle.sch_word.specs.runs.Activations.{Activations, activations, none_yet, pass, settled, is_call}
 use Rattle.sch_count.specs.declared.row.Row.{Row}
 
 -- ## One activation, by its own marks
@@ -17,10 +17,6 @@ is_of body _ = false
 abbrev pub is_save : MarkKind → Bool
 is_save (Save x) = true
 is_save _ = false
-
-abbrev pub is_call : MarkKind → Bool
-is_call (Call site) = true
-is_call _ = false
 
 abbrev pub has_no_call : List MarkKind → Bool
 has_no_call own = not (list_any is_call own)

@@ -3,10 +3,10 @@ use Rattle.std.specs.Prelude.{◌≡◌, ℕ, ◌+◌, ◌-◌, ◌<◌, ◌^◌
 use Rattle.std.specs.List.{list_any, sum_by}
 use Rattle.sch_word.specs.declared.mark.MarkKind.{MarkKind}
 use Rattle.sch_word.specs.declared.mark.MarkKind.TheVariants.{Enter}
-use Rattle.sch_word.specs.runs.Activations.{Activations, activations, none_yet, pass}
+use Rattle.sch_word.specs.runs.Activations.{Activations, activations, none_yet, pass, is_call}
 use Rattle.sch_count.specs.declared.tally.Open.{Open}
 use Rattle.sch_count.specs.declared.tally.Tally.{Tally}
-use Rattle.sch_count.specs.ActivationCounts.{is_of, is_call, saves_of, replaced, replaced_by, row_over, unended}
+use Rattle.sch_count.specs.ActivationCounts.{is_of, saves_of, replaced, replaced_by, row_over, unended}
 
 -- Of an activation that has not ended: its body, which is one of these, its saves, and whether it has called.
 pub record IsOpen (bodies : ℕ) (own : List MarkKind) (o : Open) : Type 0 where

@@ -3,8 +3,8 @@
 ghost use Rattle.std.specs.Prelude.{◌≡◌, ◌≢◌, ◌+◌, ◌++◌, ◌∷◌, ◌<◌, ℕ, [], true, false, List, length, None, All, IfOk, OnOk};
 ghost use Rattle.sch_word.specs.declared.mark.MarkKind.{MarkKind};
 ghost use Rattle.sch_word.specs.declared.mark.MarkKind.TheVariants.{Enter, Call, Save};
-ghost use Rattle.sch_word.specs.runs.Activations.{Activations, is_enter, pass, resumed, settled, with_mark};
-ghost use Rattle.sch_count.specs.ActivationCounts.{is_call, is_save, replaced_by};
+ghost use Rattle.sch_word.specs.runs.Activations.{Activations, is_enter, pass, resumed, settled, with_mark, is_call};
+ghost use Rattle.sch_count.specs.ActivationCounts.{is_save, replaced_by};
 ghost use Rattle.sch_count.specs.Tallied.{HasRoom, HasRoomFor, IsKnown, Tallies, TalliesMarks, TalliesNext};
 
 use crate::row::Row;

@@ -14,4 +14,5 @@ pub mod SmallTexts
 pub mod Sizes
 pub mod LazyWays
 pub mod StoresMarked
+pub mod labels
 mod StoreMarkExamples

@@ -13,7 +13,8 @@ use Rattle.sch_asm.specs.declared.item.Mark.{Mark}
 use Rattle.sch_asm.specs.Stands.{marks_at}
 use Rattle.sch_elf.specs.declared.image.Image.{Image}
 use Rattle.sch_elf.specs.Layout.{memory}
-use Rattle.sch_control.specs.Sizes.{most_variables}
+use Rattle.sch_control.specs.Sizes.{most_variables, tests_of}
+use Rattle.sch_control.specs.Valid.{sites_of_each}
 use Rattle.sch_control.specs.Work.{codes_work}
 use Rattle.sch_control.specs.Tree.{Source}
 use Rattle.sch_control.specs.Run.{run}
@@ -34,6 +35,10 @@ use Rattle.sch_driver.specs.declared.error.CompileError.TheVariants.{TextTooLarg
 -- for each, are within 72 for each unit
 abbrev pub assembled_bound : Source → ℕ
 assembled_bound p = text_base + 72 * codes_work p.bodies
+
+-- the most labels of what is selected: twelve for each site, two for each test and three for each body
+abbrev pub labels_bound : Source → ℕ
+labels_bound p = 12 * length (sites_of_each p.bodies) + (2 * tests_of p.bodies + 3 * length p.bodies)
 
 -- The most steps that a machine takes for a run that has ended: 768 for each instruction of its text, once for each
 -- procedure entry of the run and once more, 10 for each answer that the run used, and 8 for each byte that it charged.

@@ -17,6 +17,7 @@ use Rattle.sch_core.specs.Programs.{IsProgramOf}
 use Rattle.sch_link_tables.specs.Programs.{Definition}
 use Rattle.sch_control.specs.Tree as control
 use Rattle.sch_registers.specs.Registers.{registers_words}
+use Rattle.sch_frames.specs.Sizes.{spread_words}
 use Rattle.sch_frames.specs.Valid.{max_words}
 use Rattle.sch_select.specs.Program.{frames_bytes, max_stack}
 use Rattle.sch_passes.specs.Chain.{control_of}
@@ -56,7 +57,7 @@ text_bound p = text_base + 512 * program_size p
 
 -- the most words of a frame, by the variables of a program's bodies (the project's own)
 abbrev pub frame_bound : tree.Source → ℕ
-frame_bound p = 2 * most_variables p + 216
+frame_bound p = 2 * most_variables p + spread_words
 
 -- how many words the largest frame has of what is compiled of a program, and how many bytes the text
 unfoldable pub frame_words_of : tree.Source → ℕ

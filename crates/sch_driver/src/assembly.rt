@@ -1,6 +1,7 @@
 //! From a control program to an image.
 
 ghost use Rattle.std.specs.Prelude.{◌≡◌, ◌+◌, ◌*◌, ◌<◌, ◌≤◌, map, IfOk, IfErr, IsTrue, OnOk};
+ghost use Rattle.sch_word.specs.runs.ProgramLayout.{data_address};
 ghost use Rattle.sch_word.specs.declared.limits.TheConstants.{MAX_DEPTH};
 ghost use Rattle.sch_control.specs.Covered.{is_covered_program};
 ghost use Rattle.sch_control.specs.ProgramView.{source};
@@ -8,10 +9,10 @@ ghost use Rattle.sch_registers.specs.MadeFrom.{AreMadeFrom};
 ghost use Rattle.sch_registers.specs.Registers.{all_calls, registers_code, registers_orders};
 ghost use Rattle.sch_frames.specs.Standing.{all_marks_stand};
 ghost use Rattle.sch_frames.specs.Valid.{max_words};
-ghost use Rattle.sch_select_memory.specs.Addresses.{max_heap_end};
+ghost use Rattle.sch_select_memory.specs.Addresses.{max_heap_end, max_labels};
 ghost use Rattle.sch_select.specs.Program.{frames_bytes, max_stack};
 ghost use Rattle.sch_select.specs.Sizes.{kinds_of};
-ghost use Rattle.sch_driver.specs.Assembled.{IsAssembled, IsUnfit};
+ghost use Rattle.sch_driver.specs.Assembled.{IsAssembled, IsUnfit, labels_bound};
 ghost use Rattle.sch_driver.specs.ListedCycles.{listed_cycles};
 ghost use Rattle.sch_control.specs.Fits.{table_fits};
 ghost use Rattle.sch_word.specs.runs.Orders.{is_order_table};
@@ -61,8 +62,8 @@ fn check_stack(words: u32, depth: u64) -> Result<(), CompileError>
 
 /// Where a heap of this size ends, behind words of data.
 fn end_of_heap(words: usize, heap: u64) -> u32
-    requires near { 0x10000000 + 8 * words + heap ≤ max_heap_end }
-    ensures { result ≡ 0x10000000 + 8 * words + heap }
+    requires near { data_address + 8 * words + heap ≤ max_heap_end }
+    ensures { result ≡ data_address + 8 * words + heap }
 {
     (DATA_ADDRESS + 8 * words as u64 + heap) as u32
 }
@@ -75,6 +76,7 @@ pub(crate) fn assemble(
     limits: Limits,
 ) -> Result<Assembled, CompileError>
     requires covered { IsTrue (is_covered_program (source p)) }
+    requires labels { labels_bound (source p) ≤ max_labels }
     ensures does { IfOk result (λ a. IsAssembled (source p) limits.heap limits.depth a.frame_words a.instructions a.marks a.image) }
     ensures names { IfOk result (λ a. a.bodies ≡ map (λ b. b.name) p.bodies) }
     ensures orders { IfOk result (λ a. a.orders ≡ registers_orders (source p)) }

@@ -2,11 +2,10 @@
 use Rattle.std.proofs.Common.{◌≡◌, ℕ, zero, suc, ◌+◌, ◌-◌, ◌*◌, ◌/◌, ◌%◌, ◌^◌, ◌≤◌, ◌<◌, List, [], ◌∷◌, ◌++◌, length, get_or, take, drop, min, refl, ap, arith, sym, ◌∙◌, subst, append_assoc, length-append}
 use Rattle.std.specs.Prelude.{Bool, true, false, filter, map, sum_by, replicate, if◌then◌else◌, ◌==◌}
 use Rattle.std.specs.List.{flat_map, AllByRecursion}
-use Rattle.std.proofs.Math.Seq.{drop-append_seam, take-append_seam}
+use Rattle.std.proofs.Math.Seq.{drop-append_seam, take-append_seam, take-length}
 use Rattle.std.proofs.lemmas.List.{get_or-take, length-replicate, length-take}
 use Rattle.std.proofs.lemmas.List.Elements.{recursion_from_All}
 use Rattle.std.proofs.lemmas.List.Sums.{sum_by-cons}
-use Rattle.std.proofs.lemmas.Grind.{common_steps}
 use Rattle.sch_elf.specs.Constants.{page_size}
 use Rattle.sch_elf.specs.Elf.{file_header, first_headers, header_place, headers_from, is_load, program_header}
 use Rattle.sch_elf.specs.declared.header.ProgramHeader.{ProgramHeader}
@@ -241,9 +240,6 @@ image_sound image i laid lt =
     sound_of file i (get_or all i some_header) (take i all) here earlier (omega (arith, image_length image)) kind
     (loadable_at ss (start ss) (length file) i some_segment some_header laid lt size)
 
-take_all : (hs : List ProgramHeader) → take (length hs) hs ≡ hs
-take_all hs = grind (arith, common_steps)
-
 -- the file that is written stands for the image
 pub image_stands : (image : Image) → 0 < length image.segments → image.entry < 2 ^ 64 → StandsFor (image_bytes image) image
 image_stands image some fits =
@@ -254,7 +250,7 @@ image_stands image some fits =
     let all : List ProgramHeader = placed (start ss) ss in
     let count : (file_header file).e_phnum ≡ n = image_phnum image laid.few in
     let heads : headers_from file 64 n ≡ all = image_headers image laid in
-    let whole : take (length all) all ≡ all = take_all all in
+    let whole : take (length all) all ≡ all = take-length all in
     let loaded : loads file ≡ all = ap (λ k. filter is_load (headers_from file 64 k)) count ∙ ap (filter is_load) (heads ∙ sym whole)
     ∙ all_kept all (length all) (placed_loads ss (start ss)) ∙ whole in
     let header : List ℕ = file_header_bytes image.entry n in

@@ -1,6 +1,7 @@
 -- The fault that is found is the least.
 use Rattle.std.proofs.Common.{◌≡◌, ◌⊎◌, inl, inr, ◌≤◌, Bool, true, false, cond, Option, Some, None, nat_le, refl, sym, ◌∙◌, arith}
 use Rattle.std.proofs.lemmas.Bool.{leb-true, leb-false}
+use Rattle.std.proofs.lemmas.Option.{none-some}
 use Rattle.sch_word.proofs.facts.Lists.{some_same}
 use Rattle.sch_sketch.specs.declared.fault.Fault.{Fault}
 use Rattle.sch_expansion.specs.FaultOrder.{rank, reported}
@@ -37,24 +38,21 @@ best_by to back p = record {
   kept = p.kept;
 }
 
-pub none_some : {f : Fault} → None ≡ Some f → ⊥
-none_some e = cc
-
 reported_by : (f g : Fault) (t : Bool) → nat_le (rank g) (rank f) ≡ t → Best (λ h. h ≡ f) (Some g) (cond t (Some g) (Some f))
 reported_by f g true e = record { from = λ h i. inl i; below = λ h i. record { fault = g; is = refl; below = rw i (leb-true _ _ e) }; kept = λ h i. record { fault = g; is = refl; below = rw (some_same i) (omega arith) } }
 reported_by f g false e = record { from = λ h i. inr (sym (some_same i)); below = λ h i. record { fault = f; is = refl; below = rw i (omega arith) }; kept = λ h i. record { fault = f; is = refl; below = rw (sym (some_same i)) (omega (arith, leb-false _ _ e)) } }
 
 pub one_new : (f : Fault) (a : Option Fault) → Best (λ h. h ≡ f) a (reported f a)
-one_new f None = record { from = λ h i. inr (sym (some_same i)); below = λ h i. record { fault = f; is = refl; below = rw i (omega arith) }; kept = λ h i. absurd (none_some i) }
+one_new f None = record { from = λ h i. inr (sym (some_same i)); below = λ h i. record { fault = f; is = refl; below = rw i (omega arith) }; kept = λ h i. absurd (none-some _ i) }
 one_new f (Some g) = reported_by f g _ refl
 
 -- no fault so far
 none_by : {F : Fault → Type 0} {b : Option Fault} (a : Option Fault) → Best F a b → b ≡ None → a ≡ None
 none_by None p e = refl
-none_by (Some g) p e = absurd (none_some (sym e ∙ (p.kept g refl).is))
+none_by (Some g) p e = absurd (none-some _ (sym e ∙ (p.kept g refl).is))
 
 pub none_before : {F : Fault → Type 0} {a b : Option Fault} → Best F a b → b ≡ None → a ≡ None
 none_before {F} {a} {b} p e = none_by a p e
 
 pub none_reported : (f : Fault) (a : Option Fault) → reported f a ≡ None → ⊥
-none_reported f a e = none_some (sym e ∙ ((one_new f a).below f refl).is)
+none_reported f a e = none-some _ (sym e ∙ ((one_new f a).below f refl).is)

@@ -6,7 +6,8 @@ use Rattle.sch_flat.specs.Tree.{bound, free, variable, make_closure, bind, trees
 use Rattle.sch_flat.specs.Run.{run}
 use Rattle.sch_flat.specs.Measures.{sites_of, tests_of, program_size, body_variables, levels}
 use Rattle.sch_flat.specs.Valid.{in_order}
-use Rattle.sch_flat.specs.Examples.{number, made, body, program, is_valid, ends, nested_with, nested, even_odd_with, even_odd, assigned_with, assigned}
+use Rattle.sch_word.specs.runs.WorkedRuns.{ends}
+use Rattle.sch_flat.specs.Examples.{number, made, body, program, is_valid, nested_with, nested, even_odd_with, even_odd, assigned_with, assigned}
 
 -- the first parts of a table of orders from left to right
 abbrev plain : List (List ℕ)

@@ -42,10 +42,6 @@ program sites bodies form = record {
 abbrev pub is_valid : Source → Bool
 is_valid p = is_closed p && (is_formed p && (within_levels p && (in_order p && (sited p && statics_known p))))
 
--- a run that ended, with what it took
-abbrev pub ends : (output : List ℕ) → (status entries charged : ℕ) → Run
-ends output status entries charged = record { output = output; entries = entries; charged = charged; answers = 0; end = ended status }
-
 -- ## Programs
 
 -- (%put ((((lambda (x y) (lambda () (lambda () x))) 7 8)))), with a field that is taken from a field; the record

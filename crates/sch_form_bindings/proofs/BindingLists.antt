@@ -8,7 +8,7 @@ use Rattle.sch_read.specs.Grammar.{Data, none, cons, list, atom, symbol}
 use Rattle.sch_read.specs.Grammar as grammar
 use Rattle.sch_read.specs.Views.{tree_of, data_of}
 use Rattle.sch_sketch.specs.declared.sketch.Sketch as code
-use Rattle.sch_sketch.specs.Draft.{Names}
+use Rattle.sch_names.specs.Scope.{Names}
 use Rattle.sch_sketch.specs.Sketch.{Sketches}
 use Rattle.sch_sketch.specs.Sketch as words
 use Rattle.sch_sketch.specs.SketchView.{sketch_of, ahead}

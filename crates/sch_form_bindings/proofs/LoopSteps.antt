@@ -6,7 +6,8 @@ use Rattle.sch_read.specs.Grammar.{Datum, Data, atom, list, none, cons, symbol}
 use Rattle.sch_read.specs.Parts.{how_many}
 use Rattle.sch_names.specs.ScopeView.{given_names}
 use Rattle.sch_sketch.specs.declared.sketch.Sketch as code
-use Rattle.sch_sketch.specs.Draft.{Names, local}
+use Rattle.sch_names.specs.Scope.{Names}
+use Rattle.sch_sketch.specs.Draft.{local}
 use Rattle.sch_sketch.specs.Sketch.{Kind, Sketches, text, leaf, node, calling}
 use Rattle.sch_sketch.specs.SketchView.{sketch_of, sketches_of, ahead}
 use Rattle.sch_sketch.proofs.PartLists.{ahead_more, made_after}

@@ -2,10 +2,10 @@
 use Rattle.std.proofs.Common.{◌≡◌, ℕ, true, false, List, [], ◌∷◌, ◌++◌, Option, Some, refl, ap, ◌∙◌}
 use Rattle.std.specs.Borrow.{Bor}
 use Rattle.sch_read.specs.Grammar.{Datum, Data, list, none, cons}
-use Rattle.sch_names.specs.Scope.{Scope}
+use Rattle.sch_names.specs.Scope.{Scope, Names}
 use Rattle.sch_names.specs.ScopeView.{given_names}
 use Rattle.sch_sketch.specs.declared.sketch.Row.TheVariants.{Body}
-use Rattle.sch_sketch.specs.Draft.{Names, local}
+use Rattle.sch_sketch.specs.Draft.{local}
 use Rattle.sch_sketch.specs.Sketch.{Sketch, rest, leaf, node, no_sketch, and_sketch, recurring, abstracting, calling}
 use Rattle.sch_sketch.specs.Small.{one, two}
 use Rattle.sch_form_bindings.specs.Bindings.{bound, inits}

@@ -1,9 +1,8 @@
 -- The rows of bindings make sound sketches.
 use Rattle.std.proofs.Common.{◌≡◌, ◌&&◌, ℕ, suc, Bool, false, List, ◌∷◌, length, Some, refl, ap}
 use Rattle.sch_read.specs.Grammar.{Data, atom, list, none, cons, symbol}
-use Rattle.sch_names.specs.Scope.{Scope, onto}
+use Rattle.sch_names.specs.Scope.{Scope, onto, Names}
 use Rattle.sch_sketch.specs.declared.sketch.Row.TheVariants.{Body}
-use Rattle.sch_sketch.specs.Draft.{Names}
 use Rattle.sch_sketch.specs.Sketch.{Kind, Sketches, text as datum, rest, node, no_sketch, and_sketch, how_many_parts, binding, calling}
 use Rattle.sch_sketch.specs.Soundness.{IsSound, AreSound}
 use Rattle.sch_sketch.proofs.SmallSound.{choice, near, call_sound}

@@ -4,8 +4,8 @@ use Rattle.std.proofs.lemmas.Bool.{and_parts}
 use Rattle.sch_read.specs.Grammar.{Datum, Data, atom, list, dotted, vector, none, cons, boolean, integer, character, symbol}
 use Rattle.sch_read.specs.Grammar as grammar
 use Rattle.sch_read.specs.Parts.{how_many}
-use Rattle.sch_names.specs.Scope.{Scope}
-use Rattle.sch_sketch.specs.Draft.{Names, local}
+use Rattle.sch_names.specs.Scope.{Scope, Names}
+use Rattle.sch_sketch.specs.Draft.{local}
 use Rattle.sch_sketch.specs.Sketch.{leaf, no_sketch, calling, sequencing}
 use Rattle.sch_sketch.specs.Small.{one}
 use Rattle.sch_sketch.specs.Soundness.{IsSound, AreSound}

@@ -2,10 +2,10 @@
 use Rattle.std.specs.Prelude.{ℕ, Bool, true, false, cond, ◌&&◌, List, [], ◌∷◌, Some}
 use Rattle.sch_read.specs.Grammar.{Data, atom, list, none, cons, symbol}
 use Rattle.sch_read.specs.Parts.{how_many, offset}
-use Rattle.sch_names.specs.Scope.{Scope, onto}
+use Rattle.sch_names.specs.Scope.{Scope, onto, Names}
 use Rattle.sch_sketch.specs.declared.fault.Fault.TheVariants.{BadForm}
 use Rattle.sch_sketch.specs.declared.sketch.Row.TheVariants.{Body, Nest}
-use Rattle.sch_sketch.specs.Draft.{Names, local}
+use Rattle.sch_sketch.specs.Draft.{local}
 use Rattle.sch_sketch.specs.Sketch.{Sketch, text, rest, wrong, leaf, node, limited, no_sketch, and_sketch, binding, recurring, abstracting, calling}
 use Rattle.sch_sketch.specs.Small.{two}
 use Rattle.sch_sketch.specs.Distinct.{are_distinct}

@@ -1,7 +1,7 @@
 -- Lists of bindings (R5RS 4.2.2).
 use Rattle.std.specs.Prelude.{Bool, true, false, [], ◌∷◌, Some}
 use Rattle.sch_read.specs.Grammar.{Datum, Data, atom, list, none, cons, symbol}
-use Rattle.sch_sketch.specs.Draft.{Names}
+use Rattle.sch_names.specs.Scope.{Names}
 use Rattle.sch_sketch.specs.Sketch.{Sketches, text, and_sketch}
 
 -- the first datum of a list that has one

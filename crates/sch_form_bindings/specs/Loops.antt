@@ -5,7 +5,8 @@ use Rattle.sch_read.specs.Parts.{how_many}
 use Rattle.sch_names.specs.declared.keyword.Keyword.TheVariants.{Begin}
 use Rattle.sch_sketch.specs.declared.fault.Fault.TheVariants.{BadForm}
 use Rattle.sch_sketch.specs.declared.sketch.Row.TheVariants.{Form}
-use Rattle.sch_sketch.specs.Draft.{Names, local}
+use Rattle.sch_names.specs.Scope.{Names}
+use Rattle.sch_sketch.specs.Draft.{local}
 use Rattle.sch_sketch.specs.Sketch.{Sketch, Sketches, text, rest, wrong, leaf, node, no_sketch, and_sketch, choosing, sequencing, recurring, abstracting, calling, nothing}
 use Rattle.sch_sketch.specs.Small.{one, two, three, texts, fresh}
 use Rattle.sch_sketch.specs.Distinct.{are_distinct}

@@ -4,9 +4,8 @@ use Rattle.sch_read.specs.Grammar.{Datum, Data, atom, list, dotted, vector, none
 use Rattle.sch_read.specs.Grammar as grammar
 use Rattle.sch_names.specs.declared.keyword.Keyword.TheVariants.{Begin}
 use Rattle.sch_names.specs.Words.{keyword_of}
-use Rattle.sch_names.specs.Scope.{Scope, onto}
+use Rattle.sch_names.specs.Scope.{Scope, onto, Names}
 use Rattle.sch_sketch.specs.declared.sketch.Row.TheVariants.{Form}
-use Rattle.sch_sketch.specs.Draft.{Names}
 use Rattle.sch_sketch.specs.Measure.{datum_measure, data_measure, sketch_measure, sketches_measure}
 use Rattle.sch_sketch.specs.Sketch.{Sketches, rest}
 use Rattle.sch_sketch.specs.Small.{one}

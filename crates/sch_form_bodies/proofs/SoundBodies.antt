@@ -4,8 +4,7 @@ use Rattle.std.proofs.lemmas.Bool.{and_parts}
 use Rattle.sch_read.specs.Grammar.{Datum, Data, atom, list, dotted, vector, none, cons, boolean, integer, character, symbol}
 use Rattle.sch_read.specs.Grammar as grammar
 use Rattle.sch_names.specs.Words.{keyword_of}
-use Rattle.sch_names.specs.Scope.{Scope, onto}
-use Rattle.sch_sketch.specs.Draft.{Names}
+use Rattle.sch_names.specs.Scope.{Scope, onto, Names}
 use Rattle.sch_sketch.specs.Sketch.{Sketch, Sketches, no_sketch, and_sketch, how_many_parts, abstracting}
 use Rattle.sch_sketch.specs.Soundness.{IsSound, IsSoundKind}
 use Rattle.sch_sketch.proofs.SmallSound.{choice, choice_by}

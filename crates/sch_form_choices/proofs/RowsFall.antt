@@ -2,6 +2,7 @@
 use Rattle.std.proofs.Common.{◌≡◌, ◌≤◌, ◌<◌, ◌+◌, ◌*◌, ℕ, zero, suc, Bool, true, false, cond, Option, Some, None, refl, sym, arith}
 use Rattle.sch_word.specs.declared.primitive.Primitive.{Primitive}
 use Rattle.sch_word.specs.declared.primitive.Primitive.TheVariants.{MakeString}
+use Rattle.sch_word.proofs.facts.Lists.{some_same}
 use Rattle.sch_read.specs.Grammar.{Datum, Data, atom, list, dotted, vector, none, cons}
 use Rattle.sch_read.specs.Parts.{how_many, offset}
 use Rattle.sch_names.specs.declared.keyword.Keyword.TheVariants.{Or}
@@ -83,11 +84,8 @@ pub cond_falls : (s : Scope) (at : ℕ) (xs : Data) → sketch_measure (row_cond
 cond_falls s at none = omega arith
 cond_falls s at (cons c cs) = choice (are_clauses s (cons c cs)) _ _ _ (omega arith) (omega arith)
 
-same_receiver : {f g : Datum} → Some g ≡ Some f → g ≡ f
-same_receiver e = cc
-
 received_if : (b : Bool) (g f : Datum) (r : ℕ) → cond b (Some g) None ≡ Some f → datum_measure g + 24 ≤ r → datum_measure f + 24 ≤ r
-received_if true g f r e h = rw (sym (same_receiver e)) h
+received_if true g f r e h = rw (sym (some_same e)) h
 received_if false g f r e h = cc
 
 -- the receiver of a clause is in what follows its test

@@ -21,7 +21,8 @@ use Rattle.sch_frames.specs.declared.instruction.Instruction.{Instruction}
 use Rattle.sch_frames.specs.declared.instruction.Instruction.TheVariants.{Do, Store, Copy, Pass, Fix, Call, Tail, Return, End, IfFalse, Jump, Label, Mark}
 use Rattle.sch_frames.specs.Covered.{begins, is_covered_code, is_covered_instruction, is_covered_program, plain_instruction}
 use Rattle.sch_frames.specs.Run.{run}
-use Rattle.sch_frames.specs.Sizes.{copies_of, frame_words, grouped, instructions_size, jumped, largest_frame, program_copies, program_size}
+use Rattle.sch_control.specs.RegisterWork.{entry_done}
+use Rattle.sch_frames.specs.Sizes.{copies_of, frame_words, grouped, instructions_size, largest_frame, program_copies, program_size}
 use Rattle.sch_frames.specs.Standing.{Other, marks_stand}
 use Rattle.sch_frames.specs.Tree.{Code, Source}
 use Rattle.sch_frames.specs.Valid.{code_valid, instruction_placed, is_valid, placed, forward}
@@ -230,7 +231,7 @@ restore_rows = refl
 size_rows :
     (instructions_size (Label 0 ∷ shows) ≡ 3)
     × (program_size (program [] (form 2 0 shows ∷ (form 2 1 (Label 0 ∷ shows) ∷ [])) 2) ≡ 6)
-    × (map jumped (seventh.entry ∷ None ∷ []) ≡ 1 ∷ 0 ∷ [])
+    × (map entry_done (seventh.entry ∷ None ∷ []) ≡ 1 ∷ 0 ∷ [])
 size_rows = (refl, refl, refl)
 
 -- copies are counted apart

@@ -20,10 +20,11 @@ use Rattle.sch_control.specs.Operations.{Ending, Procedure, member_bytes, member
 use Rattle.sch_control.specs.Run.{do_forms, enter, enter_body, entry_at, known_entry, outcome_of, starting_world}
 use Rattle.sch_frames.specs.declared.instruction.Instruction.{Instruction}
 use Rattle.sch_frames.specs.declared.instruction.Instruction.TheVariants.{Do, Store as Put, Copy, Pass, Fix, Call, Tail, Return, End, IfFalse, Jump, Label, Mark}
-use Rattle.sch_frames.specs.Meaning.{Cell, Frame, Is, Junk, Link, after_call, beginning, execute, execute_each, held, if_link, link_register, parts, sought, value_in, with_members}
+use Rattle.sch_word.specs.values.Places.{link_place}
+use Rattle.sch_frames.specs.Meaning.{Cell, Frame, Is, Junk, Link, after_call, beginning, execute, execute_each, held, if_link, parts, sought, value_in, with_members}
 use Rattle.sch_frames.specs.Run.{bodies_of, do_known, entries_of}
 use Rattle.sch_frames.specs.Tree.{Code, Source}
-use Rattle.sch_frames.specs.Valid.{formals_of}
+use Rattle.sch_control.specs.flow.Places.{formals_of}
 use Rattle.sch_frames.specs.Covered.{is_covered_code}
 use Rattle.sch_frames.specs.Standing.{all_marks_stand, code_marks_stand}
 use Rattle.sch_frames.proofs.MarksAndEnds.{belongs, code_stands, marks_stand, stands_alone, waiting}
@@ -229,11 +230,11 @@ module _ (codes : List Code) where
             (λ p i v u on. goes None h None (after_call f v) u (before ++ mark.Call site ∷ [])
             (λ marks y. one_before before (mark.Call site) marks (leads marks (vs, (q, ((depth, (p, i)), (v, (u.state, y))))))) on))
         left (mark.Tail site) (Tail spread count) b h f w before prior e leads mine =
-            linked P (f.places link_register) _ (λ i. valued P (parts f.places (λ j. f.places (Slot j)) count) (λ vs. call_in callee spread true depth vs w)
+            linked P (f.places link_place) _ (λ i. valued P (parts f.places (λ j. f.places (Slot j)) count) (λ vs. call_in callee spread true depth vs w)
             (λ vs q. let level = tail_called codes site mine (a_way (before ++ mark.Tail site ∷ []) (leads [] (i, (vs, (q, refl))))) in
             as_given (Back codes suspended) P back (call_in callee spread true depth vs w) (call_comes spread true suspended vs w (subst (Level codes suspended) (sym e) level))))
         left mark.Return Return b h f w before prior e leads mine =
-            linked P (f.places link_register) _ (λ i. valued P (value_in f.accumulator) (λ v. Some (gives v w))
+            linked P (f.places link_place) _ (λ i. valued P (value_in f.accumulator) (λ v. Some (gives v w))
             (λ v q. back w.marks (subst (Back codes suspended) (sym e) (returned codes suspended mine (a_way (before ++ mark.Return ∷ []) (leads [] (i, (v, (q, refl)))))))))
         left _ _ b h f w before prior e leads mine = absurd cc
 

@@ -8,7 +8,7 @@ use Rattle.sch_word.specs.values.Registers.{argument_registers}
 use Rattle.sch_word.specs.values.Values.{Value, unspecified, is_true}
 use Rattle.sch_word.specs.runs.Computation.{gives, in_store, procedures_from}
 use Rattle.sch_word.specs.runs.Charges.{charge_each}
-use Rattle.sch_word.specs.values.Places.{same_place}
+use Rattle.sch_word.specs.values.Places.{same_place, link_place, closure_place}
 use Rattle.sch_control.specs.declared.body.Entry.{Entry}
 use Rattle.sch_control.specs.declared.operation.Member.{Member}
 use Rattle.sch_control.specs.Operations.{operate, and_value, member_bytes, members_made, with_procedures}
@@ -29,17 +29,6 @@ pub record Frame : Type 0 where
   pub outgoing : ℕ → Cell
 
 -- ## Places
-
-abbrev pub is_slot : Place → Bool
-is_slot (Reg r) = false
-is_slot (Slot j) = true
-
--- where the closure and the return address of an activation arrive: R14 and R15
-abbrev pub closure_register : Place
-closure_register = Reg CLOSURE_REGISTER
-
-abbrev pub link_register : Place
-link_register = Reg LINK_REGISTER
 
 -- where the operand with k before it is handed over, if that is in a register
 abbrev pub argument_register : ℕ → Option ℕ
@@ -95,7 +84,7 @@ arguments places slots from (suc count) = and_value (argument places slots from)
 
 -- the operator's value, and the operands'
 abbrev pub parts : (Place → Cell) → (slots : ℕ → Cell) → (count : ℕ) → Option (List Value)
-parts places slots count = and_value (value_in (places closure_register)) (arguments places slots 0 count)
+parts places slots count = and_value (value_in (places closure_place)) (arguments places slots 0 count)
 
 abbrev pub kept : (Place → Cell) → Place → Cell
 kept places (Reg r) = Junk
@@ -137,9 +126,9 @@ module _ (callee : Callee) (depth : ℕ) where
       with_value (parts f.places f.outgoing count)
       (λ vs. on_return (call_in callee spread false depth vs w) (λ v w. next None (after_call f v) w))
   execute (Tail spread count) next f w =
-      if_link (f.places link_register)
+      if_link (f.places link_place)
       (with_value (parts f.places (λ j. f.places (Slot j)) count) (λ vs. call_in callee spread true depth vs w))
-  execute Return next f w = if_link (f.places link_register) (with_value (value_in f.accumulator) (λ v. Some (gives v w)))
+  execute Return next f w = if_link (f.places link_place) (with_value (value_in f.accumulator) (λ v. Some (gives v w)))
   execute End next f w = Some (gives unspecified w)
   execute (IfFalse l) next f w = with_value (value_in f.accumulator) (λ v. either (is_true v) (next None f w) (next (Some l) f w))
   execute (Jump l) next f w = next (Some l) f w

@@ -1,6 +1,7 @@
 -- Sizes of instructions and of frames, and how much there is to do in them.
 use Rattle.std.specs.Prelude.{ℕ, suc, ◌+◌, max, Bool, false, cond, List, [], ◌∷◌, length, Option, Some, None}
 use Rattle.std.specs.List.{list_any}
+use Rattle.sch_control.specs.RegisterWork.{entry_done}
 use Rattle.sch_control.specs.declared.body.Entry.{Entry}
 use Rattle.sch_control.specs.AtomsAndSites.{member_atoms}
 use Rattle.sch_control.specs.Sizes.{operation_size}
@@ -67,19 +68,14 @@ grouped (Fix members spills ∷ instructions) = length members + grouped instruc
 grouped (Call spread count ∷ instructions) = suc (grouped instructions)
 grouped (_ ∷ instructions) = grouped instructions
 
--- a procedure's body is jumped over
-abbrev pub jumped : Option Entry → ℕ
-jumped None = 0
-jumped (Some e) = 1
-
 -- the closures that groups make, these calls, and the procedures
 abbrev pub closures_in : List Code → ℕ
 closures_in [] = 0
-closures_in (c ∷ codes) = jumped c.entry + (grouped c.instructions + closures_in codes)
+closures_in (c ∷ codes) = entry_done c.entry + (grouped c.instructions + closures_in codes)
 
 -- what there is to do in a body, with its closures, its calls and the jump over it
 abbrev pub code_work : Code → ℕ
-code_work c = instructions_size c.instructions + grouped c.instructions + jumped c.entry
+code_work c = instructions_size c.instructions + grouped c.instructions + entry_done c.entry
 
 -- the same of all bodies of a program
 abbrev pub program_work : Source → ℕ

@@ -4,7 +4,7 @@ use Rattle.std.specs.List.{list_all}
 use Rattle.sch_word.specs.declared.place.Place.{Place}
 use Rattle.sch_word.specs.declared.place.Place.TheVariants.{Reg, Slot}
 use Rattle.sch_word.specs.values.Literals.{count_literals}
-use Rattle.sch_word.specs.trees.NumberSets.{has}
+use Rattle.sch_word.specs.trees.NumberSets.{has, without_repeats}
 use Rattle.sch_word.specs.values.Registers.{argument_registers, body_registers}
 use Rattle.sch_word.specs.runs.Runs.{statics_valid, statics_in_range}
 use Rattle.sch_word.specs.trees.Shape.{max_operands}
@@ -13,10 +13,11 @@ use Rattle.sch_control.specs.declared.operation.Atom.{Atom}
 use Rattle.sch_control.specs.declared.operation.Atom.TheVariants.{Variable}
 use Rattle.sch_control.specs.declared.operation.Member.{Member}
 use Rattle.sch_control.specs.AtomsAndSites.{operation_atoms, member_atoms}
-use Rattle.sch_control.specs.Valid.{without_repeats, operation_shaped, group_shaped, entry_shaped, operation_known, group_known, Names, without_fields}
+use Rattle.sch_control.specs.Valid.{operation_shaped, group_shaped, entry_shaped, operation_known, group_known, Names, without_fields}
 use Rattle.sch_frames.specs.declared.instruction.Instruction.{Instruction}
 use Rattle.sch_frames.specs.declared.instruction.Instruction.TheVariants.{Do, Store, Copy, Pass, Fix, Call, Tail, IfFalse, Jump, Label}
-use Rattle.sch_frames.specs.Meaning.{is_slot}
+use Rattle.sch_word.specs.values.Places.{is_slot}
+use Rattle.sch_control.specs.flow.Places.{formals_of}
 use Rattle.sch_frames.specs.Tree.{Code, Source}
 use Rattle.sch_frames.specs.Run.{entries_of}
 
@@ -59,10 +60,6 @@ module _ (words : ℕ) where
   instruction_placed (Call spread count) = handed_over count
   instruction_placed (Tail spread count) = handed_over count
   instruction_placed _ = true
-
-abbrev pub formals_of : Option Entry → ℕ
-formals_of None = 0
-formals_of (Some e) = e.formals
 
 -- whether a body is a procedure's, which is entered
 abbrev pub is_entered : Option Entry → Bool

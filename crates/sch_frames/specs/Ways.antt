@@ -12,9 +12,10 @@ use Rattle.sch_control.specs.declared.operation.Member.{Member}
 use Rattle.sch_control.specs.Operations.{Procedure, member_bytes, members_made, operate, with_procedures}
 use Rattle.sch_frames.specs.declared.instruction.Instruction.{Instruction}
 use Rattle.sch_frames.specs.declared.instruction.Instruction.TheVariants.{Do, Store as Put, Copy, Pass, Fix, Call, Tail, Return, End, IfFalse, Jump, Label, Mark}
-use Rattle.sch_frames.specs.Meaning.{Frame, Is, Link, after_call, beginning, held, link_register, parts, sought, value_in, with_members, with_outgoing, with_place}
+use Rattle.sch_word.specs.values.Places.{link_place}
+use Rattle.sch_frames.specs.Meaning.{Frame, Is, Link, after_call, beginning, held, parts, sought, value_in, with_members, with_outgoing, with_place}
 use Rattle.sch_frames.specs.Tree.{Code}
-use Rattle.sch_frames.specs.Valid.{formals_of}
+use Rattle.sch_control.specs.flow.Places.{formals_of}
 
 -- from where the body goes on, perhaps to a label that is sought, in a frame and a state, with the marks on the way
 abbrev pub Onward : Type 1
@@ -40,8 +41,8 @@ step (Pass k) next f s marks = next None (with_outgoing f k f.accumulator) s mar
 step (Fix members spills) next f s marks = (v : Value) × ((t : State Procedure) × ((in_store (charge_each (member_bytes members)) s ≡ gives v t) × group members spills next f t marks))
 step (Call spread count) next f s marks =
     (vs : List Value) × ((parts f.places f.outgoing count ≡ Some vs) × (goes_through spread vs s × ((v : Value) × ((t : State Procedure) × next None (after_call f v) t marks))))
-step (Tail spread count) next f s marks = (f.places link_register ≡ Link) × ((vs : List Value) × ((parts f.places (λ j. f.places (Slot j)) count ≡ Some vs) × (marks ≡ [])))
-step Return next f s marks = (f.places link_register ≡ Link) × ((v : Value) × ((value_in f.accumulator ≡ Some v) × (marks ≡ [])))
+step (Tail spread count) next f s marks = (f.places link_place ≡ Link) × ((vs : List Value) × ((parts f.places (λ j. f.places (Slot j)) count ≡ Some vs) × (marks ≡ [])))
+step Return next f s marks = (f.places link_place ≡ Link) × ((v : Value) × ((value_in f.accumulator ≡ Some v) × (marks ≡ [])))
 step End next f s marks = marks ≡ []
 step (IfFalse l) next f s marks = (v : Value) × ((value_in f.accumulator ≡ Some v) × next (cond (is_true v) None (Some l)) f s marks)
 step (Jump l) next f s marks = next (Some l) f s marks

@@ -9,16 +9,13 @@ use Rattle.sch_control.specs.declared.body.Entry.{Entry}
 use Rattle.sch_control.specs.Tree.{Expression}
 use Rattle.sch_control.specs.flow.Apart as flow
 use Rattle.sch_control.specs.flow.Live.{Live, nothing_later}
-use Rattle.sch_control.specs.flow.Places.{arrival, closure_place, link_place, place_of, stays}
-use Rattle.sch_frames.specs.Meaning.{is_slot}
-use Rattle.sch_word.specs.values.Places.{same_place}
-use Rattle.sch_frames.specs.Valid.{formals_of}
-use Rattle.sch_frames.proofs.FramePlaces.{same_self}
+use Rattle.sch_control.specs.flow.Places.{arrival, place_of, stays, formals_of}
+use Rattle.sch_word.specs.values.Places.{same_place, closure_place, link_place, is_slot}
 use Rattle.sch_layout.specs.BodyLayout.{arrived}
 use Rattle.sch_layout.specs.BodyLayout as layout
 use Rattle.sch_layout.specs.Laws.{EntersSlots}
 use Rattle.sch_layout.specs.SharedPlaces.{Alone, Arrives}
-use Rattle.sch_word.proofs.facts.Places.{places_same}
+use Rattle.sch_word.proofs.facts.Places.{place_itself, places_same}
 use Rattle.sch_homes.specs.Homes.{homes_plan, lives_in, place}
 
 -- ## The places of a body
@@ -88,7 +85,7 @@ module _ (entry : Option Entry) (e : Expression) (places : List Place) (whole : 
 
   -- what stays does not come elsewhere
   not_elsewhere : {A : Type 0} (x : ℕ) → x < 2 + formals_of entry → place_of places x ≡ arrived x → same_place (lies x) (arrived x) ≡ false → A
-  not_elsewhere x lt i s = absurd (false_true (ap (λ p. same_place p (arrived x)) (lies_at x lt ∙ i) ∙ same_self (arrived x)) s)
+  not_elsewhere x lt i s = absurd (false_true (ap (λ p. same_place p (arrived x)) (lies_at x lt ∙ i) ∙ place_itself (arrived x)) s)
 
   -- what does not stay comes from a register
   pub from_register : (x : ℕ) → x < 2 + formals_of entry → same_place (lies x) (arrived x) ≡ false → is_slot (arrived x) ≡ false

@@ -1,8 +1,11 @@
 -- How far the slots of a call's temporaries go.
-use Rattle.std.proofs.Common.{◌≡◌, ℕ, suc, ◌+◌, ◌-◌, ◌<◌, ◌≤◌, max, List, length, Option, Bool, true, false, sym, ◌∙◌, subst, arith}
+use Rattle.std.proofs.Common.{◌≡◌, ℕ, zero, suc, ◌+◌, ◌-◌, ◌<◌, ◌≤◌, max, List, [], ◌∷◌, length, Option, Bool, true, false, refl, sym, ◌∙◌, subst, arith}
+use Rattle.std.specs.Prelude.{nat_lt}
 use Rattle.std.proofs.Math.Nat.{le-max_left, le-max_right, max-le}
+use Rattle.std.proofs.lemmas.Bool.{ltb-false, ltb-true}
 use Rattle.sch_word.specs.trees.Shape.{max_operands}
 use Rattle.sch_word.specs.declared.place.Place.{Place}
+use Rattle.sch_word.specs.declared.place.Place.TheVariants.{Reg}
 use Rattle.sch_word.specs.values.Registers.{argument_registers}
 use Rattle.sch_control.specs.declared.body.Entry.{Entry}
 use Rattle.sch_control.specs.declared.operation.Application.{Application}
@@ -20,6 +23,7 @@ use Rattle.sch_homes.specs.Homes.{calls_end, first_home, homes_end, place}
 use Rattle.sch_homes.proofs.CallSpare as spare
 use Rattle.sch_homes.proofs.CallsBring.{first_low}
 use Rattle.sch_homes.proofs.MovesEnd.{IsAsideBefore, end_least, end_within}
+use Rattle.sch_homes.proofs.Numbered.{map_at, map_length}
 use Rattle.sch_homes.proofs.ShuffledMoves.{each_act, moves_back}
 use Rattle.sch_homes.proofs.SlotsApart.{HasRoom, lives_before}
 use Rattle.sch_homes.proofs.SpareTemporaries.{IsTemporary, at_register, at_slot, is_temporary, register, slot}
@@ -78,6 +82,54 @@ module _ (used : ℕ) (lives : ℕ → Place) where
     within_calls (end e) h = within_calls e h
     within_calls (save saves e) h = within_calls e h
 
+-- ## One call, whatever its arguments read
+
+place_past : (places : List Place) (u : ℕ) → length places ≤ u → place_at places u ≡ Reg 0
+place_past [] zero le = refl
+place_past [] (suc u) le = refl
+place_past (p ∷ places) zero le = absurd (omega (arith, le))
+place_past (p ∷ places) (suc u) le = place_past places u (omega (arith, le))
+
+module _ (used : ℕ) (lives : ℕ → Place) (tail : Bool) (a : Application ℕ) where
+  abbrev begins : ℕ
+  begins = first_temporary used (length a.operands)
+
+  abbrev asided : List Place
+  asided = call_free used lives tail a
+
+  -- a temporary ends no further than there are slots before it
+  temporary_end : (u : ℕ) → u < suc (length a.operands) → slot_end (place_at asided u) ≤ begins + suc u
+  temporary_end u lt = by (is_temporary test begins u) where
+    test : Place → Bool
+    test = is_spare (call_arguments lives a) (call_targets tail a)
+
+    at : place_at asided u ≡ temporary (spare_registers (call_arguments lives a) (call_targets tail a)) begins u
+    at = map_at (temporary (spare_registers (call_arguments lives a) (call_targets tail a)) begins) (suc (length a.operands)) u lt
+
+    by : IsTemporary test begins u → slot_end (place_at asided u) ≤ begins + suc u
+    by (register r i t h) = subst (λ q. slot_end q ≤ begins + suc u) (sym (at ∙ at_register test begins u r i)) (omega arith)
+    by (slot le i) = subst (λ q. slot_end q ≤ begins + suc u) (sym (at ∙ at_slot test begins u i)) (omega arith)
+
+  temporary_low : (u : ℕ) → slot_end (place_at asided u) ≤ begins + suc (length a.operands)
+  temporary_low u = by (nat_lt u (suc (length a.operands))) refl where
+    by : (t : Bool) → nat_lt u (suc (length a.operands)) ≡ t → slot_end (place_at asided u) ≤ begins + suc (length a.operands)
+    by true h = let lt = ltb-true u (suc (length a.operands)) h in let e = temporary_end u lt in omega (arith, lt, e)
+    by false h =
+        let past = ltb-false u (suc (length a.operands)) h in
+        let many = map_length (temporary (spare_registers (call_arguments lives a) (call_targets tail a)) begins) (suc (length a.operands)) in
+        subst (λ q. slot_end q ≤ begins + suc (length a.operands)) (sym (place_past asided u (omega (arith, past, many)))) (omega arith)
+
+  -- it sets aside no more than it has arguments
+  pub call_low : call_end used lives tail a ≤ begins + suc (length a.operands)
+  call_low =
+      end_within (begins + suc (length a.operands)) begins (call_moves used lives tail a)
+      (subst (EachMove (IsAsideBefore (begins + suc (length a.operands)))) (sym (moves_back (arguments_at lives a) (call_targets tail a) (acts asided (all_choices (call_arguments lives a) (call_targets tail a)))))
+      (each_act (arguments_at lives a) (call_targets tail a) (IsAsideBefore (begins + suc (length a.operands))) (λ p. slot_end p ≤ begins + suc (length a.operands))
+      (λ k lt. omega arith) (λ k p lt t. t) (λ k p q lt t s. s) (λ k p lt t. omega arith)
+      (acts asided (all_choices (call_arguments lives a) (call_targets tail a)))
+      (acts_used (call_arguments lives a) (call_targets tail a) asided (λ p. slot_end p ≤ begins + suc (length a.operands)) (λ v lt. temporary_low v))))
+      (omega arith)
+
 -- ## One call
 
 module _ (entry : Option Entry) (e : Expression) (places : List Place) (room : HasRoom entry e places) (tail : Bool) (a : Application ℕ)
@@ -100,19 +152,6 @@ module _ (entry : Option Entry) (e : Expression) (places : List Place) (room : H
   abbrev asides : ℕ
   asides = spare.asides used low lives (λ x. x < length places) (lives_before entry e places) (first_low entry e places room) tail a reads
 
-  -- a temporary ends no further than there are slots before it
-  temporary_end : (u : ℕ) → u < suc (length a.operands) → slot_end (place_at free u) ≤ first + suc u
-  temporary_end u lt = by (is_temporary test first u) where
-    test : Place → Bool
-    test = is_spare (call_arguments lives a) (call_targets tail a)
-
-    at : place_at free u ≡ temporary (spare_registers (call_arguments lives a) (call_targets tail a)) first u
-    at = spare.free_at used low lives (λ x. x < length places) (lives_before entry e places) (first_low entry e places room) tail a reads u lt
-
-    by : IsTemporary test first u → slot_end (place_at free u) ≤ first + suc u
-    by (register r i t h) = subst (λ q. slot_end q ≤ first + suc u) (sym (at ∙ at_register test first u r i)) (omega arith)
-    by (slot le i) = subst (λ q. slot_end q ≤ first + suc u) (sym (at ∙ at_slot test first u i)) (omega arith)
-
   call_reach : call_end used lives tail a ≤ first + asides
   call_reach =
       end_within (first + asides) first (call_moves used lives tail a)
@@ -121,7 +160,7 @@ module _ (entry : Option Entry) (e : Expression) (places : List Place) (room : H
       (λ k lt. omega arith) (λ k p lt t. t) (λ k p q lt t s. s) (λ k p lt t. omega arith)
       (acts free (all_choices (call_arguments lives a) (call_targets tail a)))
       (acts_used (call_arguments lives a) (call_targets tail a) free (λ p. slot_end p ≤ first + asides)
-      (λ v lt. let f = spare.asides_few used low lives (λ x. x < length places) (lives_before entry e places) (first_low entry e places room) tail a reads in let t = temporary_end v (omega (arith, lt, f)) in omega (arith, lt, t)))))
+      (λ v lt. let f = spare.asides_few used low lives (λ x. x < length places) (lives_before entry e places) (first_low entry e places room) tail a reads in let t = temporary_end used lives tail a v (omega (arith, lt, f)) in omega (arith, lt, t)))))
       (omega arith)
 
   -- it is within what homes and operands, or slots of variables and operands, have together

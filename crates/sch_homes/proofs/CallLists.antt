@@ -13,6 +13,7 @@ use Rattle.sch_control.specs.declared.operation.Operand.{Operand}
 use Rattle.sch_control.specs.declared.operation.Operand.TheVariants as operand
 use Rattle.sch_layout.specs.BodyLayout.{arguments_at, operand_at, operands_at, target}
 use Rattle.sch_layout.specs.Moves.{Move}
+use Rattle.sch_layout.proofs.layouts.InstructionTests.{length_operands}
 use Rattle.sch_shuffle.specs.declared.operand.Operand.{Operand as Argument}
 use Rattle.sch_shuffle.specs.Assignment.{Transfer}
 use Rattle.sch_shuffle.specs.Greedy.{made}
@@ -24,10 +25,6 @@ use Rattle.sch_homes.proofs.Numbered.{map_length}
 pub any_mapped : {A B : Type 0} (test : B → Bool) (f : A → B) (xs : List A) → list_any (λ x. test (f x)) xs ≡ list_any test (map f xs)
 any_mapped test f [] = refl
 any_mapped test f (x ∷ xs) = ap (λ b. test (f x) || b) (any_mapped test f xs)
-
-pub at_length : (lives : ℕ → Place) (operands : List (Operand ℕ)) → length (operands_at lives operands) ≡ length operands
-at_length lives [] = refl
-at_length lives (o ∷ operands) = ap suc (at_length lives operands)
 
 module _ (lives : ℕ → Place) where
   -- an argument by its number
@@ -54,10 +51,10 @@ module _ (lives : ℕ → Place) where
 
   pub arguments_length : (a : Application ℕ) (args : List Argument) → map tree args ≡ call_arguments lives a → length args ≡ suc (length a.operands)
   arguments_length a args e =
-      sym (length-map args tree) ∙ (ap length e ∙ (length-map (arguments_at lives a) operand_tree ∙ at_length lives (a.operator ∷ a.operands)))
+      sym (length-map args tree) ∙ (ap length e ∙ (length-map (arguments_at lives a) operand_tree ∙ length_operands lives (a.operator ∷ a.operands)))
 
   pub trees_length : (a : Application ℕ) → length (call_arguments lives a) ≡ suc (length a.operands)
-  trees_length a = length-map (arguments_at lives a) operand_tree ∙ at_length lives (a.operator ∷ a.operands)
+  trees_length a = length-map (arguments_at lives a) operand_tree ∙ length_operands lives (a.operator ∷ a.operands)
 
   -- the moves are made of what is made before them
   pub moves_whole : (end : ℕ) (tail : Bool) (a : Application ℕ) (args : List Argument) (operands count first : ℕ) (to spare free : List Place) (steps : List Transfer) (moves : List Move)

@@ -16,7 +16,7 @@ use Rattle.sch_control.specs.declared.operation.Operand.{Operand}
 use Rattle.sch_control.specs.declared.operation.Operand.TheVariants as operand
 use Rattle.sch_control.specs.AtomsAndSites.{application_atoms, operand_atoms, operands_atoms}
 use Rattle.sch_word.specs.values.Places.{same_place}
-use Rattle.sch_frames.proofs.FramePlaces.{same_self}
+use Rattle.sch_word.proofs.facts.Places.{place_itself}
 use Rattle.sch_layout.specs.BodyLayout.{arguments_at, atoms_at, operand_at, operands_at, target}
 use Rattle.sch_layout.specs.Laws.{AtomsHave}
 use Rattle.sch_layout.proofs.Targets.{targets_apart}
@@ -90,7 +90,7 @@ module _ (tail : Bool) (count : ℕ) where
     by (inr other) =
         let l = targets_count in
         let both : target tail next_frame i ≡ target tail next_frame j = sym (target_at i (omega (arith, a, l))) ∙ (e ∙ target_at j (omega (arith, b, l))) in
-        absurd (false_true (ap (same_place (target tail next_frame i)) (sym both) ∙ same_self (target tail next_frame i)) (targets_apart tail next_frame i j other))
+        absurd (false_true (ap (same_place (target tail next_frame i)) (sym both) ∙ place_itself (target tail next_frame i)) (targets_apart tail next_frame i j other))
 
 -- ## What arguments use
 
@@ -130,7 +130,7 @@ none_there test (x ∷ xs) zero lt h = not_left (test x) _ h
 none_there test (x ∷ xs) (suc i) lt h = none_there test xs i (omega (arith, lt)) (not_right (test x) _ h)
 
 not_there : (q p : Place) → same_place q p ≡ false → q ≢ p
-not_there q p h e = false_true (ap (same_place q) (sym e) ∙ same_self q) h
+not_there q p h e = false_true (ap (same_place q) (sym e) ∙ place_itself q) h
 
 -- `end`: behind the slots in use, `low`: behind those in which variables live
 module _ (end low : ℕ) (lives : ℕ → Place) (Low : ℕ → Type 0) (below : (x j : ℕ) → Low x → lives x ≡ Slot j → j < low) (more : low ≤ end)

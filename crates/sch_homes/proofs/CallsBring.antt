@@ -19,8 +19,7 @@ use Rattle.sch_control.specs.declared.operation.Operand.{Operand}
 use Rattle.sch_control.specs.declared.operation.Operand.TheVariants as operand
 use Rattle.sch_control.specs.AtomsAndSites.{application_atoms, operand_atoms, operands_atoms}
 use Rattle.sch_control.specs.Tree.{Expression}
-use Rattle.sch_frames.specs.Meaning.{is_slot, link_register}
-use Rattle.sch_word.specs.values.Places.{same_place}
+use Rattle.sch_word.specs.values.Places.{same_place, is_slot, link_place}
 use Rattle.sch_frames.specs.Valid.{max_words}
 use Rattle.sch_layout.specs.BodyLayout.{arguments_at, atoms_at, operand_at, operands_at, target}
 use Rattle.sch_layout.specs.Laws.{AtomsHave}
@@ -60,7 +59,7 @@ module _ (lives : ℕ → Place) (P : ℕ → Type 0) (limit : ℕ) (f : (x : �
 
 -- ## Calls
 
-no_link : (r : ℕ) → has r argument_registers ≡ true → same_place link_register (Reg r) ≡ false
+no_link : (r : ℕ) → has r argument_registers ≡ true → same_place link_place (Reg r) ≡ false
 no_link r h = by (nat_eq 15 r) refl where
   by : (t : Bool) → nat_eq 15 r ≡ t → t ≡ false
   by true e = absurd (let bad : has 15 argument_registers ≡ true = subst (λ r. has r argument_registers ≡ true) (sym (eqb-true 15 r e)) h in cc)

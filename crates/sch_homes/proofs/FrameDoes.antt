@@ -10,13 +10,14 @@ use Rattle.sch_control.specs.Valid.{Tests, each_part}
 use Rattle.sch_control.specs.flow.Bare.{erased}
 use Rattle.sch_control.specs.flow.Middle.{silent}
 use Rattle.sch_frames.specs.Does.{EndsAs, FrameOf, world}
-use Rattle.sch_frames.specs.Meaning.{beginning, execute_each, is_slot}
+use Rattle.sch_word.specs.values.Places.{is_slot}
+use Rattle.sch_frames.specs.Meaning.{beginning, execute_each}
 use Rattle.sch_frames.specs.Valid.{instruction_known}
 use Rattle.sch_layout.specs.BodyLayout.{arguments_at, entering, lay}
 use Rattle.sch_layout.specs.Laws.{Behind, Uses}
 use Rattle.sch_layout.specs.Moves.{EachMove}
 use Rattle.sch_layout.proofs.does.PlacedBodies.{body_does}
-use Rattle.sch_layout.proofs.layouts.InstructionTests.{Taken, Takes, entering_passes, known_steers, lay_passes, parts_named, unplaced_carries, unplaced_known}
+use Rattle.sch_layout.proofs.layouts.InstructionTests.{Taken, Takes, entering_passes, known_steers, lay_passes, parts_named, unplaced_carries, unplaced_known, length_operands}
 use Rattle.sch_layout.proofs.layouts.VariablesUsed.{code_uses, numbered_is}
 use Rattle.sch_paths.specs.Conditions.{Fresh}
 use Rattle.sch_control.specs.flow.Live.{nothing_later}
@@ -28,7 +29,7 @@ use Rattle.sch_homes.specs.CallMoves.{call_arguments, call_free, call_targets}
 use Rattle.sch_homes.specs.Homes.{homes_code, homes_end, homes_plan, place}
 use Rattle.sch_homes.specs.Laws.{IsPlaced}
 use Rattle.sch_paths.specs.EachSoonRestored.{EachSoonRestored}
-use Rattle.sch_homes.proofs.CallLists.{at_length, trees_length}
+use Rattle.sch_homes.proofs.CallLists.{trees_length}
 use Rattle.sch_homes.proofs.FrameRoom.{uses_erased}
 use Rattle.sch_homes.proofs.HomesPlaced.{homes_placed}
 use Rattle.sch_homes.proofs.ShuffledMoves.{argument_there, each_act, moves_back}
@@ -55,7 +56,7 @@ homes_takes entry e places tail a =
     let to = call_targets tail a in
     let free = call_free (homes_end entry e places) (place entry e places) tail a in
     let many = trees_length (place entry e places) a in
-    let l = at_length (place entry e places) (a.operator ∷ a.operands) in
+    let l = length_operands (place entry e places) (a.operator ∷ a.operands) in
     subst (EachMove (λ m. Taken (arguments_at (place entry e places) a) m.from)) (sym (moves_back os to (acts free (all_choices args to))))
     (each_act os to (λ m. Taken (arguments_at (place entry e places) a) m.from) (λ p. Unit {0})
     (λ k lt. inl (k, argument_there os k (omega (arith, lt, many, l)))) (λ k p lt t. inl (k, argument_there os k (omega (arith, lt, many, l)))) (λ k p q lt t s. inr (p, refl)) (λ k p lt t. inr (p, refl))

@@ -3,6 +3,7 @@ use Rattle.std.proofs.Common.{◌≡◌, ℕ, zero, suc, ◌+◌, ◌*◌, ◌<�
 use Rattle.std.specs.Prelude.{nat_lt, slice_get}
 use Rattle.std.proofs.Math.Nat.{max-le}
 use Rattle.std.proofs.lemmas.Bool.{and_parts, leb-true, ltb-false, ltb-true}
+use Rattle.std.proofs.lemmas.Option.{slice_get_within}
 use Rattle.sch_word.specs.declared.place.Place.{Place}
 use Rattle.sch_word.specs.declared.place.Place.TheVariants.{Reg, Slot}
 use Rattle.sch_word.specs.trees.Shape.{max_operands}
@@ -12,9 +13,10 @@ use Rattle.sch_control.specs.Tree as control
 use Rattle.sch_control.specs.Tree.{Expression, perform, bind, sequence, branch, fix, call, tail_call, return, end, save}
 use Rattle.sch_control.specs.Valid.{entry_shaped, first_bound}
 use Rattle.sch_control.specs.flow.Bare.{erased}
-use Rattle.sch_control.specs.flow.Places.{arrival, count_slots, in_slot, is_usual, link_place, place_of, stays}
+use Rattle.sch_word.specs.values.Places.{is_slot, link_place}
+use Rattle.sch_control.specs.flow.Places.{arrival, count_slots, is_usual, place_of, stays, formals_of}
 use Rattle.sch_control.proofs.SlotCounts.{slots_within}
-use Rattle.sch_frames.specs.Valid.{formals_of, max_words}
+use Rattle.sch_frames.specs.Valid.{max_words}
 use Rattle.sch_layout.specs.Laws.{Uses}
 use Rattle.sch_layout.proofs.EachCall.{EachCall, call_erased, each_call, operands_few}
 use Rattle.sch_layout.proofs.layouts.VariablesUsed.{code_uses, numbered_is}
@@ -86,32 +88,32 @@ slots_end_below late most le (Reg r ∷ places) f = slots_end_below late most le
 slots_end_below late most le (Slot j ∷ places) f = max-le (f 0 j refl) (slots_end_below late most le places (λ x j h. f (suc x) j h))
 
 -- as many variables live in slots as there are from the first one on
-first_slots : (places : List Place) (n : ℕ) → n ≤ length places → ((k : ℕ) → k < n → in_slot (place_of places k) ≡ true) → n ≤ count_slots places
+first_slots : (places : List Place) (n : ℕ) → n ≤ length places → ((k : ℕ) → k < n → is_slot (place_of places k) ≡ true) → n ≤ count_slots places
 first_slots [] n le f = le
 first_slots (q ∷ places) zero le f = omega arith
-first_slots (q ∷ places) (suc n) le f = by (in_slot q) (f 0 (omega arith)) (first_slots places n (omega (arith, le)) (λ k lt. f (suc k) (omega (arith, lt)))) where
+first_slots (q ∷ places) (suc n) le f = by (is_slot q) (f 0 (omega arith)) (first_slots places n (omega (arith, le)) (λ k lt. f (suc k) (omega (arith, lt)))) where
   by : (t : Bool) → t ≡ true → n ≤ count_slots places → suc n ≤ cond t (suc (count_slots places)) (count_slots places)
   by true h more = omega (arith, more)
   by false h more = absurd (cc)
 
 count_rest : (q : Place) (places : List Place) → count_slots places ≤ count_slots (q ∷ places)
-count_rest q places = by (in_slot q) where
+count_rest q places = by (is_slot q) where
   by : (t : Bool) → count_slots places ≤ cond t (suc (count_slots places)) (count_slots places)
   by true = omega arith
   by false = omega arith
 
 -- or from a later one on
-slots_from : (from : ℕ) (places : List Place) (n : ℕ) → from + n ≤ length places → ((k : ℕ) → k < n → in_slot (place_of places (from + k)) ≡ true) → n ≤ count_slots places
+slots_from : (from : ℕ) (places : List Place) (n : ℕ) → from + n ≤ length places → ((k : ℕ) → k < n → is_slot (place_of places (from + k)) ≡ true) → n ≤ count_slots places
 slots_from zero places n le f =
-    first_slots places n (omega (arith, le)) (λ k lt. let same : 0 + k ≡ k = omega arith in subst (λ m. in_slot (place_of places m) ≡ true) same (f k lt))
+    first_slots places n (omega (arith, le)) (λ k lt. let same : 0 + k ≡ k = omega arith in subst (λ m. is_slot (place_of places m) ≡ true) same (f k lt))
 slots_from (suc from) [] n le f = omega (arith, le)
 slots_from (suc from) (q ∷ places) n le f =
-    let more = slots_from from places n (omega (arith, le)) (λ k lt. let same : suc from + k ≡ suc (from + k) = omega arith in subst (λ m. in_slot (place_of (q ∷ places) m) ≡ true) same (f k lt)) in
+    let more = slots_from from places n (omega (arith, le)) (λ k lt. let same : suc from + k ≡ suc (from + k) = omega arith in subst (λ m. is_slot (place_of (q ∷ places) m) ≡ true) same (f k lt)) in
     let rest = count_rest q places in
     omega (arith, more, rest)
 
 -- what arrives in a slot lives in one
-in_slot_by : (k : ℕ) (q : Place) → stays (arrival (suc (suc (suc (suc (suc (suc k))))))) q ≡ true → in_slot q ≡ true
+in_slot_by : (k : ℕ) (q : Place) → stays (arrival (suc (suc (suc (suc (suc (suc k))))))) q ≡ true → is_slot q ≡ true
 in_slot_by k (Reg r) h = absurd (cc)
 in_slot_by k (Slot j) h = refl
 
@@ -121,11 +123,6 @@ the_place : (places : List Place) (x : ℕ) (p : Place) → slice_get places x �
 the_place [] x p h = absurd (cc)
 the_place (q ∷ places) zero p h = cc
 the_place (q ∷ places) (suc x) p h = the_place places x p h
-
-is_there : (places : List Place) (x : ℕ) (p : Place) → slice_get places x ≡ Some p → x < length places
-is_there [] x p h = absurd (cc)
-is_there (q ∷ places) zero p h = omega arith
-is_there (q ∷ places) (suc x) p h = let lt = is_there places x p h in omega (arith, lt)
 
 module _ (c : control.Code) (e : Expression) (places : List Place) (p : IsPlaced c e places) where
   -- no call has more operands than it may have
@@ -151,17 +148,17 @@ module _ (c : control.Code) (e : Expression) (places : List Place) (p : IsPlaced
   slot_few (suc zero) j h = absurd (let i = sym p.closure ∙ the_place places 1 (Slot j) h in cc)
   slot_few (suc (suc x)) j h =
       let w = p.whole in
-      let lt = is_there places (suc (suc x)) (Slot j) h in
+      let lt = slice_get_within places (suc (suc x)) (Slot j) h in
       ltb-true j _ (ap (is_usual (count_slots places)) (sym (the_place places (suc (suc x)) (Slot j) h)) ∙ p.usual (suc (suc x)) (omega arith) (omega (arith, w, lt)))
 
   -- the formals that arrive in slots live there
   late_few : late_slots c.entry ≤ count_slots places
   late_few = by (nat_lt (length argument_registers) (formals_of c.entry)) refl where
-    late : (k : ℕ) → k < late_slots c.entry → in_slot (place_of places (2 + length argument_registers + k)) ≡ true
+    late : (k : ℕ) → k < late_slots c.entry → is_slot (place_of places (2 + length argument_registers + k)) ≡ true
     late k lt =
         let behind : 2 + (length argument_registers + k) ≡ 2 + length argument_registers + k = omega arith in
         let past : suc (suc (suc (suc (suc (suc k))))) ≡ length argument_registers + k = omega arith in
-        subst (λ n. in_slot (place_of places n) ≡ true) behind
+        subst (λ n. is_slot (place_of places n) ≡ true) behind
         (in_slot_by k (place_of places (2 + (length argument_registers + k))) (subst (λ n. stays (arrival n) (place_of places (2 + (length argument_registers + k))) ≡ true) (sym past) (p.formals (length argument_registers + k) (omega (arith, lt)))))
 
     by : (t : Bool) → nat_lt (length argument_registers) (formals_of c.entry) ≡ t → late_slots c.entry ≤ count_slots places

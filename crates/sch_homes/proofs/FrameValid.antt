@@ -1,13 +1,14 @@
 -- The layout of a placed body is a valid frame body, and its marks stand where something is written, called or left.
 use Rattle.std.proofs.Common.{◌≡◌, ℕ, zero, suc, ◌+◌, ◌-◌, ◌<◌, ◌≤◌, List, [], ◌∷◌, length, map, Option, Some, None, Bool, true, false, refl, sym, ap, ◌∙◌, subst, arith}
-use Rattle.std.specs.Prelude.{nat_eq, nat_lt, not, ◌++◌, ◌&&◌, ◌||◌}
+use Rattle.std.specs.Prelude.{nat_lt, not, ◌&&◌}
 use Rattle.std.specs.List.{AllByRecursion, list_all}
 use Rattle.std.proofs.Math.Nat.{le-max_right}
 use Rattle.std.proofs.lemmas.Bool.{and_from, and_parts, le-leb, lt-ltb}
+use Rattle.std.proofs.lemmas.Option.{slice_get_within}
 use Rattle.sch_word.specs.trees.Shape.{max_operands}
 use Rattle.sch_word.specs.declared.place.Place.{Place}
 use Rattle.sch_word.specs.declared.place.Place.TheVariants.{Reg, Slot}
-use Rattle.sch_word.specs.trees.NumberSets.{has}
+use Rattle.sch_word.specs.trees.NumberSets.{has, without_repeats}
 use Rattle.sch_word.specs.values.Registers.{argument_registers, body_registers}
 use Rattle.sch_control.specs.declared.body.Entry.{Entry}
 use Rattle.sch_control.specs.declared.operation.Application.{Application}
@@ -16,13 +17,14 @@ use Rattle.sch_control.specs.AtomsAndSites.{application_atoms, operand_atoms, op
 use Rattle.sch_control.specs.Meaning.{no_region}
 use Rattle.sch_control.specs.Tree as control
 use Rattle.sch_control.specs.Tree.{Expression}
-use Rattle.sch_control.specs.Valid.{entry_shaped, is_bare, last_position, positioned, shaped as expression_shaped, without_repeats}
-use Rattle.sch_control.specs.flow.Places.{count_slots, is_usual, place_of}
+use Rattle.sch_control.specs.Valid.{entry_shaped, is_bare, last_position, positioned, shaped as expression_shaped}
+use Rattle.sch_control.specs.flow.Places.{count_slots, is_usual, place_of, formals_of}
 use Rattle.sch_frames.specs.declared.instruction.Instruction.TheVariants.{Copy}
-use Rattle.sch_frames.specs.Meaning.{is_slot}
-use Rattle.sch_word.specs.values.Places.{same_place}
+use Rattle.sch_word.specs.values.Places.{same_place, is_slot}
+use Rattle.sch_word.proofs.facts.NumberSets.{has_append}
+use Rattle.sch_word.proofs.facts.Booleans.{or_left}
 use Rattle.sch_frames.specs.Standing.{code_marks_stand}
-use Rattle.sch_frames.specs.Valid.{formals_of, forward, instruction_placed, instruction_shaped, is_atom, is_place, jumps_ahead, labels_in, placed, shaped}
+use Rattle.sch_frames.specs.Valid.{forward, instruction_placed, instruction_shaped, is_atom, is_place, jumps_ahead, labels_in, placed, shaped}
 use Rattle.sch_layout.specs.BodyLayout.{Plan, arguments_at, arrived, labels, lay, operands_at, under}
 use Rattle.sch_layout.specs.Laws.{AtomsHave, Laid}
 use Rattle.sch_layout.specs.Moves.{EachMove}
@@ -53,20 +55,14 @@ use Rattle.sch_homes.proofs.FrameRoom.{calls_few, dense_few, first_there, has_ro
 use Rattle.sch_homes.proofs.HomesPlaced.{homes_placed}
 use Rattle.sch_homes.proofs.KeptCopies as kept
 use Rattle.sch_homes.proofs.KeptCopies.{kept_in}
+use Rattle.sch_homes.proofs.HomeLoops.{end_least as slots_least}
 use Rattle.sch_homes.proofs.MovesEnd.{IsAsideBefore, end_least, free_within, within_end}
 use Rattle.sch_homes.proofs.ShuffledMoves.{act_move, each_act, moves_back}
-use Rattle.sch_homes.proofs.SlotsApart.{home_inside, in_table, late_before_end, lives_before, slot_before, there}
+use Rattle.sch_homes.proofs.SlotsApart.{home_inside, in_table, lives_before, slot_before}
 
 -- a register of an argument is one of a body
-has_more : (r : ℕ) (xs ys : List ℕ) → has r xs ≡ true → has r (xs ++ ys) ≡ true
-has_more r [] ys h = absurd (cc)
-has_more r (x ∷ xs) ys h = by (nat_eq r x) h (has_more r xs ys) where
-  by : (t : Bool) → (t || has r xs) ≡ true → (has r xs ≡ true → has r (xs ++ ys) ≡ true) → (t || has r (xs ++ ys)) ≡ true
-  by true h more = refl
-  by false h more = more h
-
 argument_is : (r : ℕ) → has r argument_registers ≡ true → has r body_registers ≡ true
-argument_is r h = has_more r argument_registers (14 ∷ 15 ∷ []) h
+argument_is r h = has_append r argument_registers (14 ∷ 15 ∷ []) ∙ or_left (has r argument_registers) (has r (14 ∷ 15 ∷ [])) h
 
 -- each argument of a call reads the frame
 argument_placed : (lives : ℕ → Place) (words : ℕ) (P : ℕ → Type 0) → ((x : ℕ) → P x → is_place words (lives x) ≡ true) → (operands : List (Operand ℕ)) → AtomsHave P (operands_atoms operands) → (k : ℕ)
@@ -114,7 +110,7 @@ module _ (c : control.Code) (e : Expression) (places : List Place) (p : IsPlaced
 
   -- what lives in a register is a variable of the body
   in_register_low : (x : ℕ) → is_slot (place c.entry e places x) ≡ false → Low x
-  in_register_low x s = let t = in_table c.entry e places x s in there places x (Reg t.0) t.1
+  in_register_low x s = let t = in_table c.entry e places x s in slice_get_within places x (Reg t.0) t.1
 
   -- the moves of a call, and its operands, where the frame has the slots that it needs
   module _ (tail : Bool) (a : Application ℕ) (few : length a.operands ≤ max_operands) (low : AtomsHave Low (application_atoms a))
@@ -202,7 +198,7 @@ module _ (c : control.Code) (e : Expression) (places : List Place) (p : IsPlaced
   home_placed : (x : ℕ) → is_saved e x ≡ true → is_slot (place c.entry e places x) ≡ false → is_place words (home c.entry e places x) ≡ true
   home_placed x k s =
       let t = in_table c.entry e places x s in
-      let less = home_inside c.entry e places x (ap (λ o. in_register o && is_saved e x) t.1 ∙ k) (there places x (Reg t.0) t.1) in
+      let less = home_inside c.entry e places x (ap (λ o. in_register o && is_saved e x) t.1 ∙ k) (slice_get_within places x (Reg t.0) t.1) in
       let most = homes_before c e places p in
       lt-ltb _ words (omega (arith, less, most))
 
@@ -231,7 +227,7 @@ module _ (c : control.Code) (e : Expression) (places : List Place) (p : IsPlaced
   pub code_placed : placed c.entry words (homes_code c.entry e places).instructions ≡ true
   code_placed =
       let fit = words_fit c e places p in
-      let end = late_before_end (late_slots c.entry) places in
+      let end = slots_least (late_slots c.entry) places in
       let most = homes_before c e places p in
       and_from _ _ (le-leb words 2048 (omega (arith, fit)))
       (and_from _ _ (le-leb (formals_of c.entry) (length argument_registers + words) (omega (arith, end, most)))

@@ -1,5 +1,5 @@
 -- Loops that find the end of the slots and give homes, with one turn more.
-use Rattle.std.proofs.Common.{◌≡◌, ℕ, suc, ◌+◌, ◌<◌, List, [], ◌∷◌, Option, length, drop, get_or, max, Bool, refl, sym, ap, ◌∙◌, arith}
+use Rattle.std.proofs.Common.{◌≡◌, ℕ, zero, suc, ◌+◌, ◌<◌, ◌≤◌, List, [], ◌∷◌, Option, length, drop, get_or, max, Bool, true, false, cond, refl, sym, ap, ◌∙◌, arith}
 use Rattle.std.proofs.lemmas.List.{drop_more}
 use Rattle.sch_word.specs.declared.place.Place.{Place}
 use Rattle.sch_word.specs.declared.place.Place.TheVariants.{Reg, Slot}
@@ -26,7 +26,28 @@ next_end i m n whole places p lt e h =
     ∙ ap (slots_end m) (sym (drop_more places i p lt))
     ∙ h
 
+pub end_least : (m : ℕ) (places : List Place) → m ≤ slots_end m places
+end_least m [] = omega arith
+end_least m (Reg r ∷ places) = end_least m places
+end_least m (Slot j ∷ places) = let h = end_least m places in omega (arith, h)
+
+-- one of those that are left ends no further than they all
+pub one_end : (i m whole most : ℕ) (places : List Place) (p : Place) → i < length places → slots_end m (drop i places) ≡ whole → whole ≤ most
+    → slots_end m (get_or places i p ∷ []) ≤ most
+one_end i m whole most places p lt h few =
+    let next = first_end m (get_or places i p) (drop (i + 1) places) in
+    let least = end_least (slots_end m (get_or places i p ∷ [])) (drop (i + 1) places) in
+    let left = ap (slots_end m) (drop_more places i p lt) in
+    omega (arith, next, least, left, h, few)
+
 -- ## Homes
+
+pub count_within : (test : ℕ → Bool) (n : ℕ) → count_below test n ≤ n
+count_within test zero = omega arith
+count_within test (suc n) = by (test n) (count_within test n) where
+  by : (t : Bool) → count_below test n ≤ n → cond t (suc (count_below test n)) (count_below test n) ≤ suc n
+  by true le = omega (arith, le)
+  by false le = omega (arith, le)
 
 module _ (first : ℕ) (test : ℕ → Bool) where
   -- the homes of the variables below one, and the slot behind them

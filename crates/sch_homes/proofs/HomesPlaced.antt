@@ -5,7 +5,7 @@ use Rattle.sch_control.specs.declared.body.Entry.{Entry}
 use Rattle.sch_control.specs.Meaning.{no_region}
 use Rattle.sch_control.specs.Tree.{Expression}
 use Rattle.sch_control.specs.flow.Live.{Live, nothing_later}
-use Rattle.sch_frames.specs.Valid.{formals_of}
+use Rattle.sch_control.specs.flow.Places.{formals_of}
 use Rattle.sch_layout.specs.Laws.{EntersSlots}
 use Rattle.sch_layout.specs.SharedPlaces.{Arrives, entered_with}
 use Rattle.sch_paths.proofs.runs.RestoresAreEnough.{valid_fresh}

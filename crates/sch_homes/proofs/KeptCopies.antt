@@ -1,8 +1,8 @@
 -- Each instruction of a layout passes a test where the parts of the tree do, and the copies of what its regions save.
-use Rattle.std.proofs.Common.{◌≡◌, ℕ, ◌+◌, List, [], ◌∷◌, Option, None, Bool, true, false, cond, refl, ap, ◌∙◌}
+use Rattle.std.proofs.Common.{◌≡◌, ℕ, ◌+◌, List, [], ◌∷◌, Option, None, Bool, true, false, cond, refl}
 use Rattle.std.specs.Prelude.{filter, nat_eq, ◌||◌}
 use Rattle.std.specs.List.{list_all}
-use Rattle.std.proofs.lemmas.Bool.{and_from, and_parts, eqb-true}
+use Rattle.std.proofs.lemmas.Bool.{and_from, and_parts}
 use Rattle.sch_word.proofs.facts.Booleans.{or_left, or_right}
 use Rattle.sch_word.specs.declared.mark.MarkKind.TheVariants as mark
 use Rattle.sch_word.specs.trees.NumberSets.{has, unless}
@@ -11,9 +11,11 @@ use Rattle.sch_control.specs.Meaning.{binds, heads, with_region}
 use Rattle.sch_control.specs.Tree.{Expression, perform, bind, sequence, branch, fix, call, tail_call, return, end, save}
 use Rattle.sch_control.specs.Valid.{member_variables}
 use Rattle.sch_control.specs.flow.Regions.{restores_saved}
+use Rattle.sch_control.proofs.VariableLists.{each_passes}
 use Rattle.sch_frames.specs.declared.instruction.Instruction.{Instruction}
 use Rattle.sch_frames.specs.declared.instruction.Instruction.TheVariants.{Store, Copy, Mark}
-use Rattle.sch_frames.specs.Meaning.{is_slot}
+use Rattle.sch_word.specs.values.Places.{is_slot}
+use Rattle.sch_word.proofs.facts.Lists.{all_passing}
 use Rattle.sch_layout.specs.BodyLayout.{Plan, lay, leave, loaded, stored, labels}
 use Rattle.sch_layout.proofs.layouts.InstructionTests.{Passes, Steers, leave_pass, spill_passes}
 use Rattle.sch_homes.specs.Homes.{is_saved}
@@ -77,13 +79,6 @@ heads_kept kept e (x ∷ xs) h = let parts = and_parts (kept x) _ h in by (binds
   by true more k = more
   by false more k = and_from _ _ k more
 
-inside_kept : (kept inside : ℕ → Bool) → ((x : ℕ) → inside x ≡ true → kept x ≡ true) → (xs : List ℕ) → list_all kept (filter inside xs) ≡ true
-inside_kept kept inside g [] = refl
-inside_kept kept inside g (x ∷ xs) = by (inside x) refl (inside_kept kept inside g xs) where
-  by : (t : Bool) → inside x ≡ t → list_all kept (filter inside xs) ≡ true → list_all kept (cond t (x ∷ filter inside xs) (filter inside xs)) ≡ true
-  by true i more = and_from _ _ (g x i) more
-  by false i more = more
-
 module _ (plan : Plan) (test : Instruction → Bool) (steers : Steers test) (kept : ℕ → Bool)
     (goes : (x : ℕ) → kept x ≡ true → is_slot (plan.place x) ≡ false → test (Copy (plan.home x) (plan.place x)) ≡ true)
     (comes : (x : ℕ) → kept x ≡ true → is_slot (plan.place x) ≡ false → test (Copy (plan.place x) (plan.home x)) ≡ true) where
@@ -109,7 +104,7 @@ module _ (plan : Plan) (test : Instruction → Bool) (steers : Steers test) (kep
   lay_passes (bind x a b) k p inside g n to rest h =
       lay_passes a k.0 p.1.0 inside g n None _
       (spill_passes plan test steers x (Store (plan.place x)) p.0 _
-      (stored_pass (filter inside (x ∷ [])) (inside_kept kept inside g (x ∷ [])) (lay plan b inside (n + labels a) to rest) (lay_passes b k.1 p.1.1 inside g (n + labels a) to rest h)))
+      (stored_pass (filter inside (x ∷ [])) (all_passing inside kept (x ∷ []) g) (lay plan b inside (n + labels a) to rest) (lay_passes b k.1 p.1.1 inside g (n + labels a) to rest h)))
   lay_passes (sequence a b) k p inside g n to rest h = lay_passes a k.0 p.0 inside g _ _ _ (lay_passes b k.1 p.1 inside g _ _ _ h)
   lay_passes (branch a b c) k p inside g n to rest h =
       lay_passes a k.0 p.0 inside g _ _ _ (lay_passes b k.1.0 p.1.0 inside g _ _ _
@@ -117,20 +112,13 @@ module _ (plan : Plan) (test : Instruction → Bool) (steers : Steers test) (kep
   lay_passes (return e) k p inside g n to rest h = lay_passes e k p inside g _ _ _ (and_from _ _ (steers.marks mark.Return refl) (and_from _ _ steers.return h))
   lay_passes (end e) k p inside g n to rest h = lay_passes e k p.1 inside g _ _ _ (and_from _ _ p.0 h)
   lay_passes (fix members e) k p inside g n to rest h =
-      and_from _ _ p.0 (stored_pass (filter inside (member_variables members)) (inside_kept kept inside g (member_variables members)) (lay plan e inside n to rest) (lay_passes e k p.1 inside g n to rest h))
+      and_from _ _ p.0 (stored_pass (filter inside (member_variables members)) (all_passing inside kept (member_variables members) g) (lay plan e inside n to rest) (lay_passes e k p.1 inside g n to rest h))
   lay_passes (call a restores) k p inside g n to rest h =
       p.0 _ (and_from _ _ (steers.marks (mark.Call a.site) refl) (and_from _ _ p.1 (loaded_pass restores k (leave to rest) (leave_pass plan test steers to rest h))))
   lay_passes (tail_call a) k p inside g n to rest h = p.0 _ (and_from _ _ (steers.marks (mark.Tail a.site) refl) (and_from _ _ p.1 h))
   lay_passes (save saves e) k p inside g n to rest h =
       stored_pass (heads e saves) (heads_kept kept e saves k.0) (lay plan e (with_region saves inside) n to rest)
-      (lay_passes e k.1 p (with_region saves inside) (λ x i. by x (has x saves) refl i (λ m. in_all saves k.0 x m)) n to rest h) where
+      (lay_passes e k.1 p (with_region saves inside) (λ x i. by x (has x saves) refl i (λ m. each_passes kept saves k.0 x m)) n to rest h) where
         by : (x : ℕ) (t : Bool) → has x saves ≡ t → (t || inside x) ≡ true → (has x saves ≡ true → kept x ≡ true) → kept x ≡ true
         by x true m i f = f m
         by x false m i f = g x i
-
-        in_all : (xs : List ℕ) → list_all kept xs ≡ true → (x : ℕ) → has x xs ≡ true → kept x ≡ true
-        in_all [] k x m = absurd (cc)
-        in_all (y ∷ ys) k x m = let parts = and_parts (kept y) _ k in one (nat_eq x y) refl m (λ m. in_all ys parts.1 x m) parts.0 where
-          one : (t : Bool) → nat_eq x y ≡ t → (t || has x ys) ≡ true → (has x ys ≡ true → kept x ≡ true) → kept y ≡ true → kept x ≡ true
-          one true i m more p = ap kept (eqb-true x y i) ∙ p
-          one false i m more p = more m

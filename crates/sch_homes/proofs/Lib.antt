@@ -1,3 +1,4 @@
+pub mod BodyLimits
 pub mod BodyPlaces
 pub mod CallEnds
 pub mod CallLists

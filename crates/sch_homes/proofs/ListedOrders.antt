@@ -1,16 +1,15 @@
 -- What is listed of a call: in which order it moves its arguments first.
-use Rattle.std.proofs.Common.{◌≡◌, ℕ, zero, suc, ◌<◌, ◌≤◌, Bool, true, false, List, [], ◌∷◌, length, map, take, refl, sym, ap, ◌∙◌, subst, arith}
-use Rattle.std.specs.Prelude.{nat_eq, ◌||◌}
-use Rattle.std.proofs.lemmas.Bool.{eqb-true}
+use Rattle.std.proofs.Common.{◌≡◌, ℕ, zero, suc, ◌<◌, Bool, true, List, [], ◌∷◌, length, map, take, refl, sym, ap, ◌∙◌, subst}
 use Rattle.sch_word.specs.declared.place.Place.{Place}
 use Rattle.sch_word.specs.runs.Orders.{is_permutation}
-use Rattle.sch_word.proofs.facts.Occurrences.{one_same, times, times_cons}
+use Rattle.sch_word.specs.trees.NumberSets.{has}
+use Rattle.sch_word.proofs.facts.Occurrences.{times_has}
 use Rattle.sch_control.specs.declared.operation.Application.{Application}
 use Rattle.sch_control.specs.declared.operation.Operand.{Operand}
 use Rattle.sch_layout.specs.BodyLayout.{arguments_at}
 use Rattle.sch_shuffle.specs.Assignment.{Transfer}
 use Rattle.sch_shuffle.specs.CycleSearch.{cycles}
-use Rattle.sch_shuffle.specs.Greedy.{is_in, made}
+use Rattle.sch_shuffle.specs.Greedy.{made}
 use Rattle.sch_shuffle.specs.GreedySteps.{order}
 use Rattle.sch_shuffle.specs.Tree.{Tree}
 use Rattle.sch_shuffle.proofs.ArgumentOrder.{ordered}
@@ -25,14 +24,6 @@ same_arguments : (arguments : List (Operand Place)) (n : ℕ) (ts : List Transfe
 same_arguments arguments zero ts = refl
 same_arguments arguments (suc n) [] = refl
 same_arguments arguments (suc n) (t ∷ ts) = ap (λ ks. t.argument ∷ ks) (same_arguments arguments n ts)
-
-in_times : (k : ℕ) (js : List ℕ) → is_in k js ≡ true → 1 ≤ times k js
-in_times k [] e = absurd (cc)
-in_times k (j ∷ js) e = by (nat_eq j k) refl (in_times k js) e
-  where
-    by : (b : Bool) → nat_eq j k ≡ b → (is_in k js ≡ true → 1 ≤ times k js) → (b || is_in k js) ≡ true → 1 ≤ times k (j ∷ js)
-    by true h more e = let m = ap (λ x. times k (x ∷ js)) (eqb-true j k h) in omega (arith, m, times_cons k k js, one_same k)
-    by false h more e = let l = more e in omega (arith, l, times_cons k j js)
 
 abbrev call_with : ℕ → List ℕ → List (List Place) → ListedCall
 call_with site order cycles = record { site = site; order = order; cycles = cycles }
@@ -53,7 +44,7 @@ module _ (end : ℕ) (lives : ℕ → Place) (tail : Bool) (a : Application ℕ)
       let all = ordered (call_arguments lives a) (call_targets tail a) free in
       subst (λ ks. is_permutation n ks ≡ true) (sym moved_is)
       (each_once n (order n moves) (subst (λ m. length (order m moves) ≡ m) long all.whole)
-      (λ k l. in_times k (order n moves) (subst (λ m. is_in k (order m moves) ≡ true) long (all.each k (subst (λ m. k < m) (sym long) l)))))
+      (λ k l. times_has k (order n moves) (subst (λ m. has k (order m moves) ≡ true) long (all.each k (subst (λ m. k < m) (sym long) l)))))
 
   -- what is made of the arguments and their targets
   pub listed_is : (args : List Tree) (to : List Place) (count m : ℕ) (moved : List ℕ) (round : List (List Place)) → args ≡ call_arguments lives a → count ≡ suc (length a.operands)

@@ -32,6 +32,15 @@ next_end i most more one whole moves m lt is e o h =
     ∙ (ap (λ m. aside_end most (move_of m ∷ moves_of (drop (i + 1) moves))) is
     ∙ (ap (λ ms. aside_end most (moves_of ms)) (sym (drop_more moves i m lt)) ∙ h)))
 
+-- what one of those that are left sets aside ends no further than they all
+pub one_end : (i most whole : ℕ) (moves : List Move) (m : Move) → i < length moves → m ≡ get_or moves i m → aside_end most (moves_of (drop i moves)) ≡ whole
+    → cond m.is_temporary (slot_end m.to) 0 ≤ whole
+one_end i most whole moves m lt is h =
+    let left : max (cond m.is_temporary (slot_end m.to) 0) (aside_end most (moves_of (drop (i + 1) moves))) ≡ whole =
+    ap (λ m. aside_end most (move_of m ∷ moves_of (drop (i + 1) moves))) is ∙ (ap (λ ms. aside_end most (moves_of ms)) (sym (drop_more moves i m lt)) ∙ h) in
+    let first = le-max_left (cond m.is_temporary (slot_end m.to) 0) (aside_end most (moves_of (drop (i + 1) moves))) in
+    omega (arith, left, first)
+
 -- ## Bounds
 
 -- what a move sets aside is before a number

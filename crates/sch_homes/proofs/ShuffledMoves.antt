@@ -4,6 +4,7 @@ use Rattle.std.specs.Prelude.{slice_get}
 use Rattle.std.specs.List.{AllByRecursion}
 use Rattle.std.proofs.lemmas.List.{length-map}
 use Rattle.std.proofs.Math.Bool.{or-true}
+use Rattle.std.proofs.lemmas.Option.{slice_get_within}
 use Rattle.sch_word.specs.declared.place.Place.{Place}
 use Rattle.sch_word.specs.runs.Store.{Store}
 use Rattle.sch_word.specs.values.Values.{Value}
@@ -159,14 +160,10 @@ module _ (os : List (Operand Place)) (targets : List Place) where
       subst (Shuffled os target) (sym (moves_back (acts free (all_choices args targets)))) (record {
         carries = λ t start. all_carry t T start (acts free (all_choices args targets)) start each (acts_bring (given t) args targets free l f apart free_apart spare (given_depends t) start).0;
         arrives = λ t start k o e.
-            (let lt = index_less os k o e in
+            (let lt = slice_get_within os k o e in
             let m = length-map os operand_tree in
             let less : k < length args = omega (arith, lt, m) in
             ap (λ c. c (target k)) (all_acted t (acts free (all_choices args targets)) start)
             ∙ (ap (after_acts targets (given t) (acts free (all_choices args targets)) start) (sym (at k less))
             ∙ ((acts_bring (given t) args targets free l f apart free_apart spare (given_depends t) start).1 k less ∙ ap (λ o. operand_value start t o) (argument_is os k o e))));
-      }) where
-        index_less : (os : List (Operand Place)) (k : ℕ) (o : Operand Place) → slice_get os k ≡ Some o → k < length os
-        index_less [] k o e = absurd (cc)
-        index_less (x ∷ os) zero o e = omega arith
-        index_less (x ∷ os) (suc k) o e = let lt = index_less os k o e in omega (arith, lt)
+      })

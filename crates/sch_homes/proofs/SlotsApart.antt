@@ -3,25 +3,21 @@ use Rattle.std.proofs.Common.{◌≡◌, ◌≢◌, ℕ, zero, suc, ◌+◌, ◌
 use Rattle.std.specs.Prelude.{nat_lt, slice_get}
 use Rattle.std.proofs.Math.Nat.{le-max_left, le-max_right}
 use Rattle.std.proofs.lemmas.Bool.{ne_eqb, lt-ltb, ltb-true, ltb-false}
+use Rattle.std.proofs.lemmas.Option.{slice_get_within}
 use Rattle.sch_word.proofs.facts.Booleans.{false_true}
 use Rattle.sch_word.specs.trees.Shape.{max_operands}
 use Rattle.sch_word.specs.declared.place.Place.{Place}
 use Rattle.sch_word.specs.declared.place.Place.TheVariants.{Reg, Slot}
 use Rattle.sch_control.specs.declared.body.Entry.{Entry}
 use Rattle.sch_control.specs.Tree.{Expression}
-use Rattle.sch_frames.specs.Meaning.{is_slot, link_register}
-use Rattle.sch_word.specs.values.Places.{same_place}
+use Rattle.sch_word.specs.values.Places.{same_place, is_slot, link_place}
+use Rattle.sch_word.proofs.facts.Lists.{not_missing}
 use Rattle.sch_frames.specs.Valid.{max_words}
 use Rattle.sch_layout.specs.SharedPlaces.{HomeApart, Homes}
 use Rattle.sch_homes.specs.CallMoves.{next_frame}
 use Rattle.sch_homes.specs.Homes.{count_below, first_home, has_home, home, homes_end, homes_plan, late_slots, lives_in, place, slots_end}
 
 -- ## Lists of places
-
-pub there : (places : List Place) (x : ℕ) (p : Place) → slice_get places x ≡ Some p → x < length places
-there [] x p h = absurd (cc)
-there (q ∷ places) zero p h = omega arith
-there (q ∷ places) (suc x) p h = let lt = there places x p h in omega (arith, lt)
 
 abbrev number_or : ℕ → Option Place → ℕ
 number_or n (Some (Slot j)) = j
@@ -40,14 +36,6 @@ before_end late (Slot i ∷ places) (suc x) j h =
     let lt = before_end late places x j h in
     let le = le-max_right (suc i) (slots_end late places) in
     omega (arith, lt, le)
-
-pub late_before_end : (late : ℕ) (places : List Place) → late ≤ slots_end late places
-late_before_end late [] = omega arith
-late_before_end late (Reg r ∷ places) = late_before_end late places
-late_before_end late (Slot j ∷ places) =
-    let le = le-max_right (suc j) (slots_end late places) in
-    let more = late_before_end late places in
-    omega (arith, le, more)
 
 -- ## Counts
 
@@ -108,13 +96,8 @@ module _ (entry : Option Entry) (e : Expression) (places : List Place) where
 
   pub lives_before : (x j : ℕ) → x < length places → place entry e places x ≡ Slot j → j < first
   lives_before x j lt h = by (lives x) where
-    has_one : (ps : List Place) (x : ℕ) → x < length ps → slice_get ps x ≡ None → ⊥
-    has_one [] x lt i = omega (arith, lt)
-    has_one (p ∷ ps) zero lt i = cc
-    has_one (p ∷ ps) (suc x) lt i = has_one ps x (omega (arith, lt)) i
-
     by : Lives x → j < first
-    by (nowhere i) = absurd (has_one places x lt i)
+    by (nowhere i) = absurd (not_missing places x lt i)
     by (register r i) = absurd (let bad = sym (ap lives_in i) ∙ h in cc)
     by (slot k i) =
         let same : k ≡ j = ap (number_or 0) (ap Some (sym (ap lives_in i) ∙ h)) in
@@ -175,7 +158,7 @@ module _ (entry : Option Entry) (e : Expression) (places : List Place) where
       homes = λ y r n. ne_eqb _ _ (homes_differ x y (inside x s) (inside y r) n);
     } where
       inside : (x : ℕ) → is_slot (place entry e places x) ≡ false → x < length places
-      inside x s = let t = in_table x s in there places x (Reg t.0) t.1
+      inside x s = let t = in_table x s in slice_get_within places x (Reg t.0) t.1
 
       apart : (y : ℕ) → Lives y → same_place (home entry e places x) (place entry e places y) ≡ false
       apart y (nowhere i) =
@@ -187,7 +170,7 @@ module _ (entry : Option Entry) (e : Expression) (places : List Place) where
           ∙ (let lt = slot_before y j i in let least = home_least x in ne_eqb (home_number x) j (λ i. omega (arith, lt, least, i)))
 
     -- the return address lives in R15, and what lives in registers has homes
-    pub homes_are : slice_get places 0 ≡ Some link_register → Homes (homes_plan entry e places)
+    pub homes_are : slice_get places 0 ≡ Some link_place → Homes (homes_plan entry e places)
     homes_are link = record { link = ap lives_in link; home = home_apart }
 
     -- ## Slots behind the homes
@@ -205,7 +188,7 @@ module _ (entry : Option Entry) (e : Expression) (places : List Place) where
       pub saved_apart : (x : ℕ) → is_slot (place entry e places x) ≡ false → same_place (home entry e places x) (Slot m) ≡ false
       saved_apart x s = by (homed x) refl where
         inside : x < length places
-        inside = let t = in_table x s in there places x (Reg t.0) t.1
+        inside = let t = in_table x s in slice_get_within places x (Reg t.0) t.1
 
         by : (t : Bool) → homed x ≡ t → same_place (Slot (cond t (first + count_below homed x) (max_words + x))) (Slot m) ≡ false
         by true h = let less = count_lt homed x (length places) h inside in ne_eqb _ m (λ e. omega (arith, e, less, behind))

@@ -1,15 +1,13 @@
 -- Temporaries are distinct: registers that pass a test, and behind them slots.
 use Rattle.std.proofs.Common.{◌≡◌, ◌≢◌, ℕ, zero, suc, ◌+◌, ◌-◌, ◌<◌, ◌≤◌, List, [], ◌∷◌, length, map, get_or, Some, None, Bool, true, false, cond, refl, sym, ap, ◌∙◌, arith, inl, inr, ◌⊎◌}
-use Rattle.std.specs.Prelude.{filter, nat_eq, slice_get, ◌||◌}
-use Rattle.std.proofs.lemmas.Bool.{eq-eqb}
+use Rattle.std.specs.Prelude.{filter, slice_get}
 use Rattle.std.proofs.lemmas.Option.{slice_get_cases}
 use Rattle.sch_word.specs.declared.place.Place.{Place}
 use Rattle.sch_word.specs.declared.place.Place.TheVariants.{Reg, Slot}
 use Rattle.sch_word.specs.trees.NumberSets.{has}
 use Rattle.sch_word.specs.values.Registers.{argument_registers}
-use Rattle.sch_word.proofs.facts.Booleans.{or_right}
+use Rattle.sch_word.proofs.facts.NumberSets.{in_here, in_more}
 use Rattle.sch_shuffle.specs.Assignment.{AreDistinct}
-use Rattle.sch_shuffle.specs.Greedy.{is_in}
 use Rattle.sch_shuffle.proofs.WaitingArguments.{Once, not_in}
 use Rattle.sch_homes.specs.CallMoves.{or_slot, temporaries, temporary}
 use Rattle.sch_homes.proofs.Numbered.{map_at, map_length}
@@ -57,7 +55,7 @@ apart_once (x ∷ xs) a (suc i) zero p q e f s = by f where
   by f = let same : x ≡ q = cc in absurd (a.0 i p e (same ∙ sym s))
 apart_once (x ∷ xs) a (suc i) (suc j) p q e f s = ap suc (apart_once xs a.1 i j p q e f s)
 
-not_listed : (r : ℕ) (rs : List ℕ) → is_in r rs ≡ false → (j : ℕ) (q : Place) → slice_get (map Reg rs) j ≡ Some q → Reg r ≢ q
+not_listed : (r : ℕ) (rs : List ℕ) → has r rs ≡ false → (j : ℕ) (q : Place) → slice_get (map Reg rs) j ≡ Some q → Reg r ≢ q
 not_listed r [] h j q e n = cc
 not_listed r (x ∷ rs) h zero q e n = by e where
   by : Some (Reg x) ≡ Some q → ⊥
@@ -74,13 +72,9 @@ registers_apart = once_apart argument_registers (refl, (refl, (refl, (refl, (ref
 is_register : (rs : List ℕ) (j : ℕ) (p : Place) → slice_get (map Reg rs) j ≡ Some p → (r : ℕ) × ((p ≡ Reg r) × (has r rs ≡ true))
 is_register [] j p e = absurd (cc)
 is_register (x ∷ rs) zero p e = by e where
-  by : Some (Reg x) ≡ Some p → (r : ℕ) × ((p ≡ Reg r) × ((nat_eq r x || has r rs) ≡ true))
-  by e = let same : p ≡ Reg x = cc in (x, (same, self x)) where
-    self : (x : ℕ) → (nat_eq x x || has x rs) ≡ true
-    self x = ap (λ t. t || has x rs) (eq-eqb x x refl)
-is_register (x ∷ rs) (suc j) p e =
-    let m = is_register rs j p e in
-    (m.0, (m.1.0, or_right (nat_eq m.0 x) (has m.0 rs) m.1.1))
+  by : Some (Reg x) ≡ Some p → (r : ℕ) × ((p ≡ Reg r) × (has r (x ∷ rs) ≡ true))
+  by e = let same : p ≡ Reg x = cc in (x, (same, in_here x rs))
+is_register (x ∷ rs) (suc j) p e = let m = is_register rs j p e in (m.0, (m.1.0, in_more m.0 x rs m.1.1))
 
 -- ## Temporaries
 

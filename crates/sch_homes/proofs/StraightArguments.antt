@@ -1,17 +1,16 @@
 -- Where no argument uses the target of another, all go straight to their targets, in their order, and no targets are a cycle.
 use Rattle.std.proofs.Common.{◌≡◌, ◌≢◌, ℕ, ◌<◌, Bool, true, false, cond, List, [], ◌∷◌, ◌++◌, length, map, refl, ap, sym, ◌∙◌, arith, inl, inr, ◌⊎◌, get_or}
-use Rattle.std.specs.Prelude.{nat_eq}
 use Rattle.std.proofs.lemmas.Bool.{cases_Bool, cases_eq, eq-eqb, ne_eqb}
-use Rattle.std.proofs.Math.Bool.{or-true}
 use Rattle.std.proofs.lemmas.List.{append-nil}
 use Rattle.sch_word.specs.declared.place.Place.{Place}
 use Rattle.sch_word.specs.trees.Bindings.{numbers}
-use Rattle.sch_word.proofs.facts.NumberSets.{numbers_length}
+use Rattle.sch_word.specs.trees.NumberSets.{has}
+use Rattle.sch_word.proofs.facts.NumberSets.{in_here, in_more, numbers_length}
 use Rattle.sch_shuffle.specs.declared.choice.Choice.TheVariants.{Direct}
 use Rattle.sch_shuffle.specs.Tree.{Tree, uses}
 use Rattle.sch_shuffle.specs.Assignment.{AreDistinct, place_at}
 use Rattle.sch_shuffle.specs.Plans.{direct, transfers}
-use Rattle.sch_shuffle.specs.Greedy.{acts, all_choices, choices, chosen, evaluations, goes_before, is_in, made, needed, next, onwards, uses_target, without}
+use Rattle.sch_shuffle.specs.Greedy.{acts, all_choices, choices, chosen, evaluations, goes_before, made, needed, next, onwards, uses_target, without}
 use Rattle.sch_shuffle.specs.Cycles.{IsRing}
 use Rattle.sch_shuffle.specs.CycleSearch.{cycles, is_ring, places_at, ring, rings, successor}
 use Rattle.sch_shuffle.proofs.WaitingArguments.{below_in, below_numbers}
@@ -23,14 +22,14 @@ use Rattle.sch_shuffle.proofs.ExactCycles.{ring_is}
 module _ (W : ℕ → ℕ → Bool) where
   -- of these none uses what another needs
   abbrev AreApart : List ℕ → Type 0
-  AreApart ws = (j k : ℕ) → is_in j ws ≡ true → is_in k ws ≡ true → j ≢ k → W j k ≡ false
+  AreApart ws = (j k : ℕ) → has j ws ≡ true → has k ws ≡ true → j ≢ k → W j k ≡ false
 
-  none_needed : (ws : List ℕ) (k : ℕ) → ((j : ℕ) → is_in j ws ≡ true → j ≢ k → W j k ≡ false) → needed W ws k ≡ 0
+  none_needed : (ws : List ℕ) (k : ℕ) → ((j : ℕ) → has j ws ≡ true → j ≢ k → W j k ≡ false) → needed W ws k ≡ 0
   none_needed [] k h = refl
-  none_needed (j ∷ ws) k h = by (cases_eq j k) (none_needed ws k (λ i e n. h i (rw e (or-true (nat_eq j i))) n)) where
+  none_needed (j ∷ ws) k h = by (cases_eq j k) (none_needed ws k (λ i e n. h i (in_more i j ws e) n)) where
     by : (j ≡ k) ⊎ (j ≢ k) → needed W ws k ≡ 0 → needed W (j ∷ ws) k ≡ 0
     by (inl same) rest = let yes_ = eq-eqb j k same in rw yes_ rest
-    by (inr other) rest = let no_ = h j (let yes_ = eq-eqb j j refl in rw yes_ refl) other in let differ = ne_eqb j k other in rw (differ, no_) rest
+    by (inr other) rest = let no_ = h j (in_here j ws) other in let differ = ne_eqb j k other in rw (differ, no_) rest
 
   stays_best : (f : ℕ → ℕ) (b : ℕ) (ks : List ℕ) → f b ≡ 0 → next f b ks ≡ b
   stays_best f b [] z = refl
@@ -39,14 +38,13 @@ module _ (W : ℕ → ℕ → Bool) where
   straight_choices : (ws : List ℕ) → AreApart ws → choices W (length ws) ws ≡ map Direct ws
   straight_choices [] h = refl
   straight_choices (w ∷ ws) h =
-      let here : is_in w (w ∷ ws) ≡ true = let yes_ = eq-eqb w w refl in rw yes_ refl in
-      let none : needed W (w ∷ ws) w ≡ 0 = none_needed (w ∷ ws) w (λ j e n. h j w e here n) in
+      let none : needed W (w ∷ ws) w ≡ 0 = none_needed (w ∷ ws) w (λ j e n. h j w e (in_here w ws) n) in
       let first : next (needed W (w ∷ ws)) w ws ≡ w = stays_best (needed W (w ∷ ws)) w ws none in
       let gone : without w (w ∷ ws) ≡ ws = ap (λ t. cond t ws (w ∷ without w ws)) (eq-eqb w w refl) in
       ap (λ k. chosen (needed W (w ∷ ws) k) k ∷ choices W (length ws) (without k (w ∷ ws))) first
       ∙ (ap (λ r. chosen r w ∷ choices W (length ws) (without w (w ∷ ws))) none
       ∙ (ap (λ rest. Direct w ∷ choices W (length ws) rest) gone
-      ∙ ap (λ cs. Direct w ∷ cs) (straight_choices ws (λ j k e f n. h j k (rw e (or-true (nat_eq w j))) (rw f (or-true (nat_eq w k))) n))))
+      ∙ ap (λ cs. Direct w ∷ cs) (straight_choices ws (λ j k e f n. h j k (in_more j w ws e) (in_more k w ws f) n))))
 
 -- ## The moves
 
@@ -90,12 +88,11 @@ module _ (args : List Tree) (targets : List Place) (apart : (j k : ℕ) → j < 
           let none : uses_target args targets i j ≡ false = apart i j (r.within 0 (omega (arith, two))) (r.within 1 (omega (arith, two))) other in
           let both : true ≡ false = sym used ∙ none in cc
 
-    no_rings : (ks : List ℕ) → ((k : ℕ) → is_in k ks ≡ true → k < length targets) → rings (successor args targets) (length targets) ks ≡ []
+    no_rings : (ks : List ℕ) → ((k : ℕ) → has k ks ≡ true → k < length targets) → rings (successor args targets) (length targets) ks ≡ []
     no_rings [] h = refl
     no_rings (k ∷ ks) h =
-        let here : is_in k (k ∷ ks) ≡ true = let yes_ = eq-eqb k k refl in rw yes_ refl in
-        let none = no_ring k (h k here) in
-        let rest = no_rings ks (λ j e. h j (rw e (or-true (nat_eq k j)))) in
+        let none = no_ring k (h k (in_here k ks)) in
+        let rest = no_rings ks (λ j e. h j (in_more j k ks e)) in
         ap (λ t. cond t (ring (successor args targets) (length targets) k ∷ rings (successor args targets) (length targets) ks) (rings (successor args targets) (length targets) ks)) none ∙ rest
 
     pub no_cycles : cycles args targets ≡ []

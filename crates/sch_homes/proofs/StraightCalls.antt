@@ -1,12 +1,13 @@
 -- Of a call of which no argument uses the target of another one the moves of a shuffle are those from each argument to its target.
-use Rattle.std.proofs.Common.{◌≡◌, ◌≢◌, ℕ, zero, suc, ◌+◌, ◌-◌, ◌<◌, ◌≤◌, Bool, true, false, List, [], ◌∷◌, length, map, take, refl, ap, sym, ◌∙◌, subst, arith, inl, inr, ◌⊎◌}
+use Rattle.std.proofs.Common.{◌≡◌, ◌≢◌, ℕ, zero, suc, ◌+◌, ◌-◌, ◌<◌, ◌≤◌, Bool, true, false, List, [], ◌∷◌, length, map, take, refl, ap, sym, ◌∙◌, arith, inl, inr, ◌⊎◌}
 use Rattle.std.specs.Prelude.{not, ◌||◌}
 use Rattle.std.specs.List.{list_all, list_any}
-use Rattle.std.proofs.lemmas.Bool.{and_parts, cases_Bool, cases_eq, ne_eqb}
+use Rattle.std.proofs.lemmas.Bool.{cases_Bool, ne_eqb}
 use Rattle.sch_word.specs.declared.place.Place.{Place}
 use Rattle.sch_word.specs.trees.Bindings.{numbers}
 use Rattle.sch_control.specs.declared.operation.Application.{Application}
 use Rattle.sch_control.specs.declared.operation.Atom.{Atom}
+use Rattle.sch_control.proofs.NumberRows.{each_number}
 use Rattle.sch_layout.specs.BodyLayout.{arguments_at, atom_at, atoms_at, target}
 use Rattle.sch_layout.specs.Moves.{Move}
 use Rattle.sch_orders.specs.declared.listed_call.ListedCall.{ListedCall}
@@ -39,14 +40,6 @@ module _ (f : ℕ → Bool) (n : ℕ) where
   -- all have
   pub all_passed : (j : ℕ) → j ≡ n → list_all f (numbers j (n - j)) ≡ list_all f (numbers 0 n) → true ≡ list_all f (numbers 0 n)
   all_passed j e h = let none : n - j ≡ 0 = omega (arith, e) in sym (ap (λ m. list_all f (numbers j m)) none) ∙ h
-
-all_have : (f : ℕ → Bool) (n from : ℕ) → list_all f (numbers from n) ≡ true → (k : ℕ) → from ≤ k → k < from + n → f k ≡ true
-all_have f zero from h k le lt = absurd (omega (arith, le, lt))
-all_have f (suc n) from h k le lt = by (cases_eq from k) (and_parts (f from) _ h) (λ r. all_have f n (suc from) r k) where
-  by : (from ≡ k) ⊎ (from ≢ k) → (f from ≡ true) × (list_all f (numbers (suc from) n) ≡ true)
-      → (list_all f (numbers (suc from) n) ≡ true → suc from ≤ k → k < suc from + n → f k ≡ true) → f k ≡ true
-  by (inl same) parts rest = subst (λ j. f j ≡ true) same parts.0
-  by (inr other) parts rest = rest parts.1 (omega (arith, le, other)) (omega (arith, lt))
 
 -- ## What arguments use
 
@@ -85,8 +78,8 @@ module _ (lives : ℕ → Place) (tail : Bool) (a : Application ℕ) (apart : ar
   targets_off : (j k : ℕ) → j < length args → k < length args → j ≢ k → uses_target args to j k ≡ false
   targets_off j k jl kl other =
       let long = trees_length lives a in
-      let own : keeps_off tail n j (told j) ≡ true = all_have (λ i. keeps_off tail n i (told i)) n 0 apart j (omega arith) (omega (arith, jl, long)) in
-      let free : not (uses_other tail j (told j) k) ≡ true = all_have (λ i. not (uses_other tail j (told j) i)) n 0 own k (omega arith) (omega (arith, kl, long)) in
+      let own : keeps_off tail n j (told j) ≡ true = each_number (λ i. keeps_off tail n i (told i)) 0 n j apart (omega arith) (omega (arith, jl, long)) in
+      let free : not (uses_other tail j (told j) k) ≡ true = each_number (λ i. not (uses_other tail j (told j) i)) 0 n k own (omega arith) (omega (arith, kl, long)) in
       ap (λ x. uses x (place_at to k)) (tree_at (arguments_at lives a) j)
       ∙ (ap (uses (told j)) (map_at (target tail next_frame) n k (omega (arith, kl, long))) ∙ unused (told j) j k other free)
 

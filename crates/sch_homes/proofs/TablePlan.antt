@@ -1,5 +1,5 @@
 -- What is read in the table of a body's places and homes is its plan.
-use Rattle.std.proofs.Common.{◌≡◌, ℕ, zero, suc, ◌+◌, ◌<◌, ◌≤◌, List, [], ◌∷◌, ◌++◌, true, false, cond, Option, Some, None, length, Bool, refl, sym, ap, ◌∙◌, subst, arith, length-append}
+use Rattle.std.proofs.Common.{◌≡◌, ℕ, zero, suc, ◌+◌, ◌<◌, ◌≤◌, List, [], ◌∷◌, true, false, cond, Option, Some, None, length, Bool, refl, sym, ap, ◌∙◌, subst, arith, length-append}
 use Rattle.std.specs.Prelude.{nat_lt, ◌&&◌, ◌||◌, slice_get}
 use Rattle.std.proofs.Math.Path.{fun_ext}
 use Rattle.std.proofs.lemmas.Bool.{ltb-false, ltb-true}
@@ -7,6 +7,7 @@ use Rattle.std.proofs.lemmas.Option.{slice_get_past}
 use Rattle.sch_word.specs.declared.place.Place.{Place}
 use Rattle.sch_word.specs.declared.place.Place.TheVariants.{Slot}
 use Rattle.sch_word.proofs.facts.Booleans.{or_false}
+use Rattle.sch_word.proofs.facts.Lists.{get_front, get_seam}
 use Rattle.sch_control.specs.declared.body.Entry.{Entry}
 use Rattle.sch_control.specs.Tree.{Expression}
 use Rattle.sch_layout.specs.BodyLayout.{Plan}
@@ -16,15 +17,6 @@ use Rattle.sch_homes.specs.Homes.{calls_end, count_below, first_home, has_home, 
 use Rattle.sch_homes.specs.HomeTable.{home_of, home_slots, place_in, table_plan}
 
 -- ## Lists that grow at the end
-
-get_before : (xs ys : List (Option ℕ)) (i : ℕ) → i < length xs → slice_get (xs ++ ys) i ≡ slice_get xs i
-get_before [] ys i lt = absurd (omega (arith, lt))
-get_before (x ∷ xs) ys zero lt = refl
-get_before (x ∷ xs) ys (suc i) lt = get_before xs ys i (omega (arith, lt))
-
-get_last : (xs : List (Option ℕ)) (y : Option ℕ) → slice_get (xs ++ y ∷ []) (length xs) ≡ Some y
-get_last [] y = refl
-get_last (x ∷ xs) y = get_last xs y
 
 -- ## The table of homes
 
@@ -45,13 +37,13 @@ module _ (first : ℕ) (test : ℕ → Bool) where
     by true h more =
         let less = ltb-true x n h in
         let l = slots_length n in
-        get_before (home_slots first test n) (cond (test n) (Some (first + count_below test n)) None ∷ []) x (omega (arith, less, l)) ∙ more less
+        get_front (home_slots first test n) (cond (test n) (Some (first + count_below test n)) None ∷ []) x (omega (arith, less, l)) ∙ more less
     by false h more =
         let past = ltb-false x n h in
         let same : n ≡ x = omega (arith, past, lt) in
         subst (λ x. slice_get (home_slots first test (suc n)) x ≡ Some (cond (test x) (Some (first + count_below test x)) None)) same
         (subst (λ l. slice_get (home_slots first test (suc n)) l ≡ Some (cond (test n) (Some (first + count_below test n)) None)) (slots_length n)
-        (get_last (home_slots first test n) (cond (test n) (Some (first + count_below test n)) None)))
+        (get_seam (home_slots first test n) [] (cond (test n) (Some (first + count_below test n)) None)))
 
   pub home_read : (n x : ℕ) → (n ≤ x → test x ≡ false) → home_of x (slice_get (home_slots first test n) x) ≡ Slot (cond (test x) (first + count_below test x) (max_words + x))
   home_read n x past = by (nat_lt x n) refl where

@@ -9,7 +9,8 @@ use Rattle.sch_control.specs.declared.body.Entry.{Entry}
 use Rattle.sch_control.specs.Meaning.{no_region}
 use Rattle.sch_control.specs.Tree.{Expression, perform, bind, sequence, branch, fix, call, tail_call, return, end, save}
 use Rattle.sch_frames.specs.Tree.{Code}
-use Rattle.sch_frames.specs.Valid.{formals_of, max_words}
+use Rattle.sch_control.specs.flow.Places.{formals_of}
+use Rattle.sch_frames.specs.Valid.{max_words}
 use Rattle.sch_layout.specs.BodyLayout.{Plan, entering, labels, lay}
 use Rattle.sch_homes.specs.CallMoves.{call_end, call_moves, next_frame}
 

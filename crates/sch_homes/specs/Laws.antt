@@ -11,7 +11,8 @@ use Rattle.sch_control.specs.Valid.{ended, fields_known, in_scope_whole, numbere
 use Rattle.sch_control.specs.flow.Apart.{EachBoundAlone, EachPointApart, EnteredAlone}
 use Rattle.sch_control.specs.flow.Bare.{erased}
 use Rattle.sch_control.specs.flow.Live.{nothing_later}
-use Rattle.sch_control.specs.flow.Places.{arrival, closure_place, count_slots, formals_of, is_usual, link_place, place_of, stays}
+use Rattle.sch_word.specs.values.Places.{closure_place, link_place}
+use Rattle.sch_control.specs.flow.Places.{arrival, count_slots, formals_of, is_usual, place_of, stays}
 use Rattle.sch_control.specs.flow.Regions.{restores_saved}
 use Rattle.sch_layout.specs.FewCopies.{MovesFew}
 use Rattle.sch_layout.specs.Laws.{EntersSlots, Laid}

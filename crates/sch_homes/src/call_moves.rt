@@ -1,6 +1,8 @@
 //! The moves of calls: those of a greedy shuffle of their arguments.
 
-ghost use Rattle.std.specs.Prelude.{◌≡◌, map, length, cond, max, IfOk};
+ghost use Rattle.std.specs.Prelude.{◌≡◌, ◌≤◌, ◌<◌, ◌^◌, map, length, cond, max, IfOk};
+ghost use Rattle.sch_word.specs.trees.Shape.{max_operands};
+ghost use Rattle.sch_frames.specs.Valid.{max_words};
 ghost use Rattle.sch_layout.specs.BodyLayout.{arguments_at};
 ghost use Rattle.sch_shuffle.specs.View.{transfer_of, transfers_of};
 ghost use Rattle.sch_writer.specs.View as writer;
@@ -12,10 +14,10 @@ ghost use Rattle.sch_homes.specs.HomeTable.{place_in};
 use crate::call_arguments::arguments;
 use crate::frame_places::FramePlaces;
 use crate::straight_calls::{are_apart, straight_moves};
-use crate::temporaries::{first_temporary, larger, spare_registers, targets, temporaries};
+use crate::temporaries::{first_temporary, spare_registers, targets, temporaries};
 use sch_control::{Application, Atom, Operand};
 use sch_shuffle::{Move as Step, Operand as Argument, make_moves};
-use sch_word::{Const, List, Mem, Place, add_numbers, number_of_count};
+use sch_word::{Const, List, Mem, Place, larger};
 use sch_writer::{Move, operand_at};
 use std::alloc::Global;
 
@@ -96,11 +98,13 @@ fn shuffled_moves(
     tail: bool,
     a: &Application<u32>,
 ) -> Result<List<Move>, Mem>
+    requires few { length a.now.operands ≤ max_operands }
+    requires low { end ≤ max_words }
     ensures { IfOk result (λ moves. moves_of moves ≡ calls.call_moves end (place_in lives.now.places.now) tail a.now) }
 {
     let args = arguments(alloc, lives, a)?;
-    let operands = number_of_count(a.operands.len())?;
-    let count = add_numbers(operands, 1)?;
+    let operands = a.operands.len() as u32;
+    let count = operands + 1;
     let targets = targets(alloc, tail, count)?;
     let spare = spare_registers(alloc, args.as_slice(), targets.as_slice())?;
     let first = first_temporary(end, operands);
@@ -121,36 +125,40 @@ pub(crate) fn call_moves(
     tail: bool,
     a: &Application<u32>,
 ) -> Result<List<Move>, Mem>
+    requires few { length a.now.operands ≤ max_operands }
+    requires low { end ≤ max_words }
     ensures { IfOk result (λ moves. moves_of moves ≡ calls.call_moves end (place_in lives.now.places.now) tail a.now) }
 {
-    if are_apart(lives, tail, a)? {
+    if are_apart(lives, tail, a) {
         return straight_moves(alloc, lives, tail, a);
     }
     shuffled_moves(alloc, lives, end, tail, a)
 }
 
 /// One past the slot in which a move sets something aside, if it does.
-fn move_end(m: &Move) -> Result<u32, Mem>
-    ensures { IfOk result (λ n. n ≡ cond m.now.is_temporary (slot_end m.now.to) 0) }
+fn move_end(m: &Move) -> u32
+    requires { cond m.now.is_temporary (slot_end m.now.to) 0 < 2 ^ 32 }
+    ensures { result ≡ cond m.now.is_temporary (slot_end m.now.to) 0 }
 {
     if !m.is_temporary {
-        return Ok(0);
+        return 0;
     }
     match m.to {
-        Place::Reg(_) => Ok(0),
-        Place::Slot(j) => add_numbers(j, 1),
+        Place::Reg(_) => 0,
+        Place::Slot(j) => j + 1,
     }
 }
 
 /// One past the last slot in which moves set something aside, where that is more than `end`.
-fn aside_end(end: u32, moves: &[Move]) -> Result<u32, Mem>
-    ensures { IfOk result (λ n. n ≡ aside_end end (moves_of moves.now)) }
+fn aside_end(end: u32, moves: &[Move]) -> u32
+    requires { aside_end end (moves_of moves.now) < 2 ^ 32 }
+    ensures { result ≡ aside_end end (moves_of moves.now) }
 {
     let mut most = end;
     for m in moves {
-        most = larger(move_end(m)?, most);
+        most = larger(move_end(m), most);
     }
-    Ok(most)
+    most
 }
 
 /// One past the last slot that a call needs.
@@ -162,12 +170,14 @@ pub(crate) fn call_end(
     tail: bool,
     a: &Application<u32>,
 ) -> Result<u32, Mem>
+    requires few { length a.now.operands ≤ max_operands }
+    requires low { end ≤ max_words }
     ensures { IfOk result (λ n. n ≡ calls.call_end end (place_in lives.now.places.now) tail a.now) }
 {
-    let first = first_temporary(end, number_of_count(a.operands.len())?);
-    if are_apart(lives, tail, a)? {
+    let first = first_temporary(end, a.operands.len() as u32);
+    if are_apart(lives, tail, a) {
         return Ok(first);
     }
     let moves = shuffled_moves(alloc, lives, end, tail, a)?;
-    aside_end(first, moves.as_slice())
+    Ok(aside_end(first, moves.as_slice()))
 }

@@ -1,6 +1,6 @@
 //! The frame body of a body whose variables have places.
 
-ghost use Rattle.std.specs.Prelude.{◌≡◌, ◌≤◌, ◌+◌, ◌*◌, IfOk, IsTrue};
+ghost use Rattle.std.specs.Prelude.{◌≡◌, ◌≤◌, ◌<◌, ◌+◌, ◌*◌, ◌^◌, IfOk, IsTrue};
 ghost use Rattle.sch_word.specs.trees.Shape.{max_operands};
 ghost use Rattle.sch_control.specs.Covered as control_covered;
 ghost use Rattle.sch_control.specs.flow.RestoredView.{restored};
@@ -10,6 +10,7 @@ ghost use Rattle.sch_frames.specs.Does.{FrameOf};
 ghost use Rattle.sch_frames.specs.Sizes.{code_work, copies_of};
 ghost use Rattle.sch_frames.specs.SourceView.{code_of};
 ghost use Rattle.sch_frames.specs.Standing.{code_marks_stand};
+ghost use Rattle.sch_layout.specs.BodyLayout.{labels};
 ghost use Rattle.sch_homes.specs.FewKept.{BodyKeepsFew};
 ghost use Rattle.sch_homes.specs.Homes.{homes_code};
 ghost use Rattle.sch_homes.specs.Laws.{AreDense};
@@ -43,10 +44,10 @@ impl<const N: usize> Restores<Restoring<N>> for OwnRestores {
 /// argument uses or goes to, and then in slots behind those.
 ///
 /// Time and memory are linear in the body and in what is written, as `write_body` says, but for calls: the time of a call grows
-/// with the square of the number of its operands, of which there are at most 200. What is past the numbers of 32 bits,
-/// for which a body needs 2^31 nodes, is answered as out of memory too.
+/// with the square of the number of its operands, of which there are at most 200.
 pub fn frame<const N: usize>(alloc: Global, b: &PlacedBody<N>) -> Result<FrameBody, Mem>
     requires soon { EachSoonRestored (restored b.now.exp) }
+    requires labels { labels (restored b.now.exp) < 2 ^ 32 }
     // What laying out is defined to make.
     ensures made { IfOk result (λ f. code_of f ≡ homes_code b.now.entry (restored b.now.exp) b.now.places) }
     ensures same { IfOk result (λ f. FrameOf (bare_code b.now) (code_of f)) }
@@ -67,12 +68,13 @@ pub fn frame<const N: usize>(alloc: Global, b: &PlacedBody<N>) -> Result<FrameBo
     let lives = FramePlaces {
         places: b.places.as_slice(),
     };
+    let places = Homes {
+        lives,
+        homes: room.homes.homes,
+        end,
+    };
     let allocation = Allocation {
-        places: Homes {
-            lives,
-            homes: room.homes.homes,
-            end,
-        },
+        places,
         restores: OwnRestores,
     };
     let out = write_body(alloc, &allocation, b.entry, &b.exp)?;

@@ -1,13 +1,15 @@
 //! Where the variables of a body live in its frame, and where those in registers are saved, by tables.
 
-ghost use Rattle.std.specs.Prelude.{◌≡◌, [], IfOk};
+ghost use Rattle.std.specs.Prelude.{◌≡◌, ◌≤◌, [], length, IfOk};
 ghost use Rattle.sch_word.specs.declared.place.Place.TheVariants.{Slot};
+ghost use Rattle.sch_control.specs.Valid.{max_body_variables};
+ghost use Rattle.sch_frames.specs.Valid.{max_words};
 ghost use Rattle.sch_homes.specs.CallMoves.{next_frame};
 ghost use Rattle.sch_homes.specs.HomeTable.{place_in, table_plan};
 
 use crate::call_moves::call_moves;
 use sch_control::Application;
-use sch_word::{List, Mem, Place, add_numbers};
+use sch_word::{List, Mem, Place};
 use sch_writer::{Move, VariablePlaces};
 use std::alloc::Global;
 
@@ -38,12 +40,12 @@ impl FramePlaces<'_> {
 impl VariablePlaces for FramePlaces<'_> {
     ghost plan = { λ s. record { place = place_in s.places.now; home = λ x. Slot 0; limit = next_frame; moves = λ tail a. [] } };
 
-    fn place(&self, x: u32) -> Result<Place, Mem> {
-        Ok(self.place_of(x))
+    fn place(&self, x: u32) -> Place {
+        self.place_of(x)
     }
 
-    fn home(&self, _x: u32) -> Result<Place, Mem> {
-        Ok(Place::Slot(0))
+    fn home(&self, _x: u32) -> Place {
+        Place::Slot(0)
     }
 
     fn limit(&self) -> u32 {
@@ -62,19 +64,21 @@ pub(crate) struct Homes<'a> {
     pub lives: FramePlaces<'a>,
     pub homes: List<Option<u32>>,
     pub end: u32,
+    ghost few: { length lives.places.now ≤ max_body_variables },
+    ghost low: { end ≤ max_words },
 }
 
 impl VariablePlaces for Homes<'_> {
     ghost plan = { λ s. table_plan s.end s.lives.places.now s.homes };
 
-    fn place(&self, x: u32) -> Result<Place, Mem> {
-        self.lives.place(x)
+    fn place(&self, x: u32) -> Place {
+        self.lives.place_of(x)
     }
 
-    fn home(&self, x: u32) -> Result<Place, Mem> {
+    fn home(&self, x: u32) -> Place {
         match self.homes.get(x as usize) {
-            Some(Some(j)) => Ok(Place::Slot(*j)),
-            _ => Ok(Place::Slot(add_numbers(MAX_WORDS, x)?)),
+            Some(Some(j)) => Place::Slot(*j),
+            _ => Place::Slot(MAX_WORDS + x),
         }
     }
 

@@ -1,7 +1,9 @@
 //! What a body needs room for in its frame: late arguments, variables, homes, and what calls set aside.
 
-ghost use Rattle.std.specs.Prelude.{◌≡◌, ◌∷◌, [], length, IfOk};
+ghost use Rattle.std.specs.Prelude.{◌≡◌, ◌≤◌, ◌∷◌, [], length, IfOk};
 ghost use Rattle.sch_control.specs.flow.RestoredView.{restored};
+ghost use Rattle.sch_frames.specs.Valid.{max_words};
+ghost use Rattle.sch_writer.specs.FewOperands.{FewOperands};
 ghost use Rattle.sch_homes.specs.Homes as homes;
 ghost use Rattle.sch_homes.specs.Homes.{first_home, has_home, homes_end, homes_words};
 ghost use Rattle.sch_homes.specs.HomeTable.{home_slots, place_in};
@@ -9,10 +11,9 @@ ghost use Rattle.sch_homes.specs.HomeTable.{home_slots, place_in};
 use crate::call_moves::call_end;
 use crate::frame_places::FramePlaces;
 use crate::saved_variables::{HomeSlots, give_homes, mark_saved};
-use crate::temporaries::larger;
 use sch_control::{Entry, Exp, PlacedBody, Restoring};
 use sch_sets::Set;
-use sch_word::{ARGUMENT_REGISTERS, Mem, Place, add_numbers};
+use sch_word::{ARGUMENT_REGISTERS, Mem, Place, larger};
 use std::alloc::Global;
 
 /// In how many slots arguments arrive.
@@ -26,25 +27,27 @@ fn late_slots(entry: Option<Entry>) -> u32
 }
 
 /// One past the last slot so far, with one more place.
-fn end_with(end: u32, p: Place) -> Result<u32, Mem>
-    ensures { IfOk result (λ n. n ≡ homes.slots_end end (p ∷ [])) }
+fn end_with(end: u32, p: Place) -> u32
+    requires { homes.slots_end end (p ∷ []) ≤ max_words }
+    ensures { result ≡ homes.slots_end end (p ∷ []) }
 {
     match p {
-        Place::Reg(_) => Ok(end),
-        Place::Slot(j) if j < end => Ok(end),
-        Place::Slot(j) => add_numbers(j, 1),
+        Place::Reg(_) => end,
+        Place::Slot(j) if j < end => end,
+        Place::Slot(j) => j + 1,
     }
 }
 
 /// One past the last slot in which a variable lives, and past those of arguments.
-fn slots_end(late: u32, places: &[Place]) -> Result<u32, Mem>
-    ensures { IfOk result (λ n. n ≡ homes.slots_end late places.now) }
+fn slots_end(late: u32, places: &[Place]) -> u32
+    requires { homes.slots_end late places.now ≤ max_words }
+    ensures { result ≡ homes.slots_end late places.now }
 {
     let mut end = late;
     for p in places {
-        end = end_with(end, *p)?;
+        end = end_with(end, *p);
     }
-    Ok(end)
+    end
 }
 
 /// The room of a body: the homes of its variables, and one past the last slot that it needs.
@@ -61,6 +64,8 @@ fn calls_end<const N: usize>(
     used: u32,
     e: &Exp<Restoring<N>>,
 ) -> Result<u32, Mem>
+    requires few { FewOperands e.now }
+    requires low { used ≤ max_words }
     ensures { IfOk result (λ n. n ≡ homes.calls_end used (place_in lives.now.places.now) (restored e.now)) }
 {
     match e {
@@ -90,7 +95,7 @@ fn calls_end<const N: usize>(
     }
 }
 
-/// The room that a body needs. Its variables and operands are too few for a sum that is past the numbers of 32 bits.
+/// The room that a body needs.
 pub(crate) fn room_for<const N: usize>(alloc: Global, b: &PlacedBody<N>) -> Result<Room, Mem>
     ensures homes { IfOk result (λ r. r.homes.homes ≡ home_slots (first_home b.now.entry (restored b.now.exp) b.now.places)
         (has_home b.now.entry (restored b.now.exp) b.now.places) (length b.now.places)) }
@@ -100,7 +105,7 @@ pub(crate) fn room_for<const N: usize>(alloc: Global, b: &PlacedBody<N>) -> Resu
     let mut saved = Set::new();
     mark_saved(&b.exp, &mut saved);
     let places = b.places.as_slice();
-    let first = slots_end(late_slots(b.entry), places)?;
+    let first = slots_end(late_slots(b.entry), places);
     let homes = give_homes(alloc, places, &saved, first)?;
     let lives = FramePlaces { places };
     let words = calls_end(alloc, &lives, homes.end, &b.exp)?;

@@ -1,8 +1,10 @@
 //! What is listed of the moves of a body's calls.
 
-ghost use Rattle.std.specs.Prelude.{◌≡◌, ◌++◌, ◌∷◌, [], ℕ, IfOk, OnOk};
+ghost use Rattle.std.specs.Prelude.{◌≡◌, ◌≤◌, ◌++◌, ◌∷◌, [], ℕ, length, IfOk, OnOk};
+ghost use Rattle.sch_word.specs.trees.Shape.{max_operands};
 ghost use Rattle.sch_control.specs.flow.RestoredView.{restored};
 ghost use Rattle.sch_orders.specs.ListedCalls as tree;
+ghost use Rattle.sch_writer.specs.FewOperands.{FewOperands};
 ghost use Rattle.sch_homes.specs.HomeTable.{place_in};
 ghost use Rattle.sch_homes.specs.ListedMoves as listed;
 
@@ -13,7 +15,7 @@ use crate::temporaries::targets;
 use sch_control::{Application, Exp, PlacedBody, Restoring};
 use sch_orders::ListedCall;
 use sch_shuffle::{cycles, evaluation_order};
-use sch_word::{List, Mem, add_numbers, number_of_count};
+use sch_word::{List, Mem};
 use std::alloc::Global;
 
 /// What is listed of the moves of a call by a shuffle, wherever it sets something aside.
@@ -23,12 +25,12 @@ fn shuffled_call(
     tail: bool,
     a: &Application<u32>,
 ) -> Result<ListedCall, Mem>
+    requires { length a.now.operands ≤ max_operands }
     ensures { IfOk result (λ c. (end : ℕ)
         → c ≡ listed.listed_call end (place_in lives.now.places.now) tail a.now) }
 {
     let args = arguments(alloc, lives, a)?;
-    let operands = number_of_count(a.operands.len())?;
-    let count = add_numbers(operands, 1)?;
+    let count = argument_count(a);
     let targets = targets(alloc, tail, count)?;
     let order = evaluation_order(alloc, args.as_slice(), targets.as_slice())?;
     let cycles = cycles(alloc, args.as_slice(), targets.as_slice())?;
@@ -41,9 +43,10 @@ fn shuffled_call(
 
 /// What is listed of a call of which no argument uses the target of another one.
 fn straight_call(alloc: Global, a: &Application<u32>) -> Result<ListedCall, Mem>
+    requires { length a.now.operands ≤ max_operands }
     ensures { IfOk result (λ c. c ≡ listed.straight_call a.now) }
 {
-    let count = argument_count(a)?;
+    let count = argument_count(a);
     let order = straight_order(alloc, count)?;
     Ok(ListedCall {
         site: a.site,
@@ -59,10 +62,11 @@ fn listed_call(
     tail: bool,
     a: &Application<u32>,
 ) -> Result<ListedCall, Mem>
+    requires { length a.now.operands ≤ max_operands }
     ensures { IfOk result (λ c. (end : ℕ)
         → c ≡ listed.listed_call end (place_in lives.now.places.now) tail a.now) }
 {
-    if are_apart(lives, tail, a)? {
+    if are_apart(lives, tail, a) {
         return straight_call(alloc, a);
     }
     shuffled_call(alloc, lives, tail, a)
@@ -77,6 +81,7 @@ fn list_call(
     a: &Application<u32>,
     calls: &mut List<ListedCall>,
 ) -> Result<(), Mem>
+    requires { length a.now.operands ≤ max_operands }
     ensures { OnOk result ((end : ℕ) → calls.new ≡ calls.old
         ++ listed.listed_call end (place_in lives.now.places.now) tail a.now ∷ []) }
 {
@@ -91,6 +96,7 @@ fn list_calls<const N: usize>(
     e: &Exp<Restoring<N>>,
     calls: &mut List<ListedCall>,
 ) -> Result<(), Mem>
+    requires { FewOperands e.now }
     ensures { OnOk result ((end : ℕ) → calls.new ≡ calls.old
         ++ tree.listed_calls (listed.listed_call end (place_in lives.now.places.now)) (restored e.now)) }
 {

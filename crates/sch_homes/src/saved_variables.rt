@@ -9,7 +9,7 @@ ghost use Rattle.sch_homes.specs.HomeTable.{home_slots};
 
 use sch_control::{Exp, Restoring, with_all};
 use sch_sets::Set;
-use sch_word::{List, Mem, Place, add_numbers};
+use sch_word::{List, Mem, Place};
 use std::alloc::Global;
 
 /// Puts the variables that some region of an expression saves into a set.
@@ -54,6 +54,7 @@ pub(crate) struct HomeSlots {
 impl HomeSlots {
     /// One variable more, with the next slot for its home if it is to have one.
     fn put(&mut self, wanted: bool) -> Result<(), Mem>
+        requires { suc self.old.end < 2 ^ 32 }
         ensures homes { OnOk result (self.new.homes ≡ self.old.homes ++ cond wanted (Some self.old.end) None ∷ []) }
         ensures end { OnOk result (self.new.end ≡ cond wanted (suc self.old.end) self.old.end) }
     {
@@ -62,7 +63,7 @@ impl HomeSlots {
             return Ok(());
         }
         self.homes.push(Some(self.end))?;
-        self.end = add_numbers(self.end, 1)?;
+        self.end += 1;
         Ok(())
     }
 }
@@ -86,7 +87,7 @@ pub(crate) fn give_homes<const N: usize>(
     first: u32,
 ) -> Result<HomeSlots, Mem>
     requires fits { length places.now ≤ 64 * N }
-    requires count { length places.now < 2 ^ 32 }
+    requires room { first + length places.now < 2 ^ 32 }
     ensures homes { IfOk result (λ r. r.homes
         ≡ home_slots first (λ x. in_register (slice_get places.now x) && set.contains saved.now x) (length places.now)) }
     ensures end { IfOk result (λ r. r.end

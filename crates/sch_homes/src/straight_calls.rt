@@ -1,8 +1,9 @@
 //! Calls of which no argument uses the target of another one: each argument goes straight to its target.
 
-ghost use Rattle.std.specs.Prelude.{◌≡◌, length, suc, IfOk};
+ghost use Rattle.std.specs.Prelude.{◌≡◌, ◌≤◌, length, suc, IfOk};
 ghost use Rattle.std.specs.List.{list_any};
 ghost use Rattle.sch_word.specs.trees.Bindings.{numbers};
+ghost use Rattle.sch_word.specs.trees.Shape.{max_operands};
 ghost use Rattle.sch_layout.specs.BodyLayout.{arguments_at, atom_at, operand_at};
 ghost use Rattle.sch_shuffle.specs.Tree as shuffle;
 ghost use Rattle.sch_writer.specs.View as writer;
@@ -16,7 +17,7 @@ use crate::call_moves::argument_of;
 use crate::frame_places::{FramePlaces, NEXT_FRAME};
 use sch_control::{Application, Atom, Operand};
 use sch_shuffle::is_same;
-use sch_word::{List, Mem, Place, add_numbers, number_of_count};
+use sch_word::{List, Mem, Place};
 use sch_writer::{Move, target};
 use std::alloc::Global;
 
@@ -49,37 +50,27 @@ fn operand_uses(lives: &FramePlaces<'_>, o: &Operand<u32>, p: Place) -> bool
 }
 
 /// Whether an argument with the number `j` uses the target of argument `k`, another one.
-fn uses_other(
-    lives: &FramePlaces<'_>,
-    tail: bool,
-    j: u32,
-    o: &Operand<u32>,
-    k: u32,
-) -> Result<bool, Mem>
-    ensures { IfOk result (λ t. t ≡ straight.uses_other tail j (operand_tree (operand_at (place_in lives.now.places.now) o.now)) k) }
+fn uses_other(lives: &FramePlaces<'_>, tail: bool, j: u32, o: &Operand<u32>, k: u32) -> bool
+    requires { k ≤ max_operands }
+    ensures { result ≡ straight.uses_other tail j (operand_tree (operand_at (place_in lives.now.places.now) o.now)) k }
 {
     if j == k {
-        return Ok(false);
+        return false;
     }
-    Ok(operand_uses(lives, o, target(tail, NEXT_FRAME, k)?))
+    operand_uses(lives, o, target(tail, NEXT_FRAME, k))
 }
 
 /// Whether an argument with the number `j` uses no target but its own, where there are `count`.
-fn keeps_off(
-    lives: &FramePlaces<'_>,
-    tail: bool,
-    count: u32,
-    j: u32,
-    o: &Operand<u32>,
-) -> Result<bool, Mem>
-    ensures { IfOk result (λ t. t ≡ straight.keeps_off tail count j (operand_tree (operand_at (place_in lives.now.places.now) o.now))) }
+fn keeps_off(lives: &FramePlaces<'_>, tail: bool, count: u32, j: u32, o: &Operand<u32>) -> bool
+    requires { count ≤ suc max_operands }
+    ensures { result ≡ straight.keeps_off tail count j (operand_tree (operand_at (place_in lives.now.places.now) o.now)) }
 {
     for k in 0..count {
-        if uses_other(lives, tail, j, o, k)? {
-            return Ok(false);
+        if uses_other(lives, tail, j, o, k) {
+            return false;
         }
     }
-    Ok(true)
+    true
 }
 
 /// Whether an argument of a call, by its number, uses no target but its own.
@@ -89,42 +80,41 @@ fn argument_keeps_off(
     count: u32,
     a: &Application<u32>,
     j: u32,
-) -> Result<bool, Mem>
-    ensures { IfOk result (λ t. t ≡ straight.keeps_off tail count j (operand_tree (calls.argument_of (arguments_at (place_in lives.now.places.now) a.now) j))) }
+) -> bool
+    requires { count ≤ suc max_operands }
+    ensures { result ≡ straight.keeps_off tail count j (operand_tree (calls.argument_of (arguments_at (place_in lives.now.places.now) a.now) j)) }
 {
     if j == 0 {
         return keeps_off(lives, tail, count, 0, &a.operator);
     }
     match a.operands.get(j as usize - 1) {
         Some(o) => keeps_off(lives, tail, count, j, o),
-        None => Ok(true),
+        None => true,
     }
 }
 
 /// How many arguments a call has, the operator among them.
-pub(crate) fn argument_count(a: &Application<u32>) -> Result<u32, Mem>
-    ensures { IfOk result (λ n. n ≡ suc (length a.now.operands)) }
+pub(crate) fn argument_count(a: &Application<u32>) -> u32
+    requires { length a.now.operands ≤ max_operands }
+    ensures { result ≡ suc (length a.now.operands) }
 {
-    add_numbers(number_of_count(a.operands.len())?, 1)
+    a.operands.len() as u32 + 1
 }
 
 /// Whether no argument of a call uses the target of another one.
 ///
 /// The time grows with the square of the number of arguments. No memory is taken.
-pub(crate) fn are_apart(
-    lives: &FramePlaces<'_>,
-    tail: bool,
-    a: &Application<u32>,
-) -> Result<bool, Mem>
-    ensures { IfOk result (λ t. t ≡ straight.are_apart (place_in lives.now.places.now) tail a.now) }
+pub(crate) fn are_apart(lives: &FramePlaces<'_>, tail: bool, a: &Application<u32>) -> bool
+    requires { length a.now.operands ≤ max_operands }
+    ensures { result ≡ straight.are_apart (place_in lives.now.places.now) tail a.now }
 {
-    let count = argument_count(a)?;
+    let count = argument_count(a);
     for j in 0..count {
-        if !argument_keeps_off(lives, tail, count, a, j)? {
-            return Ok(false);
+        if !argument_keeps_off(lives, tail, count, a, j) {
+            return false;
         }
     }
-    Ok(true)
+    true
 }
 
 /// The move of an argument, by its number, to its target.
@@ -135,13 +125,14 @@ fn straight_move(
     a: &Application<u32>,
     k: u32,
 ) -> Result<Move, Mem>
+    requires { k ≤ max_operands }
     ensures { IfOk result (λ m. writer.move_of m ≡ straight.straight_move (place_in lives.now.places.now) tail a.now k) }
 {
     let from = argument_of(alloc, lives, a, k)?;
     Ok(Move {
         argument: k,
         from,
-        to: target(tail, NEXT_FRAME, k)?,
+        to: target(tail, NEXT_FRAME, k),
         is_temporary: false,
     })
 }
@@ -153,9 +144,10 @@ pub(crate) fn straight_moves(
     tail: bool,
     a: &Application<u32>,
 ) -> Result<List<Move>, Mem>
+    requires { length a.now.operands ≤ max_operands }
     ensures { IfOk result (λ moves. moves_of moves ≡ straight.straight_moves (place_in lives.now.places.now) tail a.now) }
 {
-    let count = argument_count(a)?;
+    let count = argument_count(a);
     let mut moves = List::from_vec(Vec::with_capacity(alloc, count as usize)?);
     for k in 0..count {
         moves.push(straight_move(alloc, lives, tail, a, k)?)?;

@@ -1,25 +1,27 @@
 //! Where the arguments of calls go, and where they may be set aside on their way.
 
-ghost use Rattle.std.specs.Prelude.{◌≡◌, ◌++◌, ◌∷◌, [], filter, map, max, IfOk, OnOk};
+ghost use Rattle.std.specs.Prelude.{◌≡◌, ◌≤◌, ◌<◌, ◌+◌, ◌^◌, ◌++◌, ◌∷◌, [], filter, map, suc, IfOk, OnOk};
 ghost use Rattle.std.specs.List.{list_any};
 ghost use Rattle.sch_shuffle.specs.Tree as shuffle;
+ghost use Rattle.sch_word.specs.trees.Shape.{max_operands};
 ghost use Rattle.sch_word.specs.values.Places.{same_place};
 ghost use Rattle.sch_shuffle.specs.View.{tree};
 ghost use Rattle.sch_homes.specs.CallMoves as calls;
 
 use crate::frame_places::NEXT_FRAME;
 use sch_shuffle::{Operand, is_same, uses};
-use sch_word::{ARGUMENT_REGISTERS, List, Mem, Place, add_numbers};
+use sch_word::{ARGUMENT_REGISTERS, List, Mem, Place, larger};
 use sch_writer::target;
 use std::alloc::Global;
 
 /// Where so many arguments go.
 pub(crate) fn targets(alloc: Global, tail: bool, count: u32) -> Result<List<Place>, Mem>
+    requires { count ≤ suc max_operands }
     ensures { IfOk result (λ places. places ≡ calls.targets tail count) }
 {
     let mut places = List::new(alloc);
     for k in 0..count {
-        places.push(target(tail, NEXT_FRAME, k)?)?;
+        places.push(target(tail, NEXT_FRAME, k))?;
     }
     Ok(places)
 }
@@ -84,14 +86,15 @@ pub(crate) fn spare_registers(
 }
 
 /// A temporary by its number: one of these places, or one of the slots from `first` on.
-fn temporary(places: &[Place], first: u32, number: u32) -> Result<Place, Mem>
-    ensures { IfOk result (λ p. p ≡ calls.temporary places.now first number) }
+fn temporary(places: &[Place], first: u32, number: u32) -> Place
+    requires { first + number < 2 ^ 32 }
+    ensures { result ≡ calls.temporary places.now first number }
 {
     match places.get(number as usize) {
-        Some(p) => Ok(*p),
+        Some(p) => *p,
         None => {
             let behind = number - places.len() as u32;
-            Ok(Place::Slot(add_numbers(first, behind)?))
+            Place::Slot(first + behind)
         }
     }
 }
@@ -103,11 +106,12 @@ pub(crate) fn temporaries(
     first: u32,
     count: u32,
 ) -> Result<List<Place>, Mem>
+    requires { first + count ≤ 2 ^ 32 }
     ensures { IfOk result (λ made. made ≡ calls.temporaries places.now first count) }
 {
     let mut made = List::new(alloc);
     for k in 0..count {
-        made.push(temporary(places, first, k)?)?;
+        made.push(temporary(places, first, k))?;
     }
     Ok(made)
 }
@@ -119,11 +123,4 @@ pub(crate) fn first_temporary(end: u32, operands: u32) -> u32
 {
     let handed_over = operands.saturating_sub(ARGUMENT_REGISTERS.len() as u32);
     larger(end, handed_over)
-}
-
-/// The larger of two numbers.
-pub(crate) fn larger(a: u32, b: u32) -> u32
-    ensures { result ≡ max a b }
-{
-    if a < b { b } else { a }
 }

@@ -1,5 +1,5 @@
 -- What is spelled is read back: `decode` of a spelling, whatever follows it, is its instruction.
-use Rattle.std.proofs.Common.{◌≡◌, ◌≢◌, ℕ, suc, ◌+◌, ◌*◌, ◌/◌, ◌%◌, ◌^◌, ◌<◌, ◌≤◌, List, [], ◌∷◌, ◌++◌, length, drop, Bool, true, false, cond, Option, Some, None, refl, sym, ap, ◌∙◌, arith, append_assoc, length-append, nat_lt, ◌==◌, ◌&&◌}
+use Rattle.std.proofs.Common.{◌≡◌, ◌≢◌, ℕ, suc, ◌+◌, ◌*◌, ◌/◌, ◌%◌, ◌^◌, ◌<◌, ◌≤◌, List, [], ◌∷◌, ◌++◌, length, drop, Bool, true, false, cond, Option, Some, None, refl, sym, ap, ◌∙◌, arith, append_assoc, length-append, nat_lt, ◌==◌, ◌&&◌, add-one}
 use Rattle.std.specs.Prelude.{ℤ, not, slice_index}
 use Rattle.std.specs.Int.{w8, w32, w64, cast_signed, cast_unsigned, from_le_bytes}
 use Rattle.std.specs.Int.RustNames.{FitsSigned}
@@ -97,9 +97,6 @@ parts_read mode r b high rest =
     ∙ ap (λ m. when_some (arg_of mode high m rest) (with_operand (8 * (r / 8) + x / 8 % 8))) (low_part mode r b)
     ∙ ap (λ n. when_some (arg_of mode high (b % 8) rest) (with_operand n)) (reg_part mode r b)
 
-plus_1 : (n : ℕ) → n + 1 ≡ suc n
-plus_1 n = omega arith
-
 -- An operand is read as itself, with its register and its length.
 operand_read : (m : Arg) (r : ℕ) (rest : List ℕ) → IsArg m → operand_of (r / 8) (high_bit m) (operand r m ++ rest) ≡ Some (r, m, length (operand r m))
 operand_read (Reg b) r rest h = parts_read 3 r b (b / 8) rest ∙ ap (λ n. Some (r, Reg n, 1)) (register_again b)
@@ -111,7 +108,7 @@ operand_read (Base b) r rest h =
     (with_operand r)) (ne_eqb (b % 8) 5 h.1)
     ∙ ap (λ o. when_some (when_some o (λ n. Some (Base (8 * (b / 8) + b % 8), n))) (with_operand r)) (sib_read b rest)
     ∙ ap (λ n. Some (r, Base n, length (sib b) + 1)) (register_again b)
-    ∙ ap (λ n. Some (r, Base b, n)) (plus_1 (length (sib b)))
+    ∙ ap (λ n. Some (r, Base b, n)) (add-one (length (sib b)))
 operand_read (Base8 b d) r rest h =
     let bs = sib b ++ (one_byte d ++ rest) in
     let near : ℕ → List ℕ → Option (Arg × ℕ) = λ n more. when_some (number_of_1 more) (λ d. Some (Base8 (8 * (b / 8) + b % 8) d, n + 1)) in

@@ -6,6 +6,7 @@ use Rattle.std.specs.Prelude.{nat_lt, nat_le, ◌==◌, Option, Some, None, ℤ,
 use Rattle.std.specs.Int.{w64, cast_unsigned, to_le_bytes, from_le_bytes}
 use Rattle.sch_word.specs.values.Memory.{Segment}
 use Rattle.sch_word.specs.declared.answer.Answer.{Answer}
+use Rattle.sch_word.specs.values.Options.{first_or_0}
 use Rattle.sch_insn.specs.declared.insn.Arg.{Arg}
 use Rattle.sch_insn.specs.declared.insn.Arg.TheVariants.{Reg, Base, Base8, Base32, Rip}
 use Rattle.sch_insn.specs.declared.state.Flags.{Flags}
@@ -123,12 +124,8 @@ or_access a (Some x) = Ok x
 abbrev pub word_at : List Segment → ℕ → Result ℕ StuckCause
 word_at gs a = when_ok (or_access a (bytes_from (λ g. g.readable) gs a 8)) (λ bs. Ok (from_le_bytes w64 bs))
 
-abbrev pub head_or_0 : List ℕ → ℕ
-head_or_0 [] = 0
-head_or_0 (x ∷ xs) = x
-
 abbrev pub byte_at : List Segment → ℕ → Result ℕ StuckCause
-byte_at gs a = when_ok (or_access a (bytes_from (λ g. g.readable) gs a 1)) (λ bs. Ok (head_or_0 bs))
+byte_at gs a = when_ok (or_access a (bytes_from (λ g. g.readable) gs a 1)) (λ bs. Ok (first_or_0 bs))
 
 abbrev pub write_bytes : Core → ℕ → List ℕ → Result Core StuckCause
 write_bytes c a ys = when_ok (or_access a (stored c.segments a ys)) (λ gs. Ok (with_segments gs c))

@@ -16,10 +16,10 @@ use Rattle.sch_insn.specs.declared.state.StuckCause.{StuckCause}
 use Rattle.sch_insn.specs.declared.register.TheConstants.{RAX, RCX, RDX, RSI, RDI, R11}
 use Rattle.sch_insn.specs.declared.state.StuckCause.TheVariants.{Fetch, Flag, Divide, Kernel}
 use Rattle.sch_insn.specs.Decode.{decode}
-use Rattle.sch_word.specs.values.Options.{when_some}
+use Rattle.sch_word.specs.values.Options.{when_some, first_or_0}
 use Rattle.sch_insn.specs.Machine.{Core, State, Computed, when_ok, with_register, with_flags, with_place, word, add64, is_negative, magnitude, differ, signed}
 use Rattle.sch_insn.specs.Machine.{bytes_from, byte_at, write_bytes, address_of, load, store, unknown_flags, sum_of, difference_of, bits_of, product_of}
-use Rattle.sch_insn.specs.Machine.{shifted, shift_right_signed, condition, set_register, head_or_0}
+use Rattle.sch_insn.specs.Machine.{shifted, shift_right_signed, condition, set_register}
 
 -- What a machine has come to: it runs on; it has exited with a status, from a state that stays as it was;
 -- or it is stuck in a state that has no row.
@@ -80,7 +80,7 @@ abbrev pub after_write : State → ℕ → ℕ → List ℕ → List Answer → 
 after_write s next rax taken left =
     record {
       core = record {
-        registers = set_register (set_register (set_register s.core.registers RAX rax) RCX (head_or_0 s.spare)) R11 (head_or_0 (rest_of s.spare));
+        registers = set_register (set_register (set_register s.core.registers RAX rax) RCX (first_or_0 s.spare)) R11 (first_or_0 (rest_of s.spare));
         flags = unknown_flags;
         place = next;
         segments = s.core.segments;

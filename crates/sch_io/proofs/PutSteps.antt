@@ -3,6 +3,7 @@ use Rattle.std.proofs.Common.{◌≡◌, ℕ, zero, suc, ◌+◌, ◌<◌, List,
 use Rattle.std.specs.Prelude.{Option, min, IsTrue}
 use Rattle.std.proofs.lemmas.Grind.{common_steps}
 use Rattle.std.proofs.lemmas.List.{append-nil}
+use Rattle.std.proofs.Math.Seq.{take-length, drop-length}
 use Rattle.sch_word.specs.values.Put.{Put, put, after}
 use Rattle.sch_word.specs.declared.answer.Answer.{Answer}
 use Rattle.sch_word.specs.declared.answer.Answer.TheVariants.{Took, Failed}
@@ -36,12 +37,6 @@ bytes_then a b c front more p q =
 after-after : (a b : List ℕ) (p : Put) → after a (after b p) ≡ after (a ++ b) p
 after-after a b p = rw (append_assoc a b p.taken) refl
 
-take_whole : (xs : List ℕ) → take (length xs) xs ≡ xs
-take_whole xs = grind (arith, common_steps)
-
-drop_whole : (xs : List ℕ) → drop (length xs) xs ≡ []
-drop_whole xs = grind (arith, common_steps)
-
 take_least : (j : ℕ) (xs : List ℕ) → take (min j (length xs)) xs ≡ take j xs
 take_least j xs = grind (arith, common_steps)
 
@@ -61,7 +56,7 @@ next : (rest : List ℕ) (k : ℕ) (before after' : List Answer) → 0 < length 
 next [] k before after' some positive h = absurd (omega arith)
 next (b ∷ bs) k [] after' some positive h =
     let e : k ≡ length (b ∷ bs) = cc in
-    rw (h.1, e, take_whole bs, drop_whole bs) (rw (append-nil bs) refl)
+    rw (h.1, e, take-length bs, drop-length bs) (rw (append-nil bs) refl)
 next (b ∷ bs) k (Failed ∷ before) after' some positive h = cc
 next (b ∷ bs) k (Took zero ∷ before) after' some positive h =
     let e : k ≡ min 0 (length (b ∷ bs)) = cc in absurd (omega arith)
@@ -175,7 +170,7 @@ pub record TakesFront (piece : List ℕ) (p : Put) : Type 0 where
 
 takes_front : (piece : List ℕ) (answers : List Answer) → TakesFront piece (put piece answers)
 takes_front [] answers = record { count = 0; front = refl; whole = λ t. refl }
-takes_front (b ∷ bs) [] = record { count = length (b ∷ bs); front = sym (take_whole (b ∷ bs)); whole = λ t. refl }
+takes_front (b ∷ bs) [] = record { count = length (b ∷ bs); front = sym (take-length (b ∷ bs)); whole = λ t. refl }
 takes_front (b ∷ bs) (Failed ∷ answers) = record { count = 0; front = refl; whole = λ t. cc }
 takes_front (b ∷ bs) (Took zero ∷ answers) = record { count = 0; front = refl; whole = λ t. cc }
 takes_front (b ∷ bs) (Took (suc k) ∷ answers) =

@@ -5,13 +5,14 @@ use Rattle.sch_lang.specs.Tree.{Expression, Expressions, Lambdas, constant, lite
 use Rattle.sch_lang.specs.Bodies.{bodies, bodies_each, bodies_lambdas, bodies_forms, bodies_of}
 use Rattle.sch_lang.specs.Measures.{over, over_each, over_lambdas, node_and_bound, nodes_and_bound}
 
-abbrev counted : Expression → ℕ
+-- the nodes and the bound variables of a tree, of trees and of lambdas
+abbrev pub counted : Expression → ℕ
 counted = over 0 (λ a b. a + b) node_and_bound
 
-abbrev counted_each : Expressions → ℕ
+abbrev pub counted_each : Expressions → ℕ
 counted_each = over_each 0 (λ a b. a + b) node_and_bound
 
-abbrev counted_lambdas : Lambdas → ℕ
+abbrev pub counted_lambdas : Lambdas → ℕ
 counted_lambdas = over_lambdas 0 (λ a b. a + b) node_and_bound
 
 both : (ps qs : List Procedure) (m n : ℕ) → length ps ≤ m → length qs ≤ n → length (ps ++ qs) ≤ m + n

@@ -3,7 +3,7 @@ use Rattle.std.proofs.Common.{◌≡◌, suc, List, [], ◌∷◌, length, refl,
 use Rattle.sch_lang.specs.declared.tree.Exp.{Exp, Row_of-Exp, end_of-Exp, more_of-Exp, items-the_row-Exp, items_hidden-the_row-Exp-0, Row_of-Lambda, end_of-Lambda, more_of-Lambda, items-the_row-Lambda, items_hidden-the_row-Lambda-1}
 use Rattle.sch_lang.specs.declared.tree.Exp.TheBlock.{hidden-the_row-Exp-0, hidden-the_row-Lambda-1}
 use Rattle.sch_lang.specs.declared.tree.Lambda.{Lambda}
-use Rattle.sch_lang.specs.Tree.{and_expression, and_lambda, expressions, lambdas, count, count_lambdas}
+use Rattle.sch_lang.specs.Tree.{Expressions, Lambdas, and_expression, and_lambda, expressions, lambdas, count, count_lambdas}
 use Rattle.sch_lang.specs.View.{expression, expressions_of, expressions_of_row, function, lambdas_of, lambdas_of_row}
 
 expressions_of_items : {m : _} → (row : Row_of-Exp m) → expressions_of_row row ≡ expressions (map expression (items-the_row-Exp m row))
@@ -19,6 +19,13 @@ lambdas_of_items (more_of-Lambda name formals rest body ls) = ap (and_lambda nam
 
 pub lambdas_of_list : (ls : List Lambda) → lambdas_of ls ≡ lambdas (map function ls)
 lambdas_of_list ls = lambdas_of_items (hidden-the_row-Lambda-1 ls) ∙ ap (λ l. lambdas (map function l)) (items_hidden-the_row-Lambda-1 ls)
+
+-- what is left of a list in a loop, as trees
+abbrev pub left : List Exp → Expressions
+left es = expressions (map expression es)
+
+abbrev pub left_lambdas : List Lambda → Lambdas
+left_lambdas ls = lambdas (map function ls)
 
 -- lists of expressions, and of lambdas, with the same trees
 pub same_expressions : (xs ys : List Exp) → map expression xs ≡ map expression ys → expressions_of xs ≡ expressions_of ys

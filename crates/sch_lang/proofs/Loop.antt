@@ -13,7 +13,8 @@ use Rattle.sch_word.proofs.EntriesAhead.{more_than, more_than_is}
 use Rattle.sch_word.specs.runs.Orders.{Orders, order_at, in_text_order}
 use Rattle.sch_lang.specs.Tree.{literal, local, global, branch}
 use Rattle.sch_lang.specs.Meaning.{Closure, evaluate, enter}
-use Rattle.sch_lang.specs.Examples.{number, two, put, apply, plain_run, ends, goes_on, loop_of}
+use Rattle.sch_word.specs.runs.WorkedRuns.{ends}
+use Rattle.sch_lang.specs.Examples.{number, two, put, apply, plain_run, goes_on, loop_of}
 use Rattle.sch_lang.specs.Run.{outcome}
 use Rattle.sch_lang.specs.Valid.{is_valid}
 

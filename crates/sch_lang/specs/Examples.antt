@@ -56,10 +56,6 @@ plain_run p depth entries = run p (in_text_order p.sites) 4096 depth [] entries
 abbrev pub heap_run : Source → (heap depth entries : ℕ) → Run
 heap_run p heap depth entries = run p (in_text_order p.sites) heap depth [] entries
 
--- a run that ended, with what it took
-abbrev pub ends : (output : List ℕ) → (status entries charged : ℕ) → Run
-ends output status entries charged = record { output = output; entries = entries; charged = charged; answers = 0; end = ended status }
-
 abbrev pub goes_on : (output : List ℕ) → (entries charged : ℕ) → Run
 goes_on output entries charged = record { output = output; entries = entries; charged = charged; answers = 0; end = going }
 

@@ -6,6 +6,8 @@ use Rattle.sch_lang.specs.Tree.{Expression, Expressions, Lambdas, constant, lite
 use Rattle.sch_word.specs.trees.Shape as shapes
 use Rattle.sch_word.specs.trees.Shape.{Procedure, Shape, site_of, call_site_of, tests_in, dropped_in, procedures_size, size_of}
 use Rattle.sch_word.specs.trees.BoundVariables.{formals_in, bound_in}
+use Rattle.sch_word.specs.values.Options.{or_false}
+use Rattle.sch_word.specs.trees.VariableCounts.{one_unless, twice_if, three_each}
 use Rattle.sch_lang.specs.Variables.{free, outside, assigns}
 
 -- A measure of nodes over a whole tree: `here` at each node, the outer before the inner, in the order
@@ -84,19 +86,11 @@ abbrev mutual
 -- body that itself counts once. Inner lambdas are bodies of their own.
 
 -- `once` tells of the body's own variables, the nearest first, which of them count once
-abbrev pub once_or_not : Option Bool → Bool
-once_or_not (Some once) = once
-once_or_not None = false
-
 abbrev pub counts_nothing : Expression → (once : List Bool) → Bool
 counts_nothing (constant c) once = true
 counts_nothing (literal n) once = true
-counts_nothing (local k) once = once_or_not (slice_get once k)
+counts_nothing (local k) once = or_false (slice_get once k)
 counts_nothing _ once = false
-
-abbrev pub one_unless : Bool → ℕ
-one_unless true = 0
-one_unless false = 1
 
 -- the n nearest variables of a tree, in front of the others, each with whether it counts once
 abbrev pub onto_assigned : ℕ → Expression → List Bool → List Bool
@@ -107,18 +101,10 @@ abbrev pub onto_all : ℕ → Bool → List Bool → List Bool
 onto_all zero each once = once
 onto_all (suc bound) each once = each ∷ onto_all bound each once
 
-abbrev pub twice_if : Bool → ℕ
-twice_if true = 2
-twice_if false = 1
-
 -- what the n nearest variables of a tree count
 abbrev pub bound_count : ℕ → Expression → ℕ
 bound_count zero e = 0
 bound_count (suc bound) e = twice_if (assigns e bound) + bound_count bound e
-
-abbrev pub three_each : ℕ → ℕ
-three_each zero = 0
-three_each (suc bound) = 3 + three_each bound
 
 abbrev mutual
   pub variables : Expression → (once : List Bool) → ℕ

@@ -4,7 +4,7 @@ use Rattle.sch_word.specs.declared.place.Place.{Place}
 use Rattle.sch_word.specs.declared.mark.MarkKind.{MarkKind}
 use Rattle.sch_frames.specs.declared.instruction.Instruction.{Instruction}
 use Rattle.sch_frames.specs.declared.instruction.Instruction.TheVariants.{Copy, Mark}
-use Rattle.sch_frames.specs.Meaning.{is_slot}
+use Rattle.sch_word.specs.values.Places.{is_slot}
 use Rattle.sch_layout.specs.BodyLayout.{Plan, carried}
 
 module _ (plan : Plan) (P : List Instruction → Type 0) (kind : ℕ → MarkKind) (to from : ℕ → Place)

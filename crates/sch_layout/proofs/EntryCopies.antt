@@ -5,8 +5,7 @@ use Rattle.sch_word.specs.declared.mark.MarkKind.TheVariants as mark
 use Rattle.sch_control.specs.declared.body.Entry.{Entry}
 use Rattle.sch_frames.specs.declared.instruction.Instruction.{Instruction}
 use Rattle.sch_frames.specs.declared.instruction.Instruction.TheVariants.{Copy}
-use Rattle.sch_frames.specs.Meaning.{is_slot}
-use Rattle.sch_word.specs.values.Places.{same_place}
+use Rattle.sch_word.specs.values.Places.{same_place, is_slot}
 use Rattle.sch_layout.specs.BodyLayout.{Plan, arrived, arrivals, entering, spill, under}
 use Rattle.sch_layout.specs.SharedPlaces.{entered_with}
 

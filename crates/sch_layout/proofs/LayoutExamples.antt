@@ -30,8 +30,8 @@ use Rattle.sch_control.proofs.Examples.{applied, form, held_in, lambda, number, 
 use Rattle.sch_frames.specs.declared.instruction.Instruction.{Instruction}
 use Rattle.sch_frames.specs.declared.instruction.Instruction.TheVariants.{Do, Store, Copy, Pass, Fix, Call, Tail, Return, End, IfFalse, Jump, Label, Mark}
 use Rattle.sch_frames.specs.Covered.{is_covered_code, is_covered_program, each_begins}
-use Rattle.sch_frames.specs.Meaning.{Cell, Frame, Is, Junk, Link, is_slot, execute_each}
-use Rattle.sch_word.specs.values.Places.{same_place}
+use Rattle.sch_frames.specs.Meaning.{Cell, Frame, Is, Junk, Link, execute_each}
+use Rattle.sch_word.specs.values.Places.{same_place, is_slot}
 use Rattle.sch_frames.specs.Run.{run}
 use Rattle.sch_frames.specs.Sizes.{copies_of, instructions_size}
 use Rattle.sch_frames.specs.Tree.{Source}

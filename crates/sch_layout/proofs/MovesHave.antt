@@ -16,8 +16,7 @@ use Rattle.sch_control.specs.declared.operation.Operation.TheVariants as operati
 use Rattle.sch_control.specs.AtomsAndSites.{operand_atoms}
 use Rattle.sch_frames.specs.declared.instruction.Instruction.{Instruction}
 use Rattle.sch_frames.specs.declared.instruction.Instruction.TheVariants.{Do, Store, Copy, Pass, Mark}
-use Rattle.sch_frames.specs.Meaning.{is_slot}
-use Rattle.sch_word.specs.values.Places.{same_place}
+use Rattle.sch_word.specs.values.Places.{same_place, is_slot}
 use Rattle.sch_frames.specs.Valid.{instruction_placed, is_atom, is_place, is_register}
 use Rattle.sch_layout.specs.BodyLayout.{under, move_mark, writing, is_direct, move_into, move_all}
 use Rattle.sch_layout.specs.Moves.{EachMove, Move}
@@ -53,6 +52,10 @@ module _ (limit : ℕ) (P : List Instruction → Type 0) (Good : (from : Operand
 pub each_move : (P : Move → Type 0) → ((m : Move) → P m) → (moves : List Move) → EachMove P moves
 each_move P h [] = tt
 each_move P h (m ∷ moves) = (h m, each_move P h moves)
+
+pub each_mapped : (P Q : Move → Type 0) (moves : List Move) → ((m : Move) → P m → Q m) → EachMove P moves → EachMove Q moves
+each_mapped P Q [] f h = tt
+each_mapped P Q (m ∷ moves) f h = (f m h.0, each_mapped P Q moves f h.1)
 
 -- ## What is kept
 

@@ -25,8 +25,8 @@ use Rattle.sch_control.specs.Tree.{Expression, perform, bind, call, return, save
 use Rattle.sch_control.proofs.Examples.{applied, held_in}
 use Rattle.sch_frames.specs.declared.instruction.Instruction.TheVariants.{Do, Store, Copy, Call, Return, Mark}
 use Rattle.sch_frames.specs.Does.{EndsAs, CalleesFollow, world}
-use Rattle.sch_frames.specs.Meaning.{is_slot, execute_each, beginning}
-use Rattle.sch_word.specs.values.Places.{same_place}
+use Rattle.sch_frames.specs.Meaning.{execute_each, beginning}
+use Rattle.sch_word.specs.values.Places.{same_place, is_slot}
 use Rattle.sch_layout.specs.BodyLayout.{Plan, arguments_at, entering, lay, target, unmarked_reading}
 use Rattle.sch_layout.specs.Moves.{Contents, Move, is_own, moved}
 use Rattle.sch_control.specs.flow.Live.{Live, nothing_later}

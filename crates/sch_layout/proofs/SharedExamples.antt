@@ -25,8 +25,8 @@ use Rattle.sch_control.specs.Tree.{Expression, perform, bind, fix, call, return,
 use Rattle.sch_control.proofs.Examples.{applied, held_in, number}
 use Rattle.sch_frames.specs.declared.instruction.Instruction.TheVariants.{Do, Store, Copy, Call, Return, Mark}
 use Rattle.sch_frames.specs.Does.{EndsAs, CalleesFollow, world}
-use Rattle.sch_frames.specs.Meaning.{Frame, is_slot, execute_each}
-use Rattle.sch_word.specs.values.Places.{same_place}
+use Rattle.sch_frames.specs.Meaning.{Frame, execute_each}
+use Rattle.sch_word.specs.values.Places.{same_place, is_slot}
 use Rattle.sch_layout.specs.BodyLayout.{Plan, arguments_at, entering, lay, target, unmarked_reading}
 use Rattle.sch_layout.specs.Moves.{Contents, is_own, moved}
 use Rattle.sch_control.specs.flow.Live.{Live, Mentions, nothing_later}

@@ -12,10 +12,11 @@ use Rattle.sch_control.specs.Meaning.{no_region}
 use Rattle.sch_control.specs.Tree as control
 use Rattle.sch_control.specs.Tree.{Expression, perform, bind, sequence, branch, fix, call, tail_call, return, end, save}
 use Rattle.sch_frames.specs.declared.instruction.Instruction.{Instruction}
-use Rattle.sch_frames.specs.Meaning.{link_register}
+use Rattle.sch_word.specs.values.Places.{link_place}
 use Rattle.sch_frames.specs.Sizes.{frame_words}
 use Rattle.sch_frames.specs.Tree.{Code}
-use Rattle.sch_frames.specs.Valid.{formals_of, is_entered, max_words}
+use Rattle.sch_control.specs.flow.Places.{formals_of}
+use Rattle.sch_frames.specs.Valid.{is_entered, max_words}
 use Rattle.sch_layout.specs.BodyLayout.{Plan, arguments_at, entering, labels, lay, target}
 use Rattle.sch_layout.specs.Moves.{Move}
 
@@ -45,7 +46,7 @@ is_late formals x = nat_le 8 x && nat_lt x (2 + formals)
 
 -- R15 for the return address; the slot in which it arrives for a late formal; and for each other variable a slot behind a base
 abbrev own_place : (formals base : ℕ) → ℕ → Place
-own_place formals base zero = link_register
+own_place formals base zero = link_place
 own_place formals base (suc x) = cond (is_late formals (suc x)) (Slot (suc x - 8)) (Slot (base + suc x))
 
 -- the slots in which late formals arrive are those before the base

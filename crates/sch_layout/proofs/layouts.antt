@@ -1,6 +1,7 @@
 pub mod CoveredSlots
 pub mod FewCopies
 pub mod InstructionTests
+pub mod LabelsCounted
 pub mod LabelsOnce
 pub mod LayoutSize
 pub mod MovesSize

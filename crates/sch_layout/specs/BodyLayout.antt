@@ -24,8 +24,8 @@ use Rattle.sch_control.specs.Valid.{member_variables}
 use Rattle.sch_frames.specs.declared.instruction.Instruction.{Instruction}
 use Rattle.sch_frames.specs.declared.instruction.Instruction.TheVariants.{Do, Store, Copy, Pass, Fix, Call, Tail, Return, End, IfFalse, Jump, Label, Mark}
 use Rattle.sch_layout.specs.Moves.{Move}
-use Rattle.sch_frames.specs.Meaning.{argument_register, argument_slot, closure_register, link_register, is_slot}
-use Rattle.sch_word.specs.values.Places.{same_place}
+use Rattle.sch_frames.specs.Meaning.{argument_register, argument_slot}
+use Rattle.sch_word.specs.values.Places.{same_place, closure_place, link_place, is_slot}
 
 -- ## Labels
 
@@ -111,7 +111,7 @@ arrival k = in_either (argument_register k) (argument_slot k)
 
 -- where argument k of a call is wanted: the operator, and then operands; the slots of the next frame begin at a limit
 abbrev pub target : (tail : Bool) → (limit : ℕ) → ℕ → Place
-target tail limit zero = closure_register
+target tail limit zero = closure_place
 target true limit (suc k) = arrival k
 target false limit (suc k) = in_either (argument_register k) (limit + argument_slot k)
 
@@ -134,8 +134,8 @@ under (Some m) i rest = Mark m ∷ (i ∷ rest)
 
 -- where each variable stands as a procedure is entered: where to return, its closure, and its arguments
 abbrev pub arrived : ℕ → Place
-arrived zero = link_register
-arrived (suc zero) = closure_register
+arrived zero = link_place
+arrived (suc zero) = closure_place
 arrived (suc (suc k)) = arrival k
 
 module _ (plan : Plan) where

@@ -4,13 +4,13 @@ use Rattle.std.specs.Prelude.{ℕ, ◌+◌, ◌*◌, ◌≤◌, Bool, true, fals
 use Rattle.sch_control.specs.declared.body.Entry.{Entry}
 use Rattle.sch_control.specs.declared.operation.Application.{Application}
 use Rattle.sch_control.specs.Meaning.{heads, no_region}
-use Rattle.sch_control.specs.RegisterWork.{arguments_copies, arguments_done, most_kept}
+use Rattle.sch_control.specs.RegisterWork.{arguments_copies, arguments_done, most_kept, entry_done}
 use Rattle.sch_control.specs.Tree.{Expression, perform, bind, sequence, branch, fix, call, tail_call, return, end, save}
 use Rattle.sch_control.specs.Work.{entry_work, expression_work}
 use Rattle.sch_control.specs.flow.Bare.{erased}
 use Rattle.sch_frames.specs.declared.instruction.Instruction.{Instruction}
-use Rattle.sch_frames.specs.Meaning.{is_slot}
-use Rattle.sch_frames.specs.Sizes.{copies_of, grouped, instructions_size, jumped}
+use Rattle.sch_word.specs.values.Places.{is_slot}
+use Rattle.sch_frames.specs.Sizes.{copies_of, grouped, instructions_size}
 use Rattle.sch_layout.specs.BodyLayout.{Plan, entering, lay, move_all}
 
 -- what there is to do in instructions, with the closures of groups and the calls
@@ -59,4 +59,4 @@ module _ (plan : Plan) where
 abbrev pub FewCopiesFit : Type 0
 FewCopiesFit =
     (plan : Plan) (entry : Option Entry) (e : Expression) → Few plan (Some (most_saved plan entry)) e
-    → 64 * (work_in (body_layout plan entry e) + jumped entry) + 8 * copies_of (body_layout plan entry e) ≤ 72 * (entry_work entry + expression_work (erased e))
+    → 64 * (work_in (body_layout plan entry e) + entry_done entry) + 8 * copies_of (body_layout plan entry e) ≤ 72 * (entry_work entry + expression_work (erased e))

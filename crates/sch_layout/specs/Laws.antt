@@ -16,10 +16,10 @@ use Rattle.sch_control.specs.Tree as control
 use Rattle.sch_control.specs.Tree.{Expression, perform, bind, sequence, branch, fix, call, tail_call, return, end, save}
 use Rattle.sch_control.specs.Valid.{last_position, positioned}
 use Rattle.sch_frames.specs.Does.{EndsAs, CalleesFollow, world}
-use Rattle.sch_frames.specs.Meaning.{beginning, execute_each, is_slot}
-use Rattle.sch_word.specs.values.Places.{same_place}
+use Rattle.sch_frames.specs.Meaning.{beginning, execute_each}
+use Rattle.sch_word.specs.values.Places.{same_place, is_slot}
 use Rattle.sch_frames.specs.Tree as frames
-use Rattle.sch_frames.specs.Valid.{formals_of}
+use Rattle.sch_control.specs.flow.Places.{formals_of}
 use Rattle.sch_frames.specs.Ways.{IsWay}
 use Rattle.sch_layout.specs.BodyLayout.{Plan, arrived, entering, lay, unmarked_reading}
 use Rattle.sch_control.specs.flow.Paths.{Event, IsPath}

@@ -2,6 +2,7 @@
 use Rattle.std.specs.Prelude.{◌≡◌, Bool, true, false, ◌||◌, List, [], ◌∷◌}
 use Rattle.sch_word.specs.declared.mark.MarkKind.{MarkKind}
 use Rattle.sch_word.specs.declared.mark.MarkKind.TheVariants as mark
+use Rattle.sch_word.specs.runs.Activations.{is_call}
 use Rattle.sch_control.specs.Meaning.{no_region}
 use Rattle.sch_control.specs.Tree as control
 use Rattle.sch_control.specs.Tree.{Expression}
@@ -10,10 +11,6 @@ use Rattle.sch_frames.specs.Ways.{IsWay}
 use Rattle.sch_layout.specs.BodyLayout.{Plan}
 use Rattle.sch_layout.specs.Laws.{Laid}
 use Rattle.sch_control.specs.flow.Paths.{Event, IsPath, SavesCalled}
-
-abbrev pub is_call : MarkKind → Bool
-is_call (mark.Call site) = true
-is_call _ = false
 
 abbrev pub has_call : List MarkKind → Bool
 has_call [] = false

@@ -10,8 +10,7 @@ use Rattle.sch_control.specs.AtomsAndSites.{application_atoms}
 use Rattle.sch_control.specs.Meaning.{binds, no_region, with_region}
 use Rattle.sch_control.specs.Tree.{Expression, perform, bind, sequence, branch, fix, call, tail_call, return, end, save}
 use Rattle.sch_control.specs.Valid.{member_variables}
-use Rattle.sch_frames.specs.Meaning.{is_slot, link_register}
-use Rattle.sch_word.specs.values.Places.{same_place}
+use Rattle.sch_word.specs.values.Places.{same_place, is_slot, link_place}
 use Rattle.sch_layout.specs.BodyLayout.{Plan, arguments_at, arrived, target}
 use Rattle.sch_layout.specs.Moves.{EachMove, Shuffled, is_own, reads_own}
 use Rattle.sch_control.specs.flow.Apart.{Around, EachHas}
@@ -29,7 +28,7 @@ pub record HomeApart (plan : Plan) (x : ℕ) : Type 0 where
 
 -- The return address lives in R15, and what lives in registers has homes.
 pub record Homes (plan : Plan) : Type 0 where
-  pub link : plan.place 0 ≡ link_register
+  pub link : plan.place 0 ≡ link_place
   pub home : (x : ℕ) → is_slot (plan.place x) ≡ false → HomeApart plan x
 
 -- ## What is live
@@ -52,7 +51,7 @@ module _ (plan : Plan) where
 
   -- in a tail call, anywhere but where the return address is
   abbrev pub FreeInTail : Place → Type 0
-  FreeInTail p = same_place link_register p ≡ false
+  FreeInTail p = same_place link_place p ≡ false
 
   -- The moves of a call are those of a shuffle of its arguments. They take what the own frame has and write targets and
   -- what is free.

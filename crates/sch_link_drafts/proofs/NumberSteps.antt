@@ -14,14 +14,19 @@ use Rattle.sch_lang.specs.View.{expression, expressions_of}
 use Rattle.sch_lang.proofs.ListViews.{expressions_of_list}
 use Rattle.sch_read.specs.Grammar.{Datum}
 use Rattle.sch_sketch.specs.declared.draft.Draft as code
-use Rattle.sch_sketch.specs.Draft.{Names, Draft, Drafts, branch, bind, letrec, call, operation, count}
+use Rattle.sch_names.specs.Scope.{Names}
+use Rattle.sch_sketch.specs.Draft.{Draft, Drafts, branch, bind, letrec, call, operation, count}
+use Rattle.sch_sketch.specs.DraftMeasures.{size, size_each}
 use Rattle.sch_sketch.specs.DraftView.{draft_of, drafts_of}
 use Rattle.sch_link_tables.specs.Assigned.{is_group}
 use Rattle.sch_link_tables.specs.Constants.{HasConstants, HaveConstants}
 use Rattle.sch_link_tables.specs.Quoted.{quotes_in, quotes_in_each}
+use Rattle.sch_link_tables.specs.Room.{HasRoom}
 use Rattle.sch_link_tables.specs.Sites.{unless_group, widths, widths_of_each}
+use Rattle.sch_link_tables.specs.declared.tables.Output.{Output}
 use Rattle.sch_link_tables.specs.Numbered.{numbered, numbered_each, grouped, first_of, others_of}
 use Rattle.sch_link_tables.proofs.DraftLists.{next_draft, no_draft}
+use Rattle.sch_link_tables.proofs.FewNumbers.{room_after}
 
 -- ## How many there are
 
@@ -176,3 +181,11 @@ next_constants es i e l is here before rest =
 
 pub end_constants : (es : List code.Draft) (i : ℕ) → length es ≤ i → (HaveConstants (drafts_of (drop i es)) → HaveConstants (drafts_of es)) → HaveConstants (drafts_of es)
 end_constants es i l before = before (subst HaveConstants (sym (no_draft es i l)) tt)
+
+-- ## Room
+
+pub next_room : (es : List code.Draft) (i : ℕ) (e : code.Draft) (out out' : Output) → i < length es → e ≡ get_or es i e → HasRoom out (size_each (drafts_of (drop i es))) →
+    length out'.sites ≡ length out.sites + length (widths (draft_of e)) → length out'.literals ≡ length out.literals + length (quotes_in (draft_of e)) → HasRoom out' (size_each (drafts_of (drop (i + 1) es)))
+next_room es i e out out' here is r s l =
+    let n : size_each (drafts_of (drop i es)) ≡ size (draft_of e) + size_each (drafts_of (drop (suc i) es)) = ap size_each (next_draft es i e here is) in
+    rw add-one (room_after out out' (size_each (drafts_of (drop (suc i) es))) r (draft_of e) s l (omega (arith, n)))

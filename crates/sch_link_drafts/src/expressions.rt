@@ -1,6 +1,6 @@
 //! From drafts to expressions: symbols, literals, globals and sites have their numbers.
 
-ghost use Rattle.std.specs.Prelude.{◌≡◌, ◌++◌, ◌∷◌, [], length, drop, map, List as Listed, Option, ℕ, IfOk, OnOk};
+ghost use Rattle.std.specs.Prelude.{◌≡◌, ◌<◌, ◌^◌, ◌++◌, ◌∷◌, [], length, drop, map, List as Listed, Option, ℕ, IfOk, OnOk};
 ghost use Rattle.sch_word.specs.declared.constant.Const.TheVariants.{Symbol};
 ghost use Rattle.sch_word.specs.values.LiteralView.{literal};
 ghost use Rattle.sch_lang.specs.Tree as tree;
@@ -8,14 +8,16 @@ ghost use Rattle.sch_lang.specs.View.{expression, expressions_of};
 ghost use Rattle.sch_read.specs.Views.{tree_of};
 ghost use Rattle.sch_names.specs.NamesView.{names_of, number_of};
 ghost use Rattle.sch_names.specs.ScopeView.{one_name, given_names};
+ghost use Rattle.sch_sketch.specs.DraftMeasures.{size, size_each};
 ghost use Rattle.sch_sketch.specs.DraftView.{draft_of, drafts_of};
 ghost use Rattle.sch_link_tables.specs.Named.{global_of};
 ghost use Rattle.sch_link_tables.specs.Quoted.{quotes_in, quotes_in_each};
+ghost use Rattle.sch_link_tables.specs.Room.{HasRoom};
 ghost use Rattle.sch_link_tables.specs.Sites.{widths, widths_of_each};
 ghost use Rattle.sch_link_tables.specs.Constants.{HasConstants, HaveConstants};
 ghost use Rattle.sch_link_tables.specs.Numbered.{first_of};
 ghost use Rattle.sch_link_drafts.specs.Kinds.{IsBind, IsBranch, IsCall, IsLetrec};
-ghost use Rattle.sch_link_drafts.specs.Numbering.{expression_with, expressions_with, literals_with};
+ghost use Rattle.sch_link_drafts.specs.Numbering.{HasFewNames, expression_with, expressions_with, literals_with};
 
 use sch_lang::Exp;
 use sch_link_tables::{
@@ -25,7 +27,7 @@ use sch_link_tables::{
 use sch_names::{Name, Names};
 use sch_read::Datum;
 use sch_sketch::Draft;
-use sch_word::{Const, List, Mem, number_of_count};
+use sch_word::{Const, List, Mem};
 use std::alloc::Global;
 
 /// The tables by which numbers are given: the globals of the text's own, and all globals and symbols of the
@@ -40,32 +42,35 @@ pub struct Numbers<'a> {
 /// The number of the global that a name means.
 #[inline(never)]
 fn global_number(tables: &Numbers<'_>, x: &[u8], out: &mut Output) -> Result<u32, Mem>
+    requires names { HasFewNames tables.now }
     ensures number { IfOk result (λ n. n ≡ number_of (global_of (names_of tables.now.own.now) x.now) (names_of tables.now.globals.now)) }
     ensures sites { OnOk result (out.new.sites ≡ out.old.sites) }
     ensures literals { OnOk result (out.new.literals ≡ out.old.literals) }
 {
     write_global(tables.own, x, &mut out.key)?;
-    let n = number_in(tables.globals, out.key.as_slice())?;
-    Ok(n)
+    Ok(number_in(tables.globals, out.key.as_slice()))
 }
 
 /// The constant that a symbol is.
 #[inline(never)]
-fn symbol(tables: &Numbers<'_>, x: &[u8]) -> Result<Exp, Mem>
-    ensures { IfOk result (λ q. expression q ≡ tree.constant (Symbol (number_of x.now (names_of tables.now.symbols.now)))) }
+fn symbol(tables: &Numbers<'_>, x: &[u8]) -> Exp
+    requires names { HasFewNames tables.now }
+    ensures { expression result ≡ tree.constant (Symbol (number_of x.now (names_of tables.now.symbols.now))) }
 {
-    let n = number_in(tables.symbols, x)?;
-    Ok(Exp::Constant(Const::Symbol(n)))
+    let n = number_in(tables.symbols, x);
+    Exp::Constant(Const::Symbol(n))
 }
 
 /// One more literal.
 #[inline(never)]
 fn new_literal(alloc: Global, tables: &Numbers<'_>, d: &Datum, out: &mut Output) -> Result<Exp, Mem>
+    requires names { HasFewNames tables.now }
+    requires few { length out.old.literals < 2 ^ 32 }
     ensures made { IfOk result (λ q. expression q ≡ tree.literal (length out.old.literals)) }
     ensures sites { OnOk result (out.new.sites ≡ out.old.sites) }
     ensures literals { OnOk result (map literal out.new.literals ≡ literals_with tables.now out.old (tree_of d.now ∷ [])) }
 {
-    let n = number_of_count(out.literals.len())?;
+    let n = out.literals.len() as u32;
     let l = quote(alloc, tables.symbols, d)?;
     out.literals.push(l)?;
     Ok(Exp::Literal(n))
@@ -91,6 +96,8 @@ pub fn number(
     e: &Draft<'_>,
     out: &mut Output,
 ) -> Result<Exp, Mem>
+    requires names { HasFewNames tables.now }
+    requires room { HasRoom out.old (size (draft_of e.now)) }
     ensures made { IfOk result (λ q. expression q ≡ expression_with tables.now out.old (one_name v.entry) (draft_of e.now)) }
     ensures sites { OnOk result (out.new.sites ≡ out.old.sites ++ widths (draft_of e.now)) }
     ensures literals { OnOk result (map literal out.new.literals ≡ literals_with tables.now out.old (quotes_in (draft_of e.now))) }
@@ -98,7 +105,7 @@ pub fn number(
 {
     match e {
         Draft::Constant(c) => Ok(constant(*c)),
-        Draft::Symbol(x) => symbol(tables, x),
+        Draft::Symbol(x) => Ok(symbol(tables, x)),
         Draft::Literal(d) => new_literal(alloc, tables, d, out),
         Draft::Local(k) => Ok(Exp::Local(*k)),
         Draft::Global(x) => Ok(Exp::Global(global_number(tables, x, out)?)),
@@ -144,6 +151,8 @@ fn number_branch(
     out: &mut Output,
 ) -> Result<Exp, Mem>
     requires kind { IsBranch (draft_of e.now) }
+    requires names { HasFewNames tables.now }
+    requires room { HasRoom out.old (size (draft_of e.now)) }
     ensures made { IfOk result (λ q. (v : Option (Listed ℕ)) → expression q ≡ expression_with tables.now out.old v (draft_of e.now)) }
     ensures sites { OnOk result (out.new.sites ≡ out.old.sites ++ widths (draft_of e.now)) }
     ensures literals { OnOk result (map literal out.new.literals ≡ literals_with tables.now out.old (quotes_in (draft_of e.now))) }
@@ -169,6 +178,8 @@ fn number_let(
     out: &mut Output,
 ) -> Result<Exp, Mem>
     requires kind { IsBind (draft_of e.now) }
+    requires names { HasFewNames tables.now }
+    requires room { HasRoom out.old (size (draft_of e.now)) }
     ensures made { IfOk result (λ q. (v : Option (Listed ℕ)) → expression q ≡ expression_with tables.now out.old v (draft_of e.now)) }
     ensures sites { OnOk result (out.new.sites ≡ out.old.sites ++ widths (draft_of e.now)) }
     ensures literals { OnOk result (map literal out.new.literals ≡ literals_with tables.now out.old (quotes_in (draft_of e.now))) }
@@ -194,6 +205,8 @@ fn number_letrec(
     out: &mut Output,
 ) -> Result<Exp, Mem>
     requires kind { IsLetrec (draft_of e.now) }
+    requires names { HasFewNames tables.now }
+    requires room { HasRoom out.old (size (draft_of e.now)) }
     ensures made { IfOk result (λ q. (v : Option (Listed ℕ)) → expression q ≡ expression_with tables.now out.old v (draft_of e.now)) }
     ensures sites { OnOk result (out.new.sites ≡ out.old.sites ++ widths (draft_of e.now)) }
     ensures literals { OnOk result (map literal out.new.literals ≡ literals_with tables.now out.old (quotes_in (draft_of e.now))) }
@@ -220,6 +233,8 @@ fn number_call(
     out: &mut Output,
 ) -> Result<Exp, Mem>
     requires kind { IsCall (draft_of e.now) }
+    requires names { HasFewNames tables.now }
+    requires room { HasRoom out.old (size (draft_of e.now)) }
     ensures made { IfOk result (λ q. (v : Option (Listed ℕ)) → expression q ≡ expression_with tables.now out.old v (draft_of e.now)) }
     ensures sites { OnOk result (out.new.sites ≡ out.old.sites ++ widths (draft_of e.now)) }
     ensures literals { OnOk result (map literal out.new.literals ≡ literals_with tables.now out.old (quotes_in (draft_of e.now))) }
@@ -245,6 +260,8 @@ pub fn number_each(
     es: &[Draft<'_>],
     out: &mut Output,
 ) -> Result<List<Exp>, Mem>
+    requires names { HasFewNames tables.now }
+    requires room { HasRoom out.old (size_each (drafts_of es.now)) }
     ensures made { IfOk result (λ qs. expressions_of qs ≡ expressions_with tables.now out.old (given_names names.now) (drafts_of es.now)) }
     ensures sites { OnOk result (out.new.sites ≡ out.old.sites ++ widths_of_each (drafts_of es.now)) }
     ensures literals { OnOk result (map literal out.new.literals ≡ literals_with tables.now out.old (quotes_in_each (drafts_of es.now))) }

@@ -1,5 +1,5 @@
 -- The steps of the loops over definitions that name and number them, over plain values.
-use Rattle.std.proofs.Common.{◌≡◌, ◌<◌, ◌≤◌, ◌+◌, ℕ, suc, List, [], ◌∷◌, ◌++◌, length, drop, get_or, map, None, refl, sym, ap, subst, ◌∙◌, add-one, append_assoc}
+use Rattle.std.proofs.Common.{◌≡◌, ◌<◌, ◌≤◌, ◌+◌, ℕ, suc, List, [], ◌∷◌, ◌++◌, length, drop, get_or, map, None, refl, sym, ap, subst, ◌∙◌, add-one, append_assoc, arith}
 use Rattle.std.proofs.lemmas.List.{map-append, drop_all}
 use Rattle.sch_word.specs.values.Literals.{Literal}
 use Rattle.sch_lang.specs.declared.tree.Lambda.{Lambda}
@@ -7,19 +7,24 @@ use Rattle.sch_lang.specs.Tree.{Lambdas}
 use Rattle.sch_lang.specs.View.{expression, function, lambdas_of}
 use Rattle.sch_lang.proofs.ListViews.{lambdas_of_list}
 use Rattle.sch_read.specs.Grammar.{Datum}
+use Rattle.sch_sketch.specs.DraftMeasures.{size}
 use Rattle.sch_sketch.specs.DraftView.{draft_of}
 use Rattle.sch_link_tables.specs.Constants.{HasConstants}
 use Rattle.sch_link_tables.specs.Named.{firsts, globals_in, symbols_in}
 use Rattle.sch_link_tables.specs.Numbered.{numbered}
 use Rattle.sch_link_tables.specs.Quoted.{quotes_in}
+use Rattle.sch_link_tables.specs.Room.{HasRoom}
 use Rattle.sch_link_tables.specs.Sites.{widths}
+use Rattle.sch_link_tables.specs.declared.tables.Output.{Output}
 use Rattle.sch_link_tables.specs.Programs.{globals_of_each, symbols_of_each, quotes_of_each, widths_of_definitions, procedures}
 use Rattle.sch_word.proofs.facts.Lists.{next_left}
+use Rattle.sch_link_tables.proofs.FewNumbers.{room_within, room_after}
 use Rattle.sch_link_tables.proofs.NameSteps.{firsts_append}
 use Rattle.sch_link_tables.proofs.ProcedureLists.{onto, onto_none, onto_more}
 use Rattle.sch_link_program.specs.declared.definition.KeptDefinition.{KeptDefinition}
 use Rattle.sch_link_program.specs.Definitions.{kept_of, kept_definitions}
 use Rattle.sch_link_program.specs.Ranged.{BodiesHaveConstants}
+use Rattle.sch_link_program.specs.Size.{size_of_definitions}
 use Rattle.sch_link_drafts.proofs.NumberSteps.{then_literals}
 
 module _ (ds : List KeptDefinition) (i : ℕ) where
@@ -29,6 +34,19 @@ module _ (ds : List KeptDefinition) (i : ℕ) where
   module _ (d : KeptDefinition) (here : i < length ds) (is : d ≡ get_or ds i d) where
     next_definition : kept_definitions (drop i ds) ≡ kept_of d ∷ kept_definitions (drop (suc i) ds)
     next_definition = ap kept_definitions (next_left ds i d here is)
+
+    -- there is room for the body of a definition, and behind it for the others
+    module _ (out : Output) (r : HasRoom out (size_of_definitions (kept_definitions (drop i ds)))) where
+      sizes : 1 + d.formals + size (draft_of d.body.now) + size_of_definitions (kept_definitions (drop (suc i) ds)) ≡ size_of_definitions (kept_definitions (drop i ds))
+      sizes = ap size_of_definitions (sym next_definition)
+
+      pub room_here : HasRoom out (size (draft_of d.body.now))
+      room_here = room_within out (size (draft_of d.body.now)) r (omega (arith, sizes))
+
+      pub next_room : (out' : Output) → length out'.sites ≡ length out.sites + length (widths (draft_of d.body.now)) → length out'.literals ≡ length out.literals + length (quotes_in (draft_of d.body.now)) →
+          HasRoom out' (size_of_definitions (kept_definitions (drop (i + 1) ds)))
+      next_room out' s l =
+          rw add-one (room_after out out' (size_of_definitions (kept_definitions (drop (suc i) ds))) r (draft_of d.body.now) s l (omega (arith, sizes)))
 
     pub next_globals : (none seen seen' r : List (List ℕ)) → none ≡ [] → seen' ≡ firsts seen (globals_in none (draft_of d.body.now)) →
         firsts seen (globals_of_each (kept_definitions (drop i ds))) ≡ r → firsts seen' (globals_of_each (kept_definitions (drop (i + 1) ds))) ≡ r

@@ -1,15 +1,28 @@
--- What is kept of few definitions are few, and none of them has more formals than those had.
-use Rattle.std.proofs.Common.{◌≡◌, ◌<◌, ◌≤◌, ℕ, zero, suc, Bool, true, false, List, [], ◌∷◌, ◌++◌, length, get_or, refl, sym, ap, subst, arith}
+-- What is kept of few definitions are few, and none of them has more formals than those had; and what has numbers in definitions
+-- is no more than their nodes.
+use Rattle.std.proofs.Common.{◌≡◌, ◌<◌, ◌≤◌, ◌^◌, ℕ, zero, suc, ◌+◌, Bool, true, false, List, [], ◌∷◌, ◌++◌, length, get_or, map, refl, sym, ap, subst, arith, length-append}
 use Rattle.std.proofs.lemmas.Bool.{leb-true, and_parts, and_from}
 use Rattle.std.proofs.lemmas.List.{length-map}
 use Rattle.sch_word.specs.trees.Shape.{max_operands}
 use Rattle.sch_names.specs.Scope.{is_among}
-use Rattle.sch_link_tables.specs.Named.{library_global}
-use Rattle.sch_link_tables.specs.Programs.{Definition, kept, with_definition, globals_of_each}
+use Rattle.sch_word.specs.values.Literals.{Literal}
+use Rattle.sch_word.specs.values.LiteralView.{literal}
+use Rattle.sch_read.specs.Grammar.{Datum}
+use Rattle.sch_sketch.specs.Draft.{Drafts}
+use Rattle.sch_sketch.specs.DraftMeasures.{size_each}
+use Rattle.sch_link_tables.specs.Named.{firsts, library_global, globals_in, globals_in_each, symbols_in, symbols_in_each}
+use Rattle.sch_link_tables.specs.Programs.{Definition, kept, with_definition, globals_of_each, symbols_of_each, quotes_of_each, widths_of_definitions}
+use Rattle.sch_link_tables.specs.Quoted.{quotes_in}
+use Rattle.sch_link_tables.specs.Room.{HasRoom}
+use Rattle.sch_link_tables.specs.Sites.{widths}
+use Rattle.sch_link_tables.specs.declared.tables.Output.{Output}
+use Rattle.sch_link_tables.proofs.FewNumbers.{firsts_length, few_globals, few_globals_of_each, few_quotes, few_widths}
+use Rattle.sch_link_drafts.proofs.NumberSteps.{sites_more, literals_more}
 use Rattle.sch_link_program.specs.declared.definition.Definition as code
 use Rattle.sch_link_program.specs.declared.definition.KeptDefinition.{KeptDefinition}
 use Rattle.sch_link_program.specs.Definitions.{definition_of, definitions_of, kept_of, kept_definitions}
-use Rattle.sch_link_program.specs.Size.{have_few_formals}
+use Rattle.sch_link_program.specs.Size.{size_of_definitions, have_few_formals}
+use Rattle.sch_link_program.proofs.ProgramSize.{kept_size}
 
 -- ## How many
 
@@ -47,3 +60,86 @@ pub formals_at : (ds : List KeptDefinition) (i : ℕ) (d : KeptDefinition) → i
 formals_at [] i d l e h = absurd (omega (arith, l))
 formals_at (x ∷ ds) zero d l e h = subst (λ y. y.formals ≤ max_operands) (sym e) (leb-true x.formals max_operands (and_parts _ _ h).0)
 formals_at (x ∷ ds) (suc i) d l e h = formals_at ds i d (omega (arith, l)) e (and_parts _ _ h).1
+
+-- ## What has numbers
+
+few_sites : (ds : List Definition) → length (widths_of_definitions ds) ≤ size_of_definitions ds
+few_sites [] = omega arith
+few_sites (d ∷ ds) = omega (arith, length-append (widths d.body) (widths_of_definitions ds), few_widths d.body, few_sites ds)
+
+few_literals : (ds : List Definition) → length (quotes_of_each ds) ≤ size_of_definitions ds
+few_literals [] = omega arith
+few_literals (d ∷ ds) = omega (arith, length-append (quotes_in d.body) (quotes_of_each ds), few_quotes d.body, few_literals ds)
+
+few_globals_of_definitions : (ds : List Definition) → length (globals_of_each ds) ≤ size_of_definitions ds
+few_globals_of_definitions [] = omega arith
+few_globals_of_definitions (d ∷ ds) =
+    omega (arith, length-append (globals_in [] d.body) (globals_of_each ds), few_globals [] d.body, few_globals_of_definitions ds)
+
+with_symbols : (b : Bool) (d : Definition) (ds ks : List Definition) → length (symbols_of_each ks) ≤ length (symbols_of_each ds) →
+    length (symbols_of_each (with_definition b d ks)) ≤ length (symbols_of_each (d ∷ ds))
+with_symbols true d ds ks l = omega (arith, l, length-append (symbols_in d.body) (symbols_of_each ks), length-append (symbols_in d.body) (symbols_of_each ds))
+with_symbols false d ds ks l = omega (arith, l, length-append (symbols_in d.body) (symbols_of_each ds))
+
+kept_symbols : (ds : List Definition) (named : List (List ℕ)) → length (symbols_of_each (kept ds named)) ≤ length (symbols_of_each ds)
+kept_symbols [] named = omega arith
+kept_symbols (d ∷ ds) named =
+    with_symbols (is_among (library_global d.name) (named ++ globals_of_each (kept ds named))) d ds (kept ds named) (kept_symbols ds named)
+
+-- ## What is kept of definitions, and forms
+
+module _ (ks : List KeptDefinition) (ds : List code.Definition) (named : List (List ℕ)) (e : kept_definitions ks ≡ kept (definitions_of ds) named) (forms : Drafts) where
+  pub kept_small : size_of_definitions (definitions_of ds) + size_each forms < 2 ^ 32 → size_of_definitions (kept_definitions ks) + size_each forms < 2 ^ 32
+  kept_small l =
+      let n : size_of_definitions (kept_definitions ks) ≡ size_of_definitions (kept (definitions_of ds) named) = ap size_of_definitions e in
+      omega (arith, l, n, kept_size (definitions_of ds) named)
+
+  pub kept_few_symbols : length (symbols_of_each (definitions_of ds) ++ symbols_in_each forms) < 2 ^ 32 → length (symbols_of_each (kept_definitions ks) ++ symbols_in_each forms) < 2 ^ 32
+  kept_few_symbols l =
+      let n : length (symbols_of_each (kept_definitions ks)) ≡ length (symbols_of_each (kept (definitions_of ds) named)) = ap (λ k. length (symbols_of_each k)) e in
+      omega (
+        arith,
+        l,
+        n,
+        kept_symbols (definitions_of ds) named,
+        length-append (symbols_of_each (kept_definitions ks)) (symbols_in_each forms),
+        length-append (symbols_of_each (definitions_of ds)) (symbols_in_each forms),
+      )
+
+-- ## Names and room
+
+module _ (ds : List Definition) (forms : Drafts) (small : size_of_definitions ds + size_each forms < 2 ^ 32) where
+  pub few_globals_named : (own : List (List ℕ)) {names : List (List ℕ)} → names ≡ firsts [] (globals_of_each ds ++ globals_in_each own forms) → length names < 2 ^ 32
+  few_globals_named own {names} h =
+      let n : length names ≡ length (firsts [] (globals_of_each ds ++ globals_in_each own forms)) = ap length h in
+      omega (
+        arith,
+        small,
+        n,
+        firsts_length (globals_of_each ds ++ globals_in_each own forms) [],
+        length-append (globals_of_each ds) (globals_in_each own forms),
+        few_globals_of_definitions ds,
+        few_globals_of_each own forms,
+      )
+
+  -- where nothing has a number yet, and behind the definitions
+  module _ (out : Output) (sites : out.sites ≡ []) (literals : out.literals ≡ []) where
+    pub room_for_definitions : HasRoom out (size_of_definitions ds)
+    room_for_definitions =
+        let s : length out.sites ≡ 0 = ap length sites in
+        let l : length out.literals ≡ 0 = ap length literals in
+        record { sites = omega (arith, small, s); literals = omega (arith, small, l) }
+
+    pub room_for_forms : (out' : Output) (f : Datum → Literal) → out'.sites ≡ out.sites ++ widths_of_definitions ds → map literal out'.literals ≡ map literal out.literals ++ map f (quotes_of_each ds) → HasRoom out' (size_each forms)
+    room_for_forms out' f h k =
+        let s : length out.sites ≡ 0 = ap length sites in
+        let l : length out.literals ≡ 0 = ap length literals in
+        record {
+          sites = omega (arith, small, s, sites_more out.sites _ h, few_sites ds);
+          literals = omega (arith, small, l, literals_more f out.literals _ _ k, few_literals ds);
+        }
+
+pub few_symbols_named : (xs : List (List ℕ)) {names : List (List ℕ)} → length xs < 2 ^ 32 → names ≡ firsts [] xs → length names < 2 ^ 32
+few_symbols_named xs {names} l h =
+    let n : length names ≡ length (firsts [] xs) = ap length h in
+    omega (arith, l, n, firsts_length xs [])

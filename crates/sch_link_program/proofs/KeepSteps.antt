@@ -1,9 +1,10 @@
 -- The steps of the loops that choose what is kept of a library, over plain values.
 use Rattle.std.proofs.Common.{◌≡◌, ◌<◌, ◌≤◌, ◌+◌, ◌-◌, ℕ, zero, suc, Bool, true, false, cond, not, ◌||◌, ◌&&◌, List, [], ◌∷◌, ◌++◌, length, take, drop, get_or, map, reverse, refl, sym, ap, subst, ◌∙◌, arith, add-one, append_assoc, append-nil, Option}
 use Rattle.std.proofs.Math.Bool.{and-false, or-false, or_assoc}
-use Rattle.std.proofs.lemmas.List.{map-append, reverse-append, take-append-drop, drop_all}
+use Rattle.std.proofs.lemmas.List.{reverse-append, take-append-drop, drop_all}
 use Rattle.std.proofs.lemmas.Slice.Eq.{bytes_eq-Decides}
 use Rattle.std.specs.Str.{bytes_eq}
+use Rattle.std.proofs.Math.Seq.{drop-length, drop-append_seam}
 use Rattle.sch_names.specs.Scope.{is_among}
 use Rattle.sch_names.specs.NamesView.{with_name, number_of}
 use Rattle.sch_link_tables.specs.Named.{firsts, library_global, globals_in}
@@ -91,11 +92,7 @@ none_below (x ∷ xs) l = absurd (omega (arith, l))
 pub definition_before : (ds left others : List code.Definition) (d : code.Definition) → left ++ drop (length left) ds ≡ ds → left ≡ others ++ d ∷ [] → drop (length others) ds ≡ d ∷ drop (length left) ds
 definition_before ds left others d whole is =
     let p : others ++ (d ∷ drop (length left) ds) ≡ ds = sym (append_assoc others (d ∷ []) (drop (length left) ds)) ∙ ap (λ l. l ++ drop (length left) ds) (sym is) ∙ whole in
-    ap (drop (length others)) (sym p) ∙ after others (d ∷ drop (length left) ds)
-  where
-    after : (xs bs : List code.Definition) → drop (length xs) (xs ++ bs) ≡ bs
-    after [] bs = refl
-    after (a ∷ xs) bs = after xs bs
+    ap (drop (length others)) (sym p) ∙ drop-append_seam others (d ∷ drop (length left) ds)
 
 pub still_whole : (ds left others : List code.Definition) (d : code.Definition) → left ++ drop (length left) ds ≡ ds → left ≡ others ++ d ∷ [] → others ++ drop (length others) ds ≡ ds
 still_whole ds left others d whole is =
@@ -146,18 +143,15 @@ module _ (first hs w : List (List ℕ)) (ds left others : List code.Definition) 
           go false n = inv x ∙ ap (λ l. is_among x first || is_among x (globals_of_each l)) (skipped n)
 
 -- at the start no definition has been looked at, and in the end each of them
-none_looked : (ds : List code.Definition) → drop (length ds) ds ≡ []
-none_looked ds = drop_all (length ds) ds (omega arith)
-
 pub begin_whole : (ds : List code.Definition) → ds ++ drop (length ds) ds ≡ ds
-begin_whole ds = ap (λ l. ds ++ l) (none_looked ds) ∙ append-nil ds
+begin_whole ds = ap (λ l. ds ++ l) (drop-length ds) ∙ append-nil ds
 
 pub begin_names : (first hs w : List (List ℕ)) (ds : List code.Definition) → w ≡ [] →
     (x : List ℕ) → is_among x (first ++ w) ≡ (is_among x first || is_among x (globals_of_each (kept (definitions_of (drop (length ds) ds)) (first ++ map library_global hs))))
-begin_names first hs w ds z x = rw (none_looked ds, z) (among_append x first [])
+begin_names first hs w ds z x = rw (drop-length ds, z) (among_append x first [])
 
 pub begin_list : (first hs : List (List ℕ)) (ds : List code.Definition) (all : List KeptDefinition) → all ≡ [] → from_last all ≡ kept (definitions_of (drop (length ds) ds)) (first ++ map library_global hs)
-begin_list first hs ds all h = rw (none_looked ds, h) refl
+begin_list first hs ds all h = rw (drop-length ds, h) refl
 
 pub all_looked : (first hs : List (List ℕ)) (ds left : List code.Definition) (all result : List KeptDefinition) → left ≡ [] → from_last all ≡ kept (definitions_of (drop (length left) ds)) (first ++ map library_global hs) → result ≡ reverse all →
     kept_definitions result ≡ kept (definitions_of ds) (first ++ map library_global hs)

@@ -5,7 +5,8 @@ use Rattle.sch_word.specs.trees.Shape.{constant_in_range}
 use Rattle.sch_lang.specs.Tree as tree
 use Rattle.sch_lang.specs.Tree.{Expression, Expressions, no_expressions, and_expression, Lambdas}
 use Rattle.sch_lang.specs.Measures.{over, over_each, over_lambdas, shape}
-use Rattle.sch_sketch.specs.Draft.{Names, Draft, Drafts, constant, symbol, literal, local, global, set_local, set_global, define, branch, sequence, bind, letrec, lambda, call, operation, no_drafts, and_draft, count}
+use Rattle.sch_names.specs.Scope.{Names}
+use Rattle.sch_sketch.specs.Draft.{Draft, Drafts, constant, symbol, literal, local, global, set_local, set_global, define, branch, sequence, bind, letrec, lambda, call, operation, no_drafts, and_draft, count}
 use Rattle.sch_link_tables.specs.Assigned.{is_group}
 use Rattle.sch_link_tables.specs.Constants.{HasConstants, HaveConstants}
 use Rattle.sch_link_tables.specs.Named.{firsts, globals_in_each, symbols_in_each}

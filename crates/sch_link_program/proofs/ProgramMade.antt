@@ -12,9 +12,9 @@ use Rattle.sch_lang.specs.Tree.{Source}
 use Rattle.sch_lang.specs.View.{expressions_of, lambdas_of}
 use Rattle.sch_lang.specs.SourceView.{source_of}
 use Rattle.sch_lang.specs.Valid.{constants_in_range, in_range, shaped, within_limits, sites_once, statics_known, is_valid}
-use Rattle.sch_sketch.specs.Draft.{Names, Drafts}
+use Rattle.sch_sketch.specs.Draft.{Drafts}
 use Rattle.sch_names.specs.NamesView.{with_name}
-use Rattle.sch_names.specs.Scope.{is_among}
+use Rattle.sch_names.specs.Scope.{is_among, Names}
 use Rattle.sch_link_tables.specs.Named.{firsts, library_global, globals_in_each, symbols_in_each}
 use Rattle.sch_link_tables.specs.Numbered.{numbered_each}
 use Rattle.sch_link_tables.specs.Quoted.{literal_of, quotes_in_each}

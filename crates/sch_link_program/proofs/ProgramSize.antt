@@ -2,28 +2,20 @@
 use Rattle.std.proofs.Common.{◌≡◌, ◌≤◌, ℕ, suc, ◌+◌, Bool, true, false, List, [], ◌∷◌, ◌++◌, length, Option, Some, None, refl, ap, arith}
 use Rattle.sch_word.specs.trees.BoundVariables.{formals_in}
 use Rattle.sch_lang.specs.Tree as tree
-use Rattle.sch_lang.specs.Tree.{Expression, Expressions, no_expressions, and_expression, Lambdas, count_lambdas}
+use Rattle.sch_lang.specs.Tree.{Expression, Expressions, no_expressions, and_expression, count_lambdas}
 use Rattle.sch_lang.specs.Measures as measures
-use Rattle.sch_lang.specs.Measures.{node_and_bound, nodes_and_bound, over, over_each, over_lambdas}
-use Rattle.sch_sketch.specs.Draft.{Names, Draft, Drafts, constant, symbol, literal, local, global, set_local, set_global, define, branch, sequence, bind, letrec, lambda, call, operation, no_drafts, and_draft, count}
+use Rattle.sch_lang.specs.Measures.{nodes_and_bound}
+use Rattle.sch_lang.proofs.BodyCounts.{counted as nodes, counted_each as nodes_each, counted_lambdas as nodes_in_lambdas}
+use Rattle.sch_sketch.specs.Draft.{Draft, Drafts, constant, symbol, literal, local, global, set_local, set_global, define, branch, sequence, bind, letrec, lambda, call, operation, no_drafts, and_draft, count}
 use Rattle.sch_link_tables.specs.Assigned.{is_group}
 use Rattle.sch_link_tables.specs.Named.{firsts, library_global, globals_in_each, symbols_in_each}
 use Rattle.sch_link_tables.specs.Quoted.{quotes_in, quotes_in_each}
 use Rattle.sch_link_tables.specs.Sites.{unless_group, widths, widths_of_each}
-use Rattle.sch_names.specs.Scope.{is_among}
+use Rattle.sch_names.specs.Scope.{is_among, Names}
 use Rattle.sch_link_tables.specs.Numbered.{numbered, numbered_each, grouped, procedures_of, first_of, others_of}
 use Rattle.sch_link_tables.specs.Programs.{Definition, kept, held, named, with_definition, globals_of_each, symbols_of_each, quotes_of_each, widths_of_definitions, procedures, program_with, program_of}
 use Rattle.sch_sketch.specs.DraftMeasures.{size, size_each}
 use Rattle.sch_link_program.specs.Size.{size_of_definitions}
-
-abbrev pub nodes : Expression → ℕ
-nodes = over 0 (λ a b. a + b) node_and_bound
-
-abbrev pub nodes_each : Expressions → ℕ
-nodes_each = over_each 0 (λ a b. a + b) node_and_bound
-
-abbrev pub nodes_in_lambdas : Lambdas → ℕ
-nodes_in_lambdas = over_lambdas 0 (λ a b. a + b) node_and_bound
 
 -- the nodes of a group with its variables
 grouped_nodes : (group : Bool) (site : ℕ) (es : Expressions) (e : Expression) → nodes (grouped group site es e) ≤ 1 + tree.count es + (nodes_each es + nodes e)
@@ -41,9 +33,9 @@ grouped_nodes true site es e = omega (arith, procedures_nodes es, procedures_cou
     procedures_nodes (and_expression e es) = omega (arith, procedures_nodes es)
 
 module _ (own globals symbols : List (List ℕ)) where
-  count_numbered : (vs : Names) (es : Drafts) (s l : ℕ) → tree.count (numbered_each own globals symbols vs es s l) ≡ count es
-  count_numbered vs no_drafts s l = refl
-  count_numbered vs (and_draft e es) s l = ap suc (count_numbered (others_of vs) es (s + length (widths e)) (l + length (quotes_in e)))
+  pub count_numbered : (es : Drafts) (vs : Names) (s l : ℕ) → tree.count (numbered_each own globals symbols vs es s l) ≡ count es
+  count_numbered no_drafts vs s l = refl
+  count_numbered (and_draft e es) vs s l = ap suc (count_numbered es (others_of vs) (s + length (widths e)) (l + length (quotes_in e)))
 
   mutual
     pub numbered_size : (v : Option (List ℕ)) (e : Draft) (s l : ℕ) → nodes (numbered own globals symbols v e s l) ≤ size e
@@ -66,7 +58,7 @@ module _ (own globals symbols : List (List ℕ)) where
     numbered_size v (bind vs es e) s l =
         omega (
           arith,
-          count_numbered vs es (s + 1) l,
+          count_numbered es vs (s + 1) l,
           numbered_sizes vs es (s + 1) l,
           numbered_size None e (s + 1 + length (widths_of_each es)) (l + length (quotes_in_each es)),
         )
@@ -75,7 +67,7 @@ module _ (own globals symbols : List (List ℕ)) where
         omega (
           arith,
           grouped_nodes (is_group p es e) s (numbered_each own globals symbols vs es n l) (numbered own globals symbols None e (n + length (widths_of_each es)) (l + length (quotes_in_each es))),
-          count_numbered vs es n l,
+          count_numbered es vs n l,
           numbered_sizes vs es n l,
           numbered_size None e (n + length (widths_of_each es)) (l + length (quotes_in_each es)),
         )
@@ -109,7 +101,7 @@ program_with_size ds own held forms =
       numbered_sizes own globals symbols [] forms (length (widths_of_definitions ds)) (length (quotes_of_each ds)),
     )
 
-kept_size : (ds : List Definition) (names : List (List ℕ)) → size_of_definitions (kept ds names) ≤ size_of_definitions ds
+pub kept_size : (ds : List Definition) (names : List (List ℕ)) → size_of_definitions (kept ds names) ≤ size_of_definitions ds
 kept_size [] names = omega arith
 kept_size (d ∷ ds) names = go (is_among (library_global d.name) (names ++ globals_of_each (kept ds names))) (kept_size ds names)
   where

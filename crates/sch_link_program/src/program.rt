@@ -1,22 +1,24 @@
 //! The parts of the program of a library's definitions and a text's forms.
 
-ghost use Rattle.std.specs.Prelude.{◌≡◌, ◌≤◌, ◌<◌, ◌^◌, ◌++◌, [], length, map, true, None, IfOk, IsTrue, OnOk};
+ghost use Rattle.std.specs.Prelude.{◌≡◌, ◌≤◌, ◌<◌, ◌^◌, ◌+◌, ◌++◌, [], length, map, true, None, IfOk, IsTrue, OnOk};
 ghost use Rattle.sch_word.specs.trees.Shape.{max_operands};
 ghost use Rattle.sch_word.specs.values.LiteralView.{literal};
 ghost use Rattle.sch_lang.specs.View.{expression, lambdas_of};
 ghost use Rattle.sch_names.specs.NamesView.{names_of};
+ghost use Rattle.sch_sketch.specs.DraftMeasures.{size, size_each};
 ghost use Rattle.sch_sketch.specs.DraftView.{draft_of, drafts_of};
 ghost use Rattle.sch_link_tables.specs.Listed.{AreListed, IsListed};
 ghost use Rattle.sch_link_tables.specs.Named.{firsts, globals_in_each, symbols_in_each};
 ghost use Rattle.sch_link_tables.specs.Quoted.{literal_of, quotes_in};
 ghost use Rattle.sch_link_tables.specs.Constants.{HasConstants};
+ghost use Rattle.sch_link_tables.specs.Room.{HasRoom};
 ghost use Rattle.sch_link_tables.specs.Sites.{widths};
 ghost use Rattle.sch_link_tables.specs.Numbered.{numbered};
 ghost use Rattle.sch_link_tables.specs.Programs as words;
 ghost use Rattle.sch_link_tables.specs.Programs.{globals_of_each, symbols_of_each, quotes_of_each, widths_of_definitions, program_of};
 ghost use Rattle.sch_link_program.specs.Definitions.{definitions_of, kept_definitions};
 ghost use Rattle.sch_link_program.specs.PartsView.{parts_of};
-ghost use Rattle.sch_link_program.specs.Size.{have_few_formals};
+ghost use Rattle.sch_link_program.specs.Size.{size_of_definitions, have_few_formals};
 ghost use Rattle.sch_link_program.specs.Ranged.{trees_in_range, BodiesHaveConstants};
 
 use crate::definition::{Definition, KeptDefinition};
@@ -58,6 +60,9 @@ fn number_definition(
     out: &mut Output,
 ) -> Result<Lambda, Mem>
     requires formals { d.now.formals ≤ max_operands }
+    requires globals { length (names_of tables.now.globals.names) < 2 ^ 32 }
+    requires symbols { length (names_of tables.now.symbols.names) < 2 ^ 32 }
+    requires room { HasRoom out.old (size (draft_of d.now.body.now)) }
     ensures made { IfOk result (λ l. expression l.body
         ≡ numbered [] (names_of tables.now.globals.names) (names_of tables.now.symbols.names)
         None (draft_of d.now.body.now) (length out.old.sites) (length out.old.literals)) }
@@ -91,6 +96,9 @@ fn number_definitions(
     out: &mut Output,
 ) -> Result<List<Lambda>, Mem>
     requires formals { have_few_formals (kept_definitions definitions.now) ≡ true }
+    requires globals { length (names_of tables.now.globals.names) < 2 ^ 32 }
+    requires symbols { length (names_of tables.now.symbols.names) < 2 ^ 32 }
+    requires room { HasRoom out.old (size_of_definitions (kept_definitions definitions.now)) }
     ensures made { IfOk result (λ ls. lambdas_of ls
         ≡ words.procedures (names_of tables.now.globals.names) (names_of tables.now.symbols.names)
         (kept_definitions definitions.now) (length out.old.sites) (length out.old.literals)) }
@@ -156,6 +164,8 @@ fn program_with(
 ) -> Result<Parts, Mem>
     requires formals { have_few_formals (kept_definitions definitions.now) ≡ true }
     requires few { length definitions.now < 2 ^ 32 }
+    requires small { size_of_definitions (kept_definitions definitions.now) + size_each (drafts_of forms.now) < 2 ^ 32 }
+    requires few_symbols { length (symbols_of_each (kept_definitions definitions.now) ++ symbols_in_each (drafts_of forms.now)) < 2 ^ 32 }
     requires globals { own.now.named.now.globals.list ≡ firsts [] (globals_in_each (names_of own.now.names.now) (drafts_of forms.now)) }
     requires symbols { own.now.named.now.symbols.list ≡ firsts [] (symbols_in_each (drafts_of forms.now)) }
     ensures made { IfOk result (λ p. parts_of p
@@ -199,6 +209,8 @@ pub fn assemble(
 ) -> Result<Parts, Mem>
     requires formals { have_few_formals (definitions_of definitions.now) ≡ true }
     requires few { length definitions.now < 2 ^ 32 }
+    requires small { size_of_definitions (definitions_of definitions.now) + size_each (drafts_of forms.now) < 2 ^ 32 }
+    requires few_symbols { length (symbols_of_each (definitions_of definitions.now) ++ symbols_in_each (drafts_of forms.now)) < 2 ^ 32 }
     ensures made { IfOk result (λ p. parts_of p ≡ program_of (definitions_of definitions.now) (names_of own.now) (drafts_of forms.now)) }
     ensures ranged { IfOk result (λ p. IsTrue (trees_in_range (parts_of p))) }
 {

@@ -9,7 +9,7 @@ use Rattle.sch_names.specs.ScopeView.{given_names}
 use Rattle.sch_sketch.specs.declared.draft.Draft.{fold-roll-Draft}
 use Rattle.sch_sketch.specs.declared.draft.Draft as code
 use Rattle.sch_sketch.specs.declared.draft.Draft.TheOpen.{Draft-F}
-use Rattle.sch_sketch.specs.declared.draft.Draft.TheVariants.{Constant, rolls-Constant, Symbol, rolls-Symbol, Literal, rolls-Literal, Local, rolls-Local, Global, rolls-Global, SetLocal, rolls-SetLocal, SetGlobal, rolls-SetGlobal, Define, rolls-Define, If, rolls-If, Let, rolls-Let, Letrec, rolls-Letrec, Lambda, rolls-Lambda, Call, rolls-Call, Prim, rolls-Prim}
+use Rattle.sch_sketch.specs.declared.draft.Draft.TheVariants.{Constant, rolls-Constant, Symbol, rolls-Symbol, Literal, rolls-Literal, Local, rolls-Local, Global, rolls-Global, SetLocal, rolls-SetLocal, SetGlobal, rolls-SetGlobal, Define, rolls-Define, If, rolls-If, Seq, rolls-Seq, Let, rolls-Let, Letrec, rolls-Letrec, Lambda, rolls-Lambda, Call, rolls-Call, Prim, rolls-Prim}
 use Rattle.sch_word.specs.declared.constant.Const.{Const}
 use Rattle.sch_read.specs.declared.datum.Datum as text
 use Rattle.sch_read.specs.Views.{tree_of}
@@ -43,6 +43,9 @@ define_view v b e q = rw q (ap draft_of (e ∙ sym (rolls-Define v b)) ∙ fold-
 pub branch_view : {d : code.Draft} (a b c : Box code.Draft Memory) {x y z : code.Draft} → d ≡ If a b c → x ≡ a.value → y ≡ b.value → z ≡ c.value →
     draft_of d ≡ plain.branch (draft_of x) (draft_of y) (draft_of z)
 branch_view a b c e p q r = rw (p, q, r) (ap draft_of (e ∙ sym (rolls-If a b c)) ∙ fold-roll-Draft plain.Draft draft_view (Draft-F.If a b c))
+
+pub sequence_view : {d : code.Draft} (es : List code.Draft) {xs : List code.Draft} → d ≡ Seq es → xs ≡ es → draft_of d ≡ plain.sequence (drafts_of xs)
+sequence_view es e q = rw q (ap draft_of (e ∙ sym (rolls-Seq es)) ∙ fold-roll-Draft plain.Draft draft_view (Draft-F.Seq es))
 
 pub bind_view : {d : code.Draft} (vs : List (Option (Bor (List ℕ)))) (es : List code.Draft) (b : Box code.Draft Memory) {ws : List (Option (Bor (List ℕ)))} {xs : List code.Draft} {x : code.Draft} → d ≡ Let vs es b → ws ≡ vs → xs ≡ es → x ≡ b.value →
     draft_of d ≡ plain.bind (given_names ws) (drafts_of xs) (draft_of x)

@@ -5,4 +5,5 @@ pub mod NameSteps
 pub mod SymbolsInOrder
 pub mod QuoteSteps
 pub mod ProcedureLists
+pub mod FewNumbers
 mod Examples

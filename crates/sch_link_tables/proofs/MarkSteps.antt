@@ -1,11 +1,13 @@
 -- The steps of the walk that marks assigned variables, over plain values.
-use Rattle.std.proofs.Common.{◌≡◌, ℕ, zero, suc, ◌+◌, ◌<◌, ◌≤◌, Bool, true, false, not, List, [], ◌∷◌, ◌++◌, replicate, length, drop, get_or, refl, ap, ◌∙◌, map, arith, add-one}
+use Rattle.std.proofs.Common.{◌≡◌, ℕ, zero, suc, ◌+◌, ◌<◌, ◌≤◌, Bool, true, false, not, List, [], ◌∷◌, ◌++◌, replicate, length, drop, get_or, refl, sym, ap, ◌∙◌, map, arith, add-one}
 use Rattle.std.specs.Prelude.{◌||◌, ◌&&◌, nat_eq}
+use Rattle.std.proofs.Math.Nat.{zero-add}
 use Rattle.sch_word.specs.trees.Bindings.{numbers}
 use Rattle.sch_word.specs.trees.Assigned.{marked}
-use Rattle.sch_word.proofs.facts.AssignedMarks.{all_marked, none_marked, marked_twice, then_marked, inside_marked}
+use Rattle.sch_word.proofs.facts.AssignedMarks.{all_marked, marked_none, marked_twice, then_marked, inside_marked}
 use Rattle.sch_sketch.specs.declared.draft.Draft as code
-use Rattle.sch_sketch.specs.Draft.{Draft, Drafts, set_local, branch, bind, letrec, lambda, call, count, Names}
+use Rattle.sch_names.specs.Scope.{Names}
+use Rattle.sch_sketch.specs.Draft.{Draft, Drafts, set_local, branch, bind, letrec, lambda, call, count}
 use Rattle.sch_sketch.specs.DraftView.{draft_of, drafts_of}
 use Rattle.sch_link_tables.specs.Assigned.{assigns, assigns_each}
 use Rattle.sch_link_tables.specs.Assigned as assigned
@@ -46,7 +48,7 @@ module _ (from : ℕ) (bs bs' whole : List Bool) where
 pub end_marked : (from : ℕ) (bs whole : List Bool) (es : List code.Draft) (i : ℕ) → length es ≤ i → marked (assigns_each (drafts_of (drop i es))) from bs ≡ whole → bs ≡ whole
 end_marked from bs whole es i l k =
     let k' = rw (no_draft es i l) at k in
-    none_marked from bs ∙ k'
+    sym (marked_none from bs) ∙ k'
 
 -- ## Groups
 
@@ -55,11 +57,8 @@ none_is : (es : Drafts) (e : Draft) (n : ℕ) → assigned.none_marked (map (λ 
 none_is es e zero = refl
 none_is es e (suc n) =
     ap assigned.none_marked (more_numbers (λ i. assigns_each es i || assigns e i) n 0) ∙ last_mark (map (λ i. assigns_each es i || assigns e i) (numbers 0 n)) (assigns_each es (0 + n) || assigns e (0 + n))
-    ∙ ap (λ b. not (assigns_each es (0 + n) || assigns e (0 + n)) && b) (none_is es e n) ∙ ap (λ k. not (assigns_each es k || assigns e k) && assigned.none_assigned n es e) (zero_more n)
+    ∙ ap (λ b. not (assigns_each es (0 + n) || assigns e (0 + n)) && b) (none_is es e n) ∙ ap (λ k. not (assigns_each es k || assigns e k) && assigned.none_assigned n es e) (zero-add n)
   where
-    zero_more : (n : ℕ) → 0 + n ≡ n
-    zero_more n = omega arith
-
     more_numbers : (f : ℕ → Bool) (n j : ℕ) → map f (numbers j (suc n)) ≡ map f (numbers j n) ++ f (j + n) ∷ []
     more_numbers f zero j = ap (λ k. f k ∷ []) (omega arith)
     more_numbers f (suc n) j =

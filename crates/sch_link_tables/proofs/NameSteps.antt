@@ -2,7 +2,8 @@
 use Rattle.std.proofs.Common.{◌≡◌, ℕ, Bool, suc, ◌+◌, ◌<◌, List, [], ◌∷◌, ◌++◌, length, drop, get_or, refl, sym, ap, ◌∙◌, add-one}
 use Rattle.sch_names.specs.NamesView.{with_name}
 use Rattle.sch_sketch.specs.declared.draft.Draft as code
-use Rattle.sch_sketch.specs.Draft.{Names, Draft, Drafts, set_global, define, branch, bind, letrec, call}
+use Rattle.sch_names.specs.Scope.{Names}
+use Rattle.sch_sketch.specs.Draft.{Draft, Drafts, set_global, define, branch, bind, letrec, call}
 use Rattle.sch_sketch.specs.DraftView.{draft_of, drafts_of}
 use Rattle.sch_link_tables.specs.Named.{firsts, global_of, globals_in, globals_in_each, symbols_in, symbols_in_each}
 

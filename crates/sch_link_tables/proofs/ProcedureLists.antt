@@ -3,13 +3,10 @@ use Rattle.std.proofs.Common.{◌≡◌, List, [], ◌∷◌, ◌++◌, map, rev
 use Rattle.std.proofs.lemmas.List.{map-append, reverse-append, reverse-reverse}
 use Rattle.sch_lang.specs.declared.tree.Exp.{Exp}
 use Rattle.sch_lang.specs.declared.tree.Lambda.{Lambda}
-use Rattle.sch_lang.specs.Tree.{Expressions, Lambdas, Function, expressions, lambdas, and_expression, and_lambda, no_lambdas}
+use Rattle.sch_lang.specs.Tree.{Expressions, Lambdas, Function, lambdas, and_expression, and_lambda, no_lambdas}
 use Rattle.sch_lang.specs.View.{expression, expressions_of, function, lambdas_of}
-use Rattle.sch_lang.proofs.ListViews.{expressions_of_list, lambdas_of_list}
+use Rattle.sch_lang.proofs.ListViews.{expressions_of_list, lambdas_of_list, left}
 use Rattle.sch_link_tables.specs.Numbered.{procedures_of}
-
-abbrev pub left : List Exp → Expressions
-left es = expressions (map expression es)
 
 -- lambdas that were made, and then others
 abbrev pub onto : List Function → Lambdas → Lambdas

@@ -1,6 +1,7 @@
 pub mod Named
 pub mod Listed
 pub mod Quoted
+pub mod Room
 pub mod Assigned
 pub mod Sites
 pub mod Numbered

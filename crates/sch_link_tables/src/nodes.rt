@@ -1,6 +1,6 @@
 //! The nodes that are made of numbered parts.
 
-ghost use Rattle.std.specs.Prelude.{◌≡◌, ◌++◌, ◌∷◌, [], suc, length, map, true, IfOk, OnOk};
+ghost use Rattle.std.specs.Prelude.{◌≡◌, ◌+◌, ◌<◌, ◌^◌, ◌++◌, ◌∷◌, [], suc, length, map, true, IfOk, OnOk};
 ghost use Rattle.sch_word.specs.values.Values.{is_constant};
 ghost use Rattle.sch_lang.specs.Tree as tree;
 ghost use Rattle.sch_lang.specs.View.{expression, expressions_of, function, lambdas_of};
@@ -11,39 +11,43 @@ ghost use Rattle.sch_link_tables.specs.Sites.{unless_group};
 use crate::tables::Output;
 use sch_lang::{Exp, Lambda};
 use sch_names::Name;
-use sch_word::{Bytes, Const, List, Mem, Primitive, add_counts, number_of_count};
+use sch_word::{Bytes, Const, List, Mem, Primitive};
 use std::alloc::Global;
 
 /// The number of one more site, which has `width` parts.
 pub fn new_site(out: &mut Output, width: usize) -> Result<u32, Mem>
+    requires few { length out.old.sites < 2 ^ 32 }
+    requires narrow { width < 2 ^ 32 }
     ensures number { IfOk result (λ n. n ≡ length out.old.sites) }
     ensures sites { OnOk result (out.new.sites ≡ out.old.sites ++ width ∷ []) }
     ensures literals { OnOk result (out.new.literals ≡ out.old.literals) }
 {
-    let site = number_of_count(out.sites.len())?;
-    let width = number_of_count(width)?;
-    out.sites.push(width)?;
+    let site = out.sites.len() as u32;
+    out.sites.push(width as u32)?;
     Ok(site)
 }
 
 /// The number of the site of a call with this number of operands. Its operator is a part more.
 pub fn call_site(out: &mut Output, operands: usize) -> Result<u32, Mem>
+    requires few { length out.old.sites < 2 ^ 32 }
+    requires narrow { operands + 1 < 2 ^ 32 }
     ensures number { IfOk result (λ n. n ≡ length out.old.sites) }
     ensures sites { OnOk result (out.new.sites ≡ out.old.sites ++ suc operands ∷ []) }
     ensures literals { OnOk result (out.new.literals ≡ out.old.literals) }
 {
-    let width = add_counts(operands, 1)?;
-    new_site(out, width)
+    new_site(out, operands + 1)
 }
 
 /// The same as `new_site`, but for a group of procedures, which is no site.
 pub fn site_unless(group: bool, out: &mut Output, width: usize) -> Result<u32, Mem>
+    requires few { length out.old.sites < 2 ^ 32 }
+    requires narrow { width < 2 ^ 32 }
     ensures number { IfOk result (λ n. n ≡ length out.old.sites) }
     ensures sites { OnOk result (out.new.sites ≡ out.old.sites ++ unless_group group width) }
     ensures literals { OnOk result (out.new.literals ≡ out.old.literals) }
 {
     if group {
-        return number_of_count(out.sites.len());
+        return Ok(out.sites.len() as u32);
     }
     new_site(out, width)
 }
@@ -109,15 +113,15 @@ pub fn procedure(
     rest: bool,
     body: Exp,
 ) -> Result<Exp, Mem>
+    requires few { formals < 2 ^ 32 }
     ensures { IfOk result (λ q. expression q ≡ tree.lambda (body_name (one_name v.entry)) formals rest (expression body)) }
 {
     let name = body_name(alloc, v)?;
-    let formals = number_of_count(formals)?;
     let l = Box::new(
         alloc,
         Lambda {
             name,
-            formals,
+            formals: formals as u32,
             rest,
             body,
         },

@@ -1,6 +1,6 @@
 //! The literals that data are.
 
-ghost use Rattle.std.specs.Prelude.{◌≡◌, ◌++◌, IfOk, OnOk};
+ghost use Rattle.std.specs.Prelude.{◌≡◌, ◌<◌, ◌^◌, ◌++◌, length, IfOk, OnOk};
 ghost use Rattle.sch_word.specs.values.LiteralView.{literal, literals_of};
 ghost use Rattle.sch_word.specs.values.MadeView.{made};
 ghost use Rattle.sch_read.specs.Views.{tree_of, atom_of};
@@ -16,6 +16,7 @@ use std::slice;
 
 /// The literal of an atom.
 fn quote_atom(alloc: Global, symbols: &Names, a: &Atom) -> Result<Lit, Mem>
+    requires few { length (names_of symbols.now) < 2 ^ 32 }
     ensures { IfOk result (λ l. literal l ≡ literal_of_atom (names_of symbols.now) (atom_of a.now)) }
 {
     match a {
@@ -24,7 +25,7 @@ fn quote_atom(alloc: Global, symbols: &Names, a: &Atom) -> Result<Lit, Mem>
         Atom::Character(c) => Ok(Lit::Constant(Const::Character(*c))),
         Atom::Text(bytes) => Ok(Lit::Text(List::from_slice(alloc, bytes.as_slice())?)),
         Atom::Symbol(x) => {
-            let n = number_in(symbols, x.as_slice())?;
+            let n = number_in(symbols, x.as_slice());
             Ok(Lit::Constant(Const::Symbol(n)))
         }
     }
@@ -48,7 +49,8 @@ fn quote_node(
     d: &Datum,
     literals: &mut MadeLiterals,
 ) -> Result<Lit, Mem>
-    requires { ArePartsReady (names_of symbols.now) (tree_of d.now) (made literals.old) }
+    requires few { length (names_of symbols.now) < 2 ^ 32 }
+    requires ready { ArePartsReady (names_of symbols.now) (tree_of d.now) (made literals.old) }
     ensures same { IfOk result (λ l. literal l ≡ literal_of (names_of symbols.now) (tree_of d.now)) }
     ensures taken { OnOk result (made literals.old ≡ literals_of_parts (names_of symbols.now) (tree_of d.now) ++ made literals.new) }
 {
@@ -72,6 +74,7 @@ fn quote_node(
 
 /// The literal of a datum. What is made before it lies in memory, so levels take no part of the machine's stack.
 pub fn quote(alloc: Global, symbols: &Names, d: &Datum) -> Result<Lit, Mem>
+    requires few { length (names_of symbols.now) < 2 ^ 32 }
     ensures { IfOk result (λ l. literal l ≡ literal_of (names_of symbols.now) (tree_of d.now)) }
 {
     let mut order = data_in_order(alloc, slice::from_ref(d))?;

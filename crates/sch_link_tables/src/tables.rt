@@ -1,12 +1,12 @@
 //! The tables by which numbers are given, and what is numbered so far.
 
-ghost use Rattle.std.specs.Prelude.{◌≡◌, [], IfOk, OnOk};
+ghost use Rattle.std.specs.Prelude.{◌≡◌, ◌<◌, ◌^◌, [], length, IfOk, OnOk};
 ghost use Rattle.sch_names.specs.NamesView.{names_of, number_of, with_name};
 ghost use Rattle.sch_link_tables.specs.Listed.{IsListed, AreListed};
 ghost use Rattle.sch_link_tables.specs.Named.{global_of};
 
 use sch_names::Names;
-use sch_word::{Bytes, List, Lit, Mem, number_of_count};
+use sch_word::{Bytes, List, Lit, Mem};
 use std::alloc::Global;
 
 /// Names in the order of their first occurrences: a table to find their numbers in, and a list of them.
@@ -111,9 +111,11 @@ pub fn global_key(alloc: Global, own: &Names, x: &[u8]) -> Result<Vec<u8>, Mem>
     Ok(key)
 }
 
-/// The number of a name in a table, as one of 32 bits. A larger one is out of memory.
-pub fn number_in(table: &Names, x: &[u8]) -> Result<u32, Mem>
-    ensures { IfOk result (λ n. n ≡ number_of x.now (names_of table.now)) }
+/// The number of a name in a table, as one of 32 bits.
+#[tactic(auto, using(crate::proofs::FewNumbers::number_within))]
+pub fn number_in(table: &Names, x: &[u8]) -> u32
+    requires few { length (names_of table.now) < 2 ^ 32 }
+    ensures { result ≡ number_of x.now (names_of table.now) }
 {
-    number_of_count(table.number(x))
+    table.number(x) as u32
 }

@@ -6,13 +6,16 @@ use Rattle.sch_names.specs.declared.operation.Operation.{Operation}
 use Rattle.sch_names.specs.Words.{keyword_of}
 use Rattle.sch_names.specs.Operations.{operation_of}
 
--- The variables that are bound, the nearest first: a list of bindings. One that a rewriting adds has
--- no name, so no name of the text means it.
+-- The names of variables. One that a rewriting adds has none, so no name of the text means it.
+abbrev pub Names : Type 0
+Names = List (Option (List ℕ))
+
+-- the variables that are bound, the nearest first: a list of bindings
 abbrev pub Scope : Type 0
-Scope = List (Option (List ℕ))
+Scope = Names
 
 -- variables of these names, the last of them nearest
-abbrev pub onto : List (Option (List ℕ)) → Scope → Scope
+abbrev pub onto : Names → Scope → Scope
 onto [] s = s
 onto (v ∷ vs) s = onto vs (v ∷ s)
 

@@ -1,26 +1,15 @@
 //! The order table of a program, by the moves of its calls.
 
-ghost use Rattle.std.specs.Prelude.{◌≡◌, ◌++◌, ◌<◌, [], length, slice_set, IfOk, IsTrue, OnOk};
+ghost use Rattle.std.specs.Prelude.{◌≡◌, ◌<◌, length, slice_set, IfOk, IsTrue, OnOk};
 ghost use Rattle.sch_word.specs.runs.Orders.{is_order_table, order_at};
-ghost use Rattle.sch_word.specs.trees.NumberSets.{has, unless};
 ghost use Rattle.sch_control.specs.Fits.{table_fits};
 ghost use Rattle.sch_control.specs.ProgramView.{source};
 ghost use Rattle.sch_orders.specs.ListedTable.{calls_fit, evaluated, listed_table, with_call};
 
 use crate::listed_call::ListedCall;
-use sch_control::{ControlProgram, given_orders};
-use sch_word::{List, Mem, is_in};
+use sch_control::{ControlProgram, add_other, given_orders};
+use sch_word::{List, Mem};
 use std::alloc::Global;
-
-/// Adds a part unless it is one of those that are bound.
-fn add_unbound(k: u32, bound: &[u32], all: &mut List<u32>) -> Result<(), Mem>
-    ensures { OnOk result (all.new ≡ all.old ++ unless (has k bound.now) k []) }
-{
-    if !is_in(k, bound) {
-        all.push(k)?;
-    }
-    Ok(())
-}
 
 /// What is bound, and then the other parts in their order.
 fn evaluated(alloc: Global, bound: &[u32], order: &[u32]) -> Result<List<u32>, Mem>
@@ -29,7 +18,7 @@ fn evaluated(alloc: Global, bound: &[u32], order: &[u32]) -> Result<List<u32>, M
     let mut all = List::from_vec(Vec::with_capacity(alloc, order.len())?);
     all.extend_from_slice(bound)?;
     for k in order {
-        add_unbound(*k, bound, &mut all)?;
+        add_other(*k, bound, &mut all)?;
     }
     Ok(all)
 }

@@ -1,5 +1,5 @@
 -- Data are visited, each before its parts.
-use Rattle.std.proofs.Common.{◌≡◌, ◌+◌, ◌<◌, ◌≤◌, ◌++◌, ℕ, List, [], ◌∷◌, refl, sym, ap, ◌∙◌, arith}
+use Rattle.std.proofs.Common.{◌≡◌, ◌+◌, ◌<◌, ◌≤◌, ◌++◌, List, [], ◌∷◌, refl, sym, ap, ◌∙◌, arith}
 use Rattle.std.proofs.lemmas.List.{map-append, append_assoc}
 use Rattle.sch_read.specs.Grammar.{Data, atom, list, dotted, vector, none, cons}
 use Rattle.sch_read.specs.Grammar as grammar
@@ -12,30 +12,26 @@ pub each_gathered : (ds : List grammar.Datum) → each_of (gather ds) ≡ ds
 each_gathered [] = refl
 each_gathered (d ∷ ds) = ap (λ l. d ∷ l) (each_gathered ds)
 
--- how much they weigh together
-abbrev pub weights_of : List grammar.Datum → ℕ
-weights_of [] = 0
-weights_of (d ∷ ds) = weight d + weights_of ds
-
-weights_each : (ds : Data) → weights_of (each_of ds) ≡ weights ds
+weights_each : (ds : Data) → weights (gather (each_of ds)) ≡ weights ds
 weights_each none = refl
 weights_each (cons d ds) = ap (λ n. weight d + n) (weights_each ds)
 
-weights_append : (xs ys : List grammar.Datum) → weights_of (xs ++ ys) ≡ weights_of xs + weights_of ys
+-- how much data of two lists weigh together
+pub weights_append : (xs ys : List grammar.Datum) → weights (gather (xs ++ ys)) ≡ weights (gather xs) + weights (gather ys)
 weights_append [] ys = omega arith
 weights_append (x ∷ xs) ys = omega (arith, weights_append xs ys)
 
-parts_weight : (d : grammar.Datum) → weights_of (parts d) + 1 ≤ weight d
+parts_weight : (d : grammar.Datum) → weights (gather (parts d)) + 1 ≤ weight d
 parts_weight (atom at a) = omega arith
 parts_weight (list at ds) = omega (arith, weights_each ds)
 parts_weight (dotted at ds last) = omega (arith, weights_append (each_of ds) (last ∷ []), weights_each ds)
 parts_weight (vector at ds) = omega (arith, weights_each ds)
 
 -- a datum is visited, and its parts are left to visit
-pub less_left : (d : grammar.Datum) (before after others : List grammar.Datum) → before ≡ d ∷ others → after ≡ parts d ++ others → weights_of after < weights_of before
+pub less_left : (d : grammar.Datum) (before after others : List grammar.Datum) → before ≡ d ∷ others → after ≡ parts d ++ others → weights (gather after) < weights (gather before)
 less_left d before after others b a =
-    let p = ap weights_of b in
-    let q = ap weights_of a in
+    let p = ap (λ ds. weights (gather ds)) b in
+    let q = ap (λ ds. weights (gather ds)) a in
     omega (arith, p, q, weights_append (parts d) others, parts_weight d)
 
 -- ## Parts

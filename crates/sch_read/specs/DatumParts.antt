@@ -1,4 +1,4 @@
--- The parts of a datum, and data of the program's type in the order in which a walk comes to them.
+-- What a datum holds at its first level, and the trees of data as the program has them, whole or lent.
 use Rattle.std.specs.Prelude.{List, [], ◌∷◌, ◌++◌, map}
 use Rattle.std.specs.Borrow.{Bor}
 use Rattle.sch_read.specs.Grammar.{Data, atom, list, dotted, vector, none, cons}

@@ -11,7 +11,7 @@ use Rattle.sch_word.specs.trees.Shape.{max_operands}
 use Rattle.sch_word.proofs.facts.Lists.{some_same}
 use Rattle.sch_control.specs.declared.body.Body.{Body}
 use Rattle.sch_control.specs.Covered as control_covered
-use Rattle.sch_control.specs.Sizes.{most_variables}
+use Rattle.sch_control.specs.Sizes.{most_variables, tests_in, tests_of}
 use Rattle.sch_control.specs.SourceView as control
 use Rattle.sch_control.specs.Tree as tree
 use Rattle.sch_control.specs.Work.{codes_work}
@@ -73,6 +73,12 @@ calls_next bodies i b lt is before calls next e h =
 pub calls_end : (bodies : List Body) (i : ℕ) (before calls : List ListedCall) → length bodies ≤ i → calls ≡ before ++ all_calls (control.codes_of (take i bodies))
     → calls ≡ before ++ all_calls (control.codes_of bodies)
 calls_end bodies i before calls le h = h ∙ ap (λ bs. before ++ all_calls (control.codes_of bs)) (take_all i bodies le)
+
+-- the tests of one body are among those of all
+pub tests_among : (bodies : List Body) (i : ℕ) (b : Body) → i < length bodies → b ≡ get_or bodies i b → tests_in (control.code_of b).expression ≤ tests_of (control.codes_of bodies)
+tests_among [] i b lt is = absurd (omega (arith, lt))
+tests_among (x ∷ bodies) zero b lt is = let same = ap (λ b. tests_in (control.code_of b).expression) is in omega (arith, same)
+tests_among (x ∷ bodies) (suc i) b lt is = let more = tests_among bodies i b (omega (arith, lt)) is in omega (arith, more)
 
 -- ## All bodies
 

@@ -5,13 +5,13 @@ use Rattle.std.specs.Bool.{MatchBool}
 use Rattle.std.specs.List.{list_all}
 use Rattle.sch_word.specs.declared.place.Place.{Place}
 use Rattle.sch_word.specs.trees.Bindings.{numbers}
-use Rattle.sch_word.specs.trees.NumberSets.{has, unless}
-use Rattle.sch_word.proofs.facts.Booleans.{and_left, and_of, and_right, false_true, not_true}
+use Rattle.sch_word.specs.trees.NumberSets.{has, unless, without_repeats}
+use Rattle.sch_word.proofs.facts.Booleans.{and_left, and_of, and_right, false_true, not_true, or_false}
 use Rattle.sch_control.specs.AtomsAndSites.{application_atoms, member_atoms, operation_atoms}
 use Rattle.sch_control.specs.Meaning.{binds, heads, no_region, with_region}
 use Rattle.sch_control.specs.RegisterWork.{most_kept}
 use Rattle.sch_control.specs.Tree.{Expression, perform, bind, sequence, branch, fix, call, tail_call, return, end, save}
-use Rattle.sch_control.specs.Valid.{member_variables, without_repeats}
+use Rattle.sch_control.specs.Valid.{member_variables}
 use Rattle.sch_control.specs.flow.Apart.{Apart, EachHas, PointsApart}
 use Rattle.sch_control.specs.flow.Bare.{unlisted}
 use Rattle.sch_control.specs.flow.Live.{Across, Later, Live, MayGive, Perhaps, named}
@@ -40,10 +40,6 @@ use Rattle.sch_restores.proofs.EagerTrees.{unlisted_eager}
 in_front : (x : ℕ) (es xs ys : List Event) → es ≡ xs ++ ys → calls x ys ≡ false → calls x es ≡ true → calls x xs ≡ true
 in_front x es xs ys e n h = elim (call_in x es xs ys e h) [ inl f ↦ f | inr s ↦ absurd (false_true s n) ]
 
-listed_there : (b : Bool) → (b || false) ≡ true → b ≡ true
-listed_there true h = refl
-listed_there false h = absurd (cc)
-
 met_called : (x : ℕ) (inside : ℕ → Bool) (e : Expression) (Met : Type 0) (L : Later) → LiveSets e Met L → (es : List Event) (r : Bool) → IsPath inside e es r → calls x es ≡ true → Met
 met_called x inside (perform o) Met L sets es r path h = absurd (false_true h (ap (calls x) path.0 ∙ references_call x (named (operation_atoms o))))
 met_called x inside (bind y a b) Met L sets es r path h = elim (call_in x es path.0 _ path.5 h) [
@@ -65,7 +61,7 @@ met_called x inside (branch a b c) Met L sets es r path h = elim (call_in x es p
 met_called x inside (fix members e) Met L sets es r path h =
     met_called x inside e Met L sets path.0 r path.1 (call_behind x es (grouping inside members) path.0 path.2 (grouping_calls x inside members) h)
 met_called x inside (call a listed) Met L sets es r path h =
-    ((sets x).0 (listed_there (has x listed) (call_behind x es (map References (named (application_atoms a))) _ path (references_call x (named (application_atoms a))) h))).0
+    ((sets x).0 (sym (or_false (has x listed)) ∙ (call_behind x es (map References (named (application_atoms a))) _ path (references_call x (named (application_atoms a))) h))).0
 met_called x inside (tail_call a) Met L sets es r path h =
     absurd (false_true (call_behind x es (map References (named (application_atoms a))) _ path (references_call x (named (application_atoms a))) h) refl)
 met_called x inside (return e) Met L sets es r path h = met_called x inside e Met _ sets path.0 path.1 path.2 (in_front x es path.0 _ path.3 refl h)

@@ -5,15 +5,14 @@ use Rattle.std.proofs.lemmas.Bool.{eqb-true, eq-eqb}
 use Rattle.sch_word.specs.declared.place.Place.{Place}
 use Rattle.sch_word.specs.declared.place.Place.TheVariants.{Reg, Slot}
 use Rattle.sch_word.specs.declared.registers.TheConstants.{CLOSURE_REGISTER, LINK_REGISTER}
-use Rattle.sch_word.specs.trees.NumberSets.{has}
+use Rattle.sch_word.specs.trees.NumberSets.{has, without_repeats}
 use Rattle.sch_word.specs.values.Registers.{argument_registers}
 use Rattle.sch_word.proofs.facts.Booleans.{and_left, and_right, false_true, not_left, not_right, not_true, or_left, or_right}
 use Rattle.sch_control.specs.RegisterWork.{most_kept}
 use Rattle.sch_control.specs.Tree.{Code, Expression}
-use Rattle.sch_control.specs.Valid.{without_repeats}
 use Rattle.sch_control.specs.flow.Apart.{Apart, EachHas}
 use Rattle.sch_control.specs.flow.Places.{count_slots, is_usual, place_of}
-use Rattle.sch_frames.specs.Meaning.{is_slot}
+use Rattle.sch_word.specs.values.Places.{is_slot}
 use Rattle.sch_layout.specs.BodyLayout.{Plan}
 use Rattle.sch_layout.specs.FewCopies.{in_registers}
 use Rattle.sch_homes.specs.Homes.{homes_plan, lives_in}

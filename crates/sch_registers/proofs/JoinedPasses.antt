@@ -1,9 +1,10 @@
 -- The passes of one body, one after the other.
-use Rattle.std.proofs.Common.{◌≡◌, ℕ, ◌+◌, ◌<◌, false, true, ap, sym, ◌∙◌, subst}
+use Rattle.std.proofs.Common.{◌≡◌, ℕ, ◌+◌, ◌*◌, ◌<◌, false, true, ap, sym, ◌∙◌, subst}
 use Rattle.sch_control.specs.declared.body.Body.{Body}
 use Rattle.sch_control.specs.declared.placed_body.PlacedBody.{PlacedBody}
 use Rattle.sch_control.specs.declared.saved_body.SavedBody.{SavedBody}
 use Rattle.sch_control.specs.Meaning.{no_region}
+use Rattle.sch_control.specs.Sizes.{tests_in}
 use Rattle.sch_control.specs.SourceView.{code_of}
 use Rattle.sch_control.specs.Tree.{Code, Expression}
 use Rattle.sch_control.specs.View.{expression}
@@ -14,6 +15,8 @@ use Rattle.sch_control.specs.flow.Regions.{regions_apart}
 use Rattle.sch_control.specs.flow.RestoredView.{restored}
 use Rattle.sch_control.proofs.ExactSets.{exact}
 use Rattle.sch_frames.specs.Tree as frames
+use Rattle.sch_layout.specs.BodyLayout.{labels}
+use Rattle.sch_layout.proofs.layouts.LabelsCounted.{labels_counted}
 use Rattle.sch_paths.specs.Exact.{EagerRestores, LazySaves}
 use Rattle.sch_paths.specs.Regions.{regions_stand}
 use Rattle.sch_live.specs.LiveListed.{lists_in_order, live_listed}
@@ -56,6 +59,15 @@ pub record IsJoined {N : ℕ} (b : Body) (live : Expression) (s : SavedBody N) (
   pub formals : (k : ℕ) → k < formals_of b.entry → place_of p.places (2 + k) ≡ arrival k
   pub spills : SlotsWhenFull (place_of p.places) (restored p.exp)
 
+-- the passes put lists and regions into a tree, and change nothing else of it
+pub tree_kept : (n : ℕ) (live saved tree e : Expression) → unlisted live ≡ e → unsaved saved ≡ live → tree ≡ eagerly_restored n saved → erased tree ≡ e
+tree_kept n live saved tree e bare without made =
+    ap erased made ∙ (erased_eager n no_region saved (λ x t. false) ∙ (erased_is saved ∙ (ap unlisted without ∙ bare)))
+
+-- so it has the labels of a body of as many tests
+pub labels_kept : (n : ℕ) (live saved tree e : Expression) → unlisted live ≡ e → unsaved saved ≡ live → tree ≡ eagerly_restored n saved → labels tree ≡ 2 * tests_in e
+labels_kept n live saved tree e bare without made = labels_counted tree ∙ ap (λ e. 2 * tests_in e) (tree_kept n live saved tree e bare without made)
+
 module _ {N : ℕ} (b : Body) (live : Expression) (s : SavedBody N) (p : PlacedBody N) (j : IsJoined b live s p) where
   abbrev c : Code
   c = code_of b
@@ -81,7 +93,7 @@ module _ {N : ℕ} (b : Body) (live : Expression) (s : SavedBody N) (p : PlacedB
       ap (λ name. code_with name p.entry p.variables (erased (restored p.exp))) j.name
       ∙ (ap (λ entry. code_with b.name entry p.variables (erased (restored p.exp))) j.entry
       ∙ (ap (λ n. code_with b.name b.entry n (erased (restored p.exp))) j.variables
-      ∙ ap (code_with b.name b.entry b.variables) (ap erased j.made_restored ∙ (erased_eager b.variables no_region saved (λ x t. false) ∙ body))))
+      ∙ ap (code_with b.name b.entry b.variables) (tree_kept b.variables live saved (restored p.exp) (expression b.exp) j.bare j.without_regions j.made_restored)))
 
   placed : IsPlaced c tree (places b.entry b.variables tree)
   placed =

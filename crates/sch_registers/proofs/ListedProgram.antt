@@ -56,7 +56,7 @@ listing_erased n m (return e) l = rw (listing_erased n m e _) refl
 listing_erased n m (tree.end e) l = rw (listing_erased n m e _) refl
 listing_erased n m (save saves e) l = listing_erased n m e l
 
-tree_erased : (n : ℕ) (e : Expression) → erased (registers_tree n e) ≡ erased e
+pub tree_erased : (n : ℕ) (e : Expression) → erased (registers_tree n e) ≡ erased e
 unfolding registers_tree
 tree_erased n e =
     let live : Expression = live_listed n e in

@@ -9,10 +9,9 @@ use Rattle.sch_control.specs.Tree as control
 use Rattle.sch_control.specs.Tree.{Expression}
 use Rattle.sch_control.specs.flow.Bare.{unlisted}
 use Rattle.sch_control.specs.flow.Live.{nothing_later}
-use Rattle.sch_control.specs.flow.Places.{arrival, count_slots, formals_of, in_slot, is_usual, place_of}
+use Rattle.sch_control.specs.flow.Places.{arrival, count_slots, formals_of, is_usual, place_of}
 use Rattle.sch_control.proofs.VariableLists.{each_more}
-use Rattle.sch_frames.specs.Meaning.{is_slot}
-use Rattle.sch_word.specs.values.Places.{same_place}
+use Rattle.sch_word.specs.values.Places.{same_place, is_slot}
 use Rattle.sch_frames.specs.Tree as frames
 use Rattle.sch_layout.specs.BodyLayout.{Plan}
 use Rattle.sch_layout.specs.BodyLayout as layout
@@ -35,11 +34,11 @@ use Rattle.sch_registers.specs.MadeFrom.{HasFewSlots, IsMadeFrom}
 
 -- ## Registers stay as variables come into a frame, and slots stay slots
 
-no_register : {A : Type 0} {p : Place} {r : ℕ} → in_slot p ≡ true → p ≡ Reg r → A
-no_register s e = absurd (false_true s (ap in_slot e))
+no_register : {A : Type 0} {p : Place} {r : ℕ} → is_slot p ≡ true → p ≡ Reg r → A
+no_register s e = absurd (false_true s (ap is_slot e))
 
 module _ (lives : Option Place → Place) (stays : (r : ℕ) → lives (Some (Reg r)) ≡ Reg r)
-    (slot : (j : ℕ) → in_slot (lives (Some (Slot j))) ≡ true) (nowhere : in_slot (lives None) ≡ true) where
+    (slot : (j : ℕ) → is_slot (lives (Some (Slot j))) ≡ true) (nowhere : is_slot (lives None) ≡ true) where
   register_kept : (places : List Place) (x r : ℕ) → place_of places x ≡ Reg r → lives (slice_get places x) ≡ Reg r
   register_kept [] x r e = absurd (cc)
   register_kept (p ∷ places) zero r e = ap (λ q. lives (Some q)) e ∙ stays r
@@ -51,9 +50,9 @@ module _ (lives : Option Place → Place) (stays : (r : ℕ) → lives (Some (Re
   register_was (Slot j ∷ places) zero r e = no_register (slot j) e
   register_was (p ∷ places) (suc x) r e = register_was places x r e
 
-  slot_was : (places : List Place) (x : ℕ) → in_slot (lives (slice_get places x)) ≡ true → in_slot (place_of places x) ≡ true
+  slot_was : (places : List Place) (x : ℕ) → is_slot (lives (slice_get places x)) ≡ true → is_slot (place_of places x) ≡ true
   slot_was [] x e = refl
-  slot_was (Reg q ∷ places) zero e = sym (ap in_slot (stays q)) ∙ e
+  slot_was (Reg q ∷ places) zero e = sym (ap is_slot (stays q)) ∙ e
   slot_was (Slot j ∷ places) zero e = refl
   slot_was (p ∷ places) (suc x) e = slot_was places x e
 
@@ -86,7 +85,7 @@ module _ (c : control.Code) (tree : Expression) (places : List Place) (p : IsPla
   was : (x r : ℕ) → plan.place x ≡ Reg r → place_of places x ≡ Reg r
   was = register_was lives (λ r. refl) (λ j. refl) refl places
 
-  spilled : (x : ℕ) → in_slot (plan.place x) ≡ true → in_slot (place_of places x) ≡ true
+  spilled : (x : ℕ) → is_slot (plan.place x) ≡ true → is_slot (place_of places x) ≡ true
   spilled = slot_was lives (λ r. refl) (λ j. refl) refl places
 
   -- what is entered with stays where it arrives

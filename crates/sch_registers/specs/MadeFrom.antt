@@ -10,7 +10,8 @@ use Rattle.sch_control.specs.Tree as control
 use Rattle.sch_control.specs.Tree.{Expression}
 use Rattle.sch_control.specs.flow.Bare.{erased, unlisted}
 use Rattle.sch_control.specs.flow.LiveSets.{HasLiveSets}
-use Rattle.sch_control.specs.flow.Places.{arrival, closure_place, formals_of, link_place}
+use Rattle.sch_word.specs.values.Places.{closure_place, link_place}
+use Rattle.sch_control.specs.flow.Places.{arrival, formals_of}
 use Rattle.sch_frames.specs.Tree as frames
 use Rattle.sch_layout.specs.BodyLayout.{Plan}
 use Rattle.sch_layout.specs.Laws.{Laid}

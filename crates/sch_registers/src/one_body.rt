@@ -1,9 +1,11 @@
 //! The frame body of a body, by registers.
 
 ghost use Rattle.std.specs.Prelude.{◌≡◌, ◌≤◌, ◌<◌, ◌*◌, ◌^◌, ◌++◌, IfOk, OnOk};
+ghost use Rattle.sch_control.specs.Sizes.{tests_in};
 ghost use Rattle.sch_control.specs.SourceView as control;
 ghost use Rattle.sch_control.specs.flow.RestoredView.{restored};
 ghost use Rattle.sch_frames.specs.SourceView.{code_of};
+ghost use Rattle.sch_layout.specs.BodyLayout.{labels};
 ghost use Rattle.sch_homes.specs.Homes.{homes_code};
 ghost use Rattle.sch_homes.specs.ListedMoves.{homes_calls};
 ghost use Rattle.sch_paths.specs.EachSoonRestored.{EachSoonRestored};
@@ -28,6 +30,7 @@ fn frame_listed<const N: usize>(
     calls: &mut List<ListedCall>,
 ) -> Result<FrameBody, Mem>
     requires soon { EachSoonRestored (restored b.now.exp) }
+    requires labels { labels (restored b.now.exp) < 2 ^ 32 }
     ensures made { IfOk result (λ f. code_of f ≡ homes_code b.now.entry (restored b.now.exp) b.now.places) }
     ensures calls { OnOk result (calls.new ≡ calls.old ++ homes_calls b.now.entry (restored b.now.exp) b.now.places) }
 {
@@ -44,6 +47,7 @@ fn framed<const N: usize>(
 ) -> Result<FrameBody, Mem>
     requires fits { b.now.variables ≤ 64 * N }
     requires words { N < 2 ^ 32 }
+    requires tests { 2 * tests_in (control.code_of b.now).expression < 2 ^ 32 }
     ensures body { IfOk result (λ f. IsFramedBody (control.code_of b.now) (code_of f)) }
     ensures calls { OnOk result (calls.new ≡ calls.old ++ registers_calls (control.code_of b.now)) }
 {
@@ -62,7 +66,9 @@ fn framed<const N: usize>(
 ///
 /// What is live after calls is saved lazily, and each call restores what of that is wanted before the next call. The sets of
 /// variables have as many words as the body's variables need: 1, 4 or 16. What is listed of its calls is added to `calls`.
+/// Each test of the body takes two labels.
 pub fn frame_body(alloc: Global, b: &Body, calls: &mut List<ListedCall>) -> Result<FrameBody, Mem>
+    requires tests { 2 * tests_in (control.code_of b.now).expression < 2 ^ 32 }
     ensures body { IfOk result (λ f. IsFramedBody (control.code_of b.now) (code_of f)) }
     ensures calls { OnOk result (calls.new ≡ calls.old ++ registers_calls (control.code_of b.now)) }
 {

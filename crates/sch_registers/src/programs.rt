@@ -1,13 +1,13 @@
 //! The frame program of a program, by registers.
 
-ghost use Rattle.std.specs.Prelude.{◌≡◌, ◌≤◌, ◌+◌, ◌*◌, ◌++◌, map, max, IfOk, IsTrue, OnOk};
+ghost use Rattle.std.specs.Prelude.{◌≡◌, ◌≤◌, ◌<◌, ◌+◌, ◌*◌, ◌^◌, ◌++◌, map, max, IfOk, IsTrue, OnOk};
 ghost use Rattle.sch_word.specs.trees.Shape.{max_operands};
 ghost use Rattle.sch_word.specs.values.StaticsView.{statics};
 ghost use Rattle.sch_word.specs.runs.Orders.{is_order_table};
 ghost use Rattle.sch_control.specs.Covered as control_covered;
 ghost use Rattle.sch_control.specs.Fits.{table_fits};
 ghost use Rattle.sch_control.specs.ProgramView as control;
-ghost use Rattle.sch_control.specs.Sizes.{most_variables};
+ghost use Rattle.sch_control.specs.Sizes.{most_variables, tests_of};
 ghost use Rattle.sch_control.specs.SourceView as control_bodies;
 ghost use Rattle.sch_control.specs.Work.{codes_work};
 ghost use Rattle.sch_frames.specs.Covered.{each_begins, is_covered_program};
@@ -44,6 +44,7 @@ fn frame_bodies(
     bodies: &[Body],
     calls: &mut List<ListedCall>,
 ) -> Result<List<FrameBody>, Mem>
+    requires tests { 2 * tests_of (control_bodies.codes_of bodies.now) < 2 ^ 32 }
     ensures bodies { IfOk result (λ made. AreFramedBodies (control_bodies.codes_of bodies.now) (codes_of made)) }
     ensures calls { OnOk result (calls.new ≡ calls.old ++ all_calls (control_bodies.codes_of bodies.now)) }
 {
@@ -59,6 +60,8 @@ fn frame_bodies(
 /// Time and memory are linear in the program, but for sets of variables: a call, a binding and an arm of a test have a few
 /// each, of as many bits as the body has variables.
 pub fn frame_program(alloc: Global, p: &ControlProgram) -> Result<FramedProgram, Mem>
+    // Each test takes two labels.
+    requires tests { 2 * tests_of (control_bodies.codes_of p.now.bodies) < 2 ^ 32 }
     ensures same { IfOk result (λ f. SameRuns (control.source p.now) (source f.frames)) }
     // What the passes of bodies are defined to make.
     ensures made { IfOk result (λ f. codes_of f.frames.bodies ≡ map registers_code (control_bodies.codes_of p.now.bodies)) }

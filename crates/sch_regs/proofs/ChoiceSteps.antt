@@ -16,8 +16,9 @@ use Rattle.sch_word.proofs.facts.Booleans.{and_left, and_right, and_of, or_left,
 use Rattle.sch_control.specs.declared.operation.Member.{Member}
 use Rattle.sch_control.specs.Tree.{Expression, bind, sequence, branch, fix}
 use Rattle.sch_control.specs.Valid.{member_variables}
-use Rattle.sch_control.specs.flow.Places.{in_slot}
-use Rattle.sch_regs.specs.NotedSets.{Noted, assign_noted, first_variable}
+use Rattle.sch_word.specs.values.Places.{is_slot}
+use Rattle.sch_word.specs.values.Options.{first_or_0}
+use Rattle.sch_regs.specs.NotedSets.{Noted, assign_noted}
 use Rattle.sch_regs.specs.PlaceChoice.{Table, in_register, place_in, slots, in_order, held, first_free, choose, choose_each, live_first}
 use Rattle.sch_regs.specs.Shows.{holds, IsHeld, is_wanted}
 
@@ -107,7 +108,7 @@ pub both_rounds : (live : ℕ → Bool) (ys : List ℕ) (t : Table)
     → choose_each live (filter (is_wanted live false) ys) (choose_each live (filter (is_wanted live true) ys) t) ≡ choose_each live (live_first live ys) t
 both_rounds live ys t = sym (each_append live (filter live ys) (filter (λ y. not (live y)) ys) t)
 
-pub first_some : (members : List (Member ℕ)) (m : Member ℕ) → Some m ≡ slice_get members 0 → m.at ≡ first_variable (member_variables members)
+pub first_some : (members : List (Member ℕ)) (m : Member ℕ) → Some m ≡ slice_get members 0 → m.at ≡ first_or_0 (member_variables members)
 first_some [] m h = absurd (cc)
 first_some (k ∷ members) m h = ap at_of h where
   at_of : Option (Member ℕ) → ℕ
@@ -122,7 +123,7 @@ pub first_below : (members : List (Member ℕ)) (bound : ℕ) (m : Member ℕ) �
     → list_all (λ x. nat_lt x bound) (member_variables members) ≡ true → m.at < bound
 first_below members bound m is h = subst (λ y. y < bound) (sym (first_some members m is)) (below members is h) where
   below : (members : List (Member ℕ)) → Some m ≡ slice_get members 0 → list_all (λ x. nat_lt x bound) (member_variables members) ≡ true
-      → first_variable (member_variables members) < bound
+      → first_or_0 (member_variables members) < bound
   below [] is h = absurd (cc)
   below (k ∷ members) is h = let lt : nat_lt k.at bound ≡ true = and_left (nat_lt k.at bound) _ h in grind (arith, nat_tests, lt)
 
@@ -134,12 +135,12 @@ all_within (x ∷ xs) low high l h =
     and_of (nat_lt x high) _ here (all_within xs low high l (and_right (nat_lt x low) _ h))
 
 -- one slot more, where a place is one, and as many as 32 bits number
-pub fewer_slots : (p : Place) (n : ℕ) → cond (in_slot p) (suc n) n < 2 ^ 32 → n < 2 ^ 32
+pub fewer_slots : (p : Place) (n : ℕ) → cond (is_slot p) (suc n) n < 2 ^ 32 → n < 2 ^ 32
 fewer_slots (Reg r) n l = l
 fewer_slots (Slot j) n l = omega (arith, l)
 
-pub slot_counted : (p : Place) (n m k : ℕ) → (cond (in_slot p) (n + 1) n < 2 ^ 32 → k ≡ cond (in_slot p) (n + 1) n) → n ≡ m → cond (in_slot p) (suc m) m < 2 ^ 32
-    → k ≡ cond (in_slot p) (suc m) m
+pub slot_counted : (p : Place) (n m k : ℕ) → (cond (is_slot p) (n + 1) n < 2 ^ 32 → k ≡ cond (is_slot p) (n + 1) n) → n ≡ m → cond (is_slot p) (suc m) m < 2 ^ 32
+    → k ≡ cond (is_slot p) (suc m) m
 slot_counted (Reg r) n m k f e l = f (omega (arith, e, l)) ∙ e
 slot_counted (Slot j) n m k f e l = let h = f (omega (arith, e, l)) in omega (arith, h, e)
 
@@ -164,8 +165,8 @@ module _ (n : Noted) where
       ∙ (ap (λ z. assign_noted n c (assign_noted n b (assign_noted n z t))) first ∙ ap (λ z. assign_noted n z t) (sym is)))
 
   pub fix_walk : (members : List (Member ℕ)) (a a' e : Expression) (t : Table) → e ≡ fix members a → a' ≡ a
-      → assign_noted n a' (choose_each (n (first_variable (member_variables members))) (live_first (n (first_variable (member_variables members))) (member_variables members)) t)
+      → assign_noted n a' (choose_each (n (first_or_0 (member_variables members))) (live_first (n (first_or_0 (member_variables members))) (member_variables members)) t)
       ≡ assign_noted n e t
   fix_walk members a a' e t is first =
-      ap (λ z. assign_noted n z (choose_each (n (first_variable (member_variables members))) (live_first (n (first_variable (member_variables members))) (member_variables members)) t)) first
+      ap (λ z. assign_noted n z (choose_each (n (first_or_0 (member_variables members))) (live_first (n (first_or_0 (member_variables members))) (member_variables members)) t)) first
       ∙ ap (λ z. assign_noted n z t) (sym is)

@@ -13,7 +13,8 @@ use Rattle.sch_control.proofs.Examples.{truth, held_in, applied, at_start}
 use Rattle.sch_control.specs.flow.Live.{Live}
 use Rattle.sch_control.specs.flow.LiveTests.{is_live}
 use Rattle.sch_control.specs.flow.Middle.{restoring, silent}
-use Rattle.sch_control.specs.flow.Places.{in_slot, place_of}
+use Rattle.sch_word.specs.values.Places.{is_slot}
+use Rattle.sch_control.specs.flow.Places.{place_of}
 use Rattle.sch_regs.specs.PlaceChoice.{Table, place_in, held, choose_each, live_first, arrived, places}
 use Rattle.sch_regs.specs.Promises.{KeepsRuns}
 use Rattle.sch_regs.specs.Spills.{Full, SlotsWhenFull}
@@ -113,7 +114,7 @@ seven_full =
       register : {P : Type 0} → false ≡ true → P
       register h = absurd (cc)
 
-      full : in_slot (seven_place 8) ≡ true → Full seven_place (λ x. Live x behind_seven (λ t. ⊥)) 8
+      full : is_slot (seven_place 8) ≡ true → Full seven_place (λ x. Live x behind_seven (λ t. ⊥)) 8
       full h = (
         (2, ((λ e. omega (arith, e)), (inl refl, refl))),
         (
@@ -158,7 +159,7 @@ abbrev in_a_slot : List Place
 in_a_slot = Reg 15 ∷ Reg 14 ∷ Slot 0 ∷ Reg 3 ∷ []
 
 abbrev by_slots : Reading
-by_slots = silent (λ x. in_slot (place_of in_a_slot x))
+by_slots = silent (λ x. is_slot (place_of in_a_slot x))
 
 -- it ends where the call restores the variable, and where the variable lives in a slot
 restored_ends : ends (do_body restoring callee 1 (read_behind (2 ∷ [])) entry at_start) ≡ true

@@ -3,14 +3,14 @@ use Rattle.std.proofs.Common.{◌≡◌, ◌≢◌, ℕ, Bool, true, false, List
 use Rattle.std.specs.Prelude.{nat_eq, ◌||◌, not}
 use Rattle.std.specs.Bool.{MatchBool}
 use Rattle.std.proofs.lemmas.Bool.{ne_eqb}
-use Rattle.sch_word.specs.trees.NumberSets.{has}
+use Rattle.sch_word.specs.trees.NumberSets.{has, without_repeats}
 use Rattle.sch_word.proofs.facts.Booleans.{and_left, and_right, or_left, or_right, not_right, not_true, never_true}
 use Rattle.sch_word.proofs.facts.NumberSets.{has_append}
 use Rattle.sch_control.specs.declared.operation.Member.{Member}
 use Rattle.sch_control.specs.AtomsAndSites.{member_atoms}
 use Rattle.sch_control.specs.Meaning.{binds}
 use Rattle.sch_control.specs.Tree.{Expression, bind, sequence, branch, fix, return, end, save}
-use Rattle.sch_control.specs.Valid.{with_variable, with_members, in_scope_atoms, in_scope, member_variables, bound_in, without_repeats}
+use Rattle.sch_control.specs.Valid.{with_variable, with_members, in_scope_atoms, in_scope, member_variables, bound_in}
 use Rattle.sch_control.specs.flow.Apart.{Around}
 use Rattle.sch_control.specs.flow.Live.{Across, Live, Later}
 use Rattle.sch_paths.proofs.saves.LiveInScope.{Readable, Unbound, live_scope, repeats_left, repeats_right, repeats_apart, one_more, more_scope, outer_scope, binds_is, mentioned}

@@ -2,11 +2,11 @@
 use Rattle.std.proofs.Common.{◌≡◌, ℕ, Bool, true, false, List, [], ◌∷◌, ◌++◌, refl, ap, sym, ◌∙◌}
 use Rattle.std.specs.Prelude.{not, nat_eq, ◌&&◌, ◌||◌, cond}
 use Rattle.std.proofs.lemmas.Bool.{eqb-true, eq-eqb}
-use Rattle.sch_word.specs.trees.NumberSets.{has}
+use Rattle.sch_word.specs.trees.NumberSets.{has, without_repeats}
 use Rattle.sch_word.proofs.facts.Booleans.{and_left, and_right, or_left, or_right, not_left, not_right, not_true, false_true, never_true}
 use Rattle.sch_word.proofs.facts.NumberSets.{has_append}
 use Rattle.sch_control.specs.Tree.{Expression, perform, bind, sequence, branch, fix, call, tail_call, return, end, save}
-use Rattle.sch_control.specs.Valid.{member_variables, bound_in, without_repeats}
+use Rattle.sch_control.specs.Valid.{member_variables, bound_in}
 use Rattle.sch_paths.proofs.saves.LiveInScope.{repeats_left, repeats_right, repeats_apart}
 use Rattle.sch_control.specs.flow.LiveTests.{is_live, Behind}
 use Rattle.sch_regs.specs.PlaceChoice.{around}

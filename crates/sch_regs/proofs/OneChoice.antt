@@ -2,15 +2,15 @@
 use Rattle.std.proofs.Common.{◌≡◌, ◌≢◌, ℕ, suc, ◌<◌, Bool, true, false, List, [], ◌∷◌, ◌++◌, refl, ap, sym, ◌∙◌, inl, inr, ◌⊎◌, arith}
 use Rattle.std.specs.Prelude.{nat_eq, ◌||◌, ◌&&◌, not, cond, filter}
 use Rattle.std.proofs.lemmas.Bool.{eqb-true, eq-eqb, ne_eqb}
-use Rattle.sch_word.specs.trees.NumberSets.{has}
+use Rattle.sch_word.specs.trees.NumberSets.{has, without_repeats}
 use Rattle.sch_word.specs.declared.place.Place.{Place}
 use Rattle.sch_word.specs.declared.place.Place.TheVariants.{Reg, Slot}
 use Rattle.sch_word.specs.values.Registers.{argument_registers}
-use Rattle.sch_word.proofs.facts.Booleans.{and_left, and_right, and_of, or_left, or_right, neither, not_left, not_right, false_true, not_true, never_true}
+use Rattle.sch_word.proofs.facts.Booleans.{and_left, and_right, and_of, or_left, or_right, neither, not_left, not_right, false_true, not_true, never_true, or_around}
 use Rattle.sch_word.proofs.facts.NumberSets.{has_append}
-use Rattle.sch_control.specs.Valid.{without_repeats}
 use Rattle.sch_control.specs.flow.Apart.{EachHas, Alone}
-use Rattle.sch_control.specs.flow.Places.{in_slot}
+use Rattle.sch_word.specs.values.Places.{is_slot}
+use Rattle.sch_word.proofs.facts.Places.{slot_number}
 use Rattle.sch_control.proofs.NumberLists.{has_filter, once_filter}
 use Rattle.sch_control.proofs.VariableLists.{each_at}
 use Rattle.sch_regs.specs.PlaceChoice.{Table, placed, place_in, in_register, slots, held, first_free, choose, choose_each, live_first}
@@ -89,12 +89,8 @@ slot_of n (w ∷ t) h x = by (nat_eq x w.0) (slot_of n t h.1 x) where
   by true k = h.0
   by false k = k
 
-abbrev slot_number : Place → ℕ
-slot_number (Reg r) = 0
-slot_number (Slot k) = k
-
 not_new : (n : ℕ) (p : Place) → Below n p → p ≢ Slot n
-not_new n (Reg r) h e = false_true refl (sym (ap in_slot e))
+not_new n (Reg r) h e = false_true refl (sym (ap is_slot e))
 not_new n (Slot k) h e = let same : k ≡ n = ap slot_number e in absurd (omega (arith, same, h))
 
 -- ## One choice
@@ -107,12 +103,12 @@ chosen_alone live t (r ∷ rs) s x m l = by (held live t r) refl (chosen_alone l
   by true e f g = f
   by false e f g = g e
 
-pub chosen_full : (live : ℕ → Bool) (t : Table) (rs : List ℕ) → without_repeats (placed t) ≡ true → in_slot (first_free live t rs) ≡ true
+pub chosen_full : (live : ℕ → Bool) (t : Table) (rs : List ℕ) → without_repeats (placed t) ≡ true → is_slot (first_free live t rs) ≡ true
     → EachHas (λ r. Holder live t r) rs
 chosen_full live t [] o h = tt
 chosen_full live t (r ∷ rs) o h = by (held live t r) refl (chosen_full live t rs o) (held_some live t r o) h where
-  by : (b : Bool) → held live t r ≡ b → (in_slot (first_free live t rs) ≡ true → EachHas (λ r. Holder live t r) rs)
-      → (held live t r ≡ true → Holder live t r) → in_slot (cond b (first_free live t rs) (Reg r)) ≡ true
+  by : (b : Bool) → held live t r ≡ b → (is_slot (first_free live t rs) ≡ true → EachHas (λ r. Holder live t r) rs)
+      → (held live t r ≡ true → Holder live t r) → is_slot (cond b (first_free live t rs) (Reg r)) ≡ true
       → EachHas (λ r. Holder live t r) (r ∷ rs)
   by true e f g h = (g e, f h)
   by false e f g h = absurd (cc)
@@ -126,7 +122,7 @@ chosen_below live y t s = by (first_free live t argument_registers) (only live t
     cased true p r h = h
     cased false p r h = tt
 
-  by : (p : Place) → Below (suc (slots t)) p → SlotsBelow (cond (in_slot p) (suc (slots t)) (slots t)) ((y, p) ∷ t)
+  by : (p : Place) → Below (suc (slots t)) p → SlotsBelow (cond (is_slot p) (suc (slots t)) (slots t)) ((y, p) ∷ t)
   by (Reg r) h = (tt, s)
   by (Slot k) h = (h, slots_more (slots t) t s)
 
@@ -147,15 +143,9 @@ each_once live (y ∷ ys) t once new o =
 
 -- ## What is in a table
 
-or_moved : (a b c : Bool) → (a || (b || c)) ≡ ((b || a) || c)
-or_moved true true c = refl
-or_moved true false c = refl
-or_moved false true c = refl
-or_moved false false c = refl
-
 pub each_placed : (live : ℕ → Bool) (ys : List ℕ) (t : Table) (x : ℕ) → has x (placed (choose_each live ys t)) ≡ (has x ys || has x (placed t))
 each_placed live [] t x = refl
-each_placed live (y ∷ ys) t x = each_placed live ys (choose live y t) x ∙ or_moved (has x ys) (nat_eq x y) (has x (placed t))
+each_placed live (y ∷ ys) t x = each_placed live ys (choose live y t) x ∙ or_around (nat_eq x y) (has x ys) (has x (placed t))
 
 pub each_kept : (live : ℕ → Bool) (ys : List ℕ) (t : Table) (x : ℕ) → has x ys ≡ false → place_in (choose_each live ys t) x ≡ place_in t x
 each_kept live [] t x n = refl
@@ -229,7 +219,7 @@ module _ (live : ℕ → Bool) (P : ℕ → Place) where
           | inr k ↦ λ e. (each_at (WellBound P (λ x. live x ≡ true)) ys rest x k).0 y (not_false (live y) (λ f. order.0 f x k l)) (λ q. n (sym q)) (sym e)
         ]
       ] in
-      ((alone, λ h. each_full y t y_new ext0 argument_registers (chosen_full live t argument_registers o (ap in_slot (sym py) ∙ h))), rest)
+      ((alone, λ h. each_full y t y_new ext0 argument_registers (chosen_full live t argument_registers o (ap is_slot (sym py) ∙ h))), rest)
     where
       split : (b : Bool) {c : Bool} → b ≡ c → (d : Bool) → (b || d) ≡ true → (b ≡ true) ⊎ (d ≡ true)
       split true e d h = inl refl

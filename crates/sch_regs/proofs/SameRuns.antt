@@ -8,7 +8,8 @@ use Rattle.sch_control.specs.Valid.{in_scope_whole, numbered}
 use Rattle.sch_control.specs.flow.Bare.{erased}
 use Rattle.sch_control.specs.flow.Live.{nothing_later}
 use Rattle.sch_control.specs.flow.Middle.{restoring, silent}
-use Rattle.sch_control.specs.flow.Places.{in_slot, place_of}
+use Rattle.sch_word.specs.values.Places.{is_slot}
+use Rattle.sch_control.specs.flow.Places.{place_of}
 use Rattle.sch_control.specs.flow.Regions.{restores_saved}
 use Rattle.sch_control.specs.flow.RestoredView.{restored}
 use Rattle.sch_paths.specs.Conditions.{Saved}
@@ -33,5 +34,5 @@ module _ (c : Code) (e : Expression) (is : erased e ≡ c.expression) (i : in_sc
 pub keeps_runs : {N : ℕ} (b : RestoredBody N) (e : Expression) → e ≡ restored b.exp → EachSoonRestored (restored b.exp) → (places : List Place)
     → KeepsRuns (restored b.exp) e places
 keeps_runs b e tree r places callee depth environment w =
-    subst (λ z. do_body restoring callee depth (restored b.exp) environment w ≡ do_body (silent (λ x. in_slot (place_of places x))) callee depth z environment w) (sym tree)
-    (same_runs (code_of b) (restored b.exp) refl b.scoped b.numbered b.saved r (λ x. in_slot (place_of places x)) callee depth environment w)
+    subst (λ z. do_body restoring callee depth (restored b.exp) environment w ≡ do_body (silent (λ x. is_slot (place_of places x))) callee depth z environment w) (sym tree)
+    (same_runs (code_of b) (restored b.exp) refl b.scoped b.numbered b.saved r (λ x. is_slot (place_of places x)) callee depth environment w)

@@ -5,11 +5,10 @@ use Rattle.std.specs.Prelude.{◌&&◌}
 use Rattle.std.specs.Bool.{MatchBool}
 use Rattle.std.specs.List.{list_all}
 use Rattle.std.proofs.lemmas.Bool.{or_cases}
-use Rattle.sch_word.specs.trees.NumberSets.{has}
+use Rattle.sch_word.specs.trees.NumberSets.{has, without_repeats}
 use Rattle.sch_word.proofs.facts.Booleans.{and_left, and_right, or_right}
 use Rattle.sch_control.specs.Meaning.{binds, with_region}
 use Rattle.sch_control.specs.Tree.{Expression, perform, bind, sequence, branch, fix, call, tail_call, return, end, save}
-use Rattle.sch_control.specs.Valid.{without_repeats}
 use Rattle.sch_control.specs.flow.Live.{known, ByResult, Across, MayGive, Live, Soon, Later}
 use Rattle.sch_control.specs.flow.Regions.{restores_saved}
 use Rattle.sch_control.proofs.VariableLists.{each_passes, heads_has}

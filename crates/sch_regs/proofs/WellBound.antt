@@ -3,10 +3,10 @@ use Rattle.std.proofs.Common.{◌≡◌, ◌≢◌, ℕ, Bool, true, false, List
 use Rattle.std.specs.Prelude.{nat_eq, ◌||◌, ◌&&◌, not, cond, ◌↔◌}
 use Rattle.std.specs.Bool.{MatchBool}
 use Rattle.std.proofs.lemmas.Bool.{eqb-true, eq-eqb, or_cases}
-use Rattle.sch_word.specs.trees.NumberSets.{has}
+use Rattle.sch_word.specs.trees.NumberSets.{has, without_repeats}
 use Rattle.sch_word.specs.declared.place.Place.{Place}
 use Rattle.sch_word.specs.declared.place.Place.TheVariants.{Reg}
-use Rattle.sch_word.proofs.facts.Booleans.{and_left, and_right, and_of, or_left, or_right, not_left, not_right, not_true, neither, false_true, never_true}
+use Rattle.sch_word.proofs.facts.Booleans.{and_left, and_right, and_of, or_left, or_right, not_left, not_right, not_true, neither, false_true, never_true, or_around}
 use Rattle.sch_word.proofs.facts.NumberSets.{has_append}
 use Rattle.sch_control.specs.Tree.{Expression, perform, bind, sequence, branch, fix, call, tail_call, return, end, save}
 use Rattle.sch_control.specs.Valid.{with_variable, with_members, member_variables, bound_in}
@@ -16,9 +16,7 @@ use Rattle.sch_paths.proofs.saves.LiveInScope.{Readable, outer_scope, repeats_le
 use Rattle.sch_control.specs.flow.LiveTests.{is_live, Behind}
 use Rattle.sch_regs.specs.PlaceChoice.{Table, placed, place_in, slots, choose, choose_each, live_first, around, assign}
 use Rattle.sch_word.specs.values.Registers.{argument_registers}
-use Rattle.sch_control.specs.Valid.{without_repeats}
 use Rattle.sch_control.specs.flow.Apart.{EachHas, EachBinding, Around}
-use Rattle.sch_control.proofs.NumberLists.{or_around}
 use Rattle.sch_control.proofs.VariableLists.{each_at, each_of}
 use Rattle.sch_paths.proofs.paths.LiveTested.{or_is, and_is, differ_is, equal_is, live_test, match_is}
 use Rattle.sch_regs.proofs.InScope.{Sits, Back, reads, bind_first, bind_second, bind_once, bind_apart, back_more, back_bind, seq_first, seq_second, seq_apart, branch_first, branch_second, branch_third, branch_apart, arms_apart, back_branch, fix_inner, fix_apart, members_once, members_read, back_fix, as_return, as_end, as_save}

@@ -4,17 +4,18 @@ use Rattle.std.specs.Prelude.{nat_eq, nat_lt, nat_le, ◌||◌, ◌&&◌, not, c
 use Rattle.std.proofs.lemmas.Bool.{eqb-true, eq-eqb, ne_eqb, or_cases}
 use Rattle.std.proofs.lemmas.Bool.Decides.{nat_tests}
 use Rattle.sch_word.specs.trees.Bindings.{numbers}
-use Rattle.sch_word.specs.trees.NumberSets.{has}
+use Rattle.sch_word.specs.trees.NumberSets.{has, without_repeats}
 use Rattle.sch_word.specs.declared.place.Place.{Place}
 use Rattle.sch_word.specs.declared.place.Place.TheVariants.{Reg, Slot}
 use Rattle.sch_word.proofs.facts.Booleans.{and_left, and_right, and_of, or_left, or_right, not_left, not_right, not_true, false_true, never_true}
 use Rattle.sch_control.specs.declared.body.Entry.{Entry}
 use Rattle.sch_control.specs.Tree.{Expression, Code}
-use Rattle.sch_control.specs.Valid.{Position, positioned, last_position, first_scope, in_scope_whole, numbered, ended, is_bare, first_bound, in_scope, bound_in, without_repeats}
+use Rattle.sch_control.specs.Valid.{Position, positioned, last_position, first_scope, in_scope_whole, numbered, ended, is_bare, first_bound, in_scope, bound_in}
 use Rattle.sch_control.specs.flow.Apart.{EachBinding, Alone, EachBoundAlone, EachPointApart, EnteredAlone}
 use Rattle.sch_control.specs.flow.Bare.{erased}
 use Rattle.sch_control.specs.flow.Live.{Live, nothing_later}
-use Rattle.sch_control.specs.flow.Places.{place_of, in_slot, count_slots, link_place, closure_place, arrival, formals_of, stays, is_usual}
+use Rattle.sch_word.specs.values.Places.{is_slot, link_place, closure_place}
+use Rattle.sch_control.specs.flow.Places.{place_of, count_slots, arrival, formals_of, stays, is_usual}
 use Rattle.sch_control.proofs.NumberLists.{once_from, has_first}
 use Rattle.sch_control.proofs.VariableLists.{each_passes}
 use Rattle.sch_paths.proofs.paths.UnlistedPaths.{positioned_erased}
@@ -133,7 +134,7 @@ count_places f k (suc n) = ap suc (count_places f (suc k) n)
 
 -- a number of slots, one more where a place is one
 abbrev more : Place → ℕ → ℕ
-more p n = cond (in_slot p) (suc n) n
+more p n = cond (is_slot p) (suc n) n
 
 other_slots : (f : ℕ → Place) (y : ℕ) (p : Place) (xs : List ℕ) → has y xs ≡ false → count_slots (map (λ x. cond (nat_eq x y) p (f x)) xs) ≡ count_slots (map f xs)
 other_slots f y p [] h = refl
@@ -146,7 +147,7 @@ more_swap (Reg a) q n = refl
 more_swap (Slot a) (Reg b) n = refl
 more_swap (Slot a) (Slot b) n = refl
 
-one_slot : (f : ℕ → Place) (y : ℕ) (p : Place) → in_slot (f y) ≡ false → (xs : List ℕ) → without_repeats xs ≡ true → has y xs ≡ true
+one_slot : (f : ℕ → Place) (y : ℕ) (p : Place) → is_slot (f y) ≡ false → (xs : List ℕ) → without_repeats xs ≡ true → has y xs ≡ true
     → count_slots (map (λ x. cond (nat_eq x y) p (f x)) xs) ≡ more p (count_slots (map f xs))
 one_slot f y p reg [] o h = absurd (cc)
 one_slot f y p reg (x ∷ xs) o h =
@@ -161,14 +162,14 @@ one_slot f y p reg (x ∷ xs) o h =
           let is : y ≡ x = eqb-true y x e in
           ap (λ b. more (cond b p (f x)) (count_slots (map (λ x. cond (nat_eq x y) p (f x)) xs))) (eq-eqb x y (sym is))
           ∙ (ap (more p) (other_slots f y p xs (ap (λ z. has z xs) is ∙ not_x)
-          ∙ ap (λ b. cond b (suc (count_slots (map f xs))) (count_slots (map f xs))) (sym (ap (λ z. in_slot (f z)) (sym is) ∙ reg))))
+          ∙ ap (λ b. cond b (suc (count_slots (map f xs))) (count_slots (map f xs))) (sym (ap (λ z. is_slot (f z)) (sym is) ∙ reg))))
       by false e h g =
           ap (λ b. more (cond b p (f x)) (count_slots (map (λ x. cond (nat_eq x y) p (f x)) xs))) (ne_eqb x y (λ z. false_true (eq-eqb y x (sym z)) e))
           ∙ (ap (more (f x)) (g h) ∙ more_swap (f x) p (count_slots (map f xs)))
 
-none_in : (t : Table) (y : ℕ) → has y (placed t) ≡ false → in_slot (place_in t y) ≡ false
+none_in : (t : Table) (y : ℕ) → has y (placed t) ≡ false → is_slot (place_in t y) ≡ false
 none_in [] y h = refl
-none_in (w ∷ t) y h = ap (λ b. in_slot (cond b w.1 (place_in t y))) (not_left (nat_eq y w.0) _ h) ∙ none_in t y (not_right (nat_eq y w.0) _ h)
+none_in (w ∷ t) y h = ap (λ b. is_slot (cond b w.1 (place_in t y))) (not_left (nat_eq y w.0) _ h) ∙ none_in t y (not_right (nat_eq y w.0) _ h)
 
 no_slots : (xs : List ℕ) → count_slots (map (place_in []) xs) ≡ 0
 no_slots [] = refl

@@ -2,6 +2,7 @@
 -- first member.
 use Rattle.std.specs.Prelude.{◌≡◌, ℕ, Bool, true, false, not, nat_eq, ◌&&◌, cond, List, [], ◌∷◌}
 use Rattle.sch_word.specs.trees.NumberSets.{has}
+use Rattle.sch_word.specs.values.Options.{first_or_0}
 use Rattle.sch_control.specs.Tree.{Expression, perform, bind, sequence, branch, fix, call, tail_call, return, end, save}
 use Rattle.sch_control.specs.Valid.{member_variables}
 use Rattle.sch_control.specs.flow.LiveTests.{is_live, Behind}
@@ -11,10 +12,6 @@ use Rattle.sch_regs.specs.PlaceChoice.{Table, choose, choose_each, live_first, a
 abbrev pub Noted : Type 0
 Noted = (under : ℕ) → ℕ → Bool
 
-abbrev pub first_variable : List ℕ → ℕ
-first_variable [] = 0
-first_variable (y ∷ ys) = y
-
 -- the places of what an expression binds
 abbrev pub assign_noted : Noted → Expression → Table → Table
 assign_noted noted (perform o) t = t
@@ -23,7 +20,7 @@ assign_noted noted (sequence a b) t = assign_noted noted b (assign_noted noted a
 assign_noted noted (branch a b c) t = assign_noted noted c (assign_noted noted b (assign_noted noted a t))
 assign_noted noted (fix members e) t =
     let ys : List ℕ = member_variables members in
-    assign_noted noted e (choose_each (noted (first_variable ys)) (live_first (noted (first_variable ys)) ys) t)
+    assign_noted noted e (choose_each (noted (first_or_0 ys)) (live_first (noted (first_or_0 ys)) ys) t)
 assign_noted noted (call a restores) t = t
 assign_noted noted (tail_call a) t = t
 assign_noted noted (return e) t = assign_noted noted e t
@@ -41,7 +38,7 @@ IsNoted noted (branch a b c) l =
     IsNoted noted a (λ x r. cond r (is_live x b (l x)) (is_live x c (l x))) × (IsNoted noted b l × IsNoted noted c l)
 IsNoted noted (fix members e) l =
     ((y : ℕ) → has y (member_variables members) ≡ true
-    → (x : ℕ) → noted (first_variable (member_variables members)) x ≡ around members (λ x. is_live x e (l x)) x) × IsNoted noted e l
+    → (x : ℕ) → noted (first_or_0 (member_variables members)) x ≡ around members (λ x. is_live x e (l x)) x) × IsNoted noted e l
 IsNoted noted (call a restores) l = Unit {0}
 IsNoted noted (tail_call a) l = Unit {0}
 IsNoted noted (return e) l = IsNoted noted e (λ x r. nat_eq x 0)

@@ -11,7 +11,8 @@ use Rattle.sch_control.specs.AtomsAndSites.{member_atoms}
 use Rattle.sch_control.specs.Tree.{Expression, perform, bind, sequence, branch, fix, call, tail_call, return, end, save}
 use Rattle.sch_control.specs.Valid.{member_variables}
 use Rattle.sch_control.specs.flow.Live.{named}
-use Rattle.sch_control.specs.flow.Places.{in_slot, link_place, closure_place, arrival, formals_of}
+use Rattle.sch_word.specs.values.Places.{is_slot, link_place, closure_place}
+use Rattle.sch_control.specs.flow.Places.{arrival, formals_of}
 use Rattle.sch_control.specs.flow.LiveTests.{is_live, Behind}
 
 -- ## Tables
@@ -32,7 +33,7 @@ place_in (w ∷ t) x = cond (nat_eq x w.0) w.1 (place_in t x)
 -- how many of them have a slot
 abbrev pub slots : Table → ℕ
 slots [] = 0
-slots (w ∷ t) = cond (in_slot w.1) (suc (slots t)) (slots t)
+slots (w ∷ t) = cond (is_slot w.1) (suc (slots t)) (slots t)
 
 -- the places of the first `count` variables, in the order of their numbers
 abbrev pub in_order : (count : ℕ) → Table → List Place

@@ -6,7 +6,8 @@ ghost use Rattle.std.specs.List.{list_all};
 ghost use Rattle.sch_control.specs.Valid.{member_variables};
 ghost use Rattle.sch_control.specs.flow.Reads.{VariablesBelow};
 ghost use Rattle.sch_control.specs.flow.RestoredView.{restored};
-ghost use Rattle.sch_regs.specs.NotedSets.{assign_noted, first_variable};
+ghost use Rattle.sch_word.specs.values.Options.{first_or_0};
+ghost use Rattle.sch_regs.specs.NotedSets.{assign_noted};
 ghost use Rattle.sch_regs.specs.PlaceChoice as table;
 ghost use Rattle.sch_regs.specs.SetsAsTests.{noted_in};
 ghost use Rattle.sch_regs.specs.Shows.{Becomes, choose_all, choose_wanted};
@@ -68,7 +69,7 @@ fn choose_group<const N: usize>(
     requires fits { length noted.now ≤ 64 * N }
     requires below { list_all (λ x. nat_lt x (length noted.now)) (member_variables members.now) ≡ true }
     ensures { Becomes placing.old placing.new
-        (choose_all (noted_in noted.now (first_variable (member_variables members.now))) (member_variables members.now)) }
+        (choose_all (noted_in noted.now (first_or_0 (member_variables members.now))) (member_variables members.now)) }
 {
     match members.get(0) {
         Some(m) => {

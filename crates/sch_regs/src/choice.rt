@@ -4,7 +4,7 @@ ghost use Rattle.std.specs.Prelude.{◌≡◌, ◌*◌, ◌+◌, ◌<◌, ◌^�
 ghost use Rattle.std.specs.FinSet as set;
 ghost use Rattle.sch_word.specs.declared.place.Place.TheVariants.{Reg};
 ghost use Rattle.sch_word.specs.values.Registers.{argument_registers};
-ghost use Rattle.sch_control.specs.flow.Places.{in_slot};
+ghost use Rattle.sch_word.specs.values.Places.{is_slot};
 ghost use Rattle.sch_regs.specs.PlaceChoice as table;
 ghost use Rattle.sch_regs.specs.Shows.{Becomes, IsHeld, ShowsAll};
 
@@ -89,7 +89,7 @@ fn set_place(places: &mut Vec<Place>, y: u32, p: Place)
 
 // One slot more, where a place is one.
 fn count_slot(slots: u32, p: Place) -> u32
-    ensures { cond (in_slot p) (slots + 1) slots < 2 ^ 32 → result ≡ cond (in_slot p) (slots + 1) slots }
+    ensures { cond (is_slot p) (slots + 1) slots < 2 ^ 32 → result ≡ cond (is_slot p) (slots + 1) slots }
 {
     match p {
         Place::Reg(_) => slots,

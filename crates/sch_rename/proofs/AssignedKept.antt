@@ -7,7 +7,8 @@ use Rattle.sch_lang.proofs.Environments.{cells_of_more}
 use Rattle.sch_rename.specs.Made.{number_at, binds, binds_each, binds_lambdas, renamed, renamed_each, renamed_lambdas}
 use Rattle.sch_lang.specs.InScope.{InScope, EachInScope, LambdasInScope}
 use Rattle.sch_word.specs.trees.Bindings.{scope_with}
-use Rattle.sch_rename.proofs.Scopes.{Falls, falls_more, falls_with, with_length, inside, same_at, or_same}
+use Rattle.sch_word.proofs.facts.Booleans.{or_same}
+use Rattle.sch_rename.proofs.Scopes.{Falls, falls_more, falls_with, with_length, inside, same_at}
 
 at_deeper : (x m : ℕ) (s : List ℕ) (j : ℕ) → number_at (scope_with x m s) (j + m) ≡ number_at s j
 at_deeper x zero s j = let e : j + zero ≡ j = omega arith in ap (number_at s) e

@@ -6,7 +6,8 @@ use Rattle.sch_lang.specs.Tree.{Expression, Expressions, Lambdas, Source, consta
 use Rattle.sch_lang.specs.Variables.{assigns}
 use Rattle.sch_lang.specs.Meaning.{onto}
 use Rattle.sch_lang.proofs.Environments.{onto_more}
-use Rattle.sch_lang.specs.Measures.{variables, variables_each, variables_operands, variables_parts, onto_assigned, onto_all, bound_count, three_each, counts_nothing, one_unless, procedure, procedures}
+use Rattle.sch_word.specs.trees.VariableCounts.{three_each, one_unless}
+use Rattle.sch_lang.specs.Measures.{variables, variables_each, variables_operands, variables_parts, onto_assigned, onto_all, bound_count, counts_nothing, procedure, procedures}
 use Rattle.sch_lang.specs.Bodies.{form, bodies, bodies_each, bodies_lambdas, bodies_forms, bodies_of}
 use Rattle.sch_word.proofs.facts.Lists.{append_same, cons_same}
 use Rattle.sch_cells.specs.Bodies as to
@@ -80,7 +81,7 @@ all_fits {s} {once} {once'} x m b f h = rw (all_onto m b once) (fits_with x m (t
 
 -- ## The counts
 
-nothing_kept : (e : Expression) (s : List ℕ) (x : ℕ) {once : List Bool} {once' : Bindings Bool} → InScope e (length s) → Fits s once once' → to.one_unless (to.counts_nothing (renamed e s x) once') ≡ one_unless (counts_nothing e once)
+nothing_kept : (e : Expression) (s : List ℕ) (x : ℕ) {once : List Bool} {once' : Bindings Bool} → InScope e (length s) → Fits s once once' → one_unless (to.counts_nothing (renamed e s x) once') ≡ one_unless (counts_nothing e once)
 nothing_kept (constant c) s x i h = refl
 nothing_kept (literal n) s x i h = refl
 nothing_kept (local k) s x {once} {once'} i h = rw (h.at k i) refl
@@ -96,10 +97,6 @@ nothing_kept (letrec site es e) s x i h = refl
 nothing_kept (lambda name m rest e) s x i h = refl
 nothing_kept (call site g es) s x i h = refl
 nothing_kept (operation site which es) s x i h = refl
-
-same_three : (m : ℕ) → to.three_each m ≡ three_each m
-same_three zero = refl
-same_three (suc m) = ap (λ n. 3 + n) (same_three m)
 
 mutual
   variables_kept : (e : Expression) (s : List ℕ) (x : ℕ) {once : List Bool} {once' : Bindings Bool} → Falls s x → InScope e (length s) → Fits s once once' → to.variables (renamed e s x) once' ≡ variables e once
@@ -133,7 +130,6 @@ mutual
       let t = scope_with x m s in
       rw (
         counts es t (x + m),
-        same_three m,
         each_kept es t (x + m) (falls_with x m s f) (inside x m s (EachInScope es) i.0) (all_fits x m false f h),
         variables_kept e t (x + m + binds_each es) (falls_more t (x + m) _ (omega arith) (falls_with x m s f)) (inside x m s (InScope e) i.1) (all_fits x m false f h),
       ) refl

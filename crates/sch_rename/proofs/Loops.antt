@@ -1,20 +1,20 @@
 -- What loops over expressions and lambdas have made and have left.
-use Rattle.std.proofs.Common.{◌≡◌, ℕ, zero, suc, ◌+◌, ◌-◌, ◌<◌, ◌≤◌, List, [], ◌∷◌, ◌++◌, length, map, reverse, drop, get_or, refl, ap, ◌∙◌, sym, subst, arith, add-one}
+use Rattle.std.proofs.Common.{◌≡◌, ℕ, zero, suc, ◌+◌, ◌-◌, ◌<◌, ◌≤◌, List, [], ◌∷◌, ◌++◌, length, reverse, drop, get_or, refl, ap, ◌∙◌, sym, subst, arith, add-one}
 use Rattle.std.proofs.lemmas.List.{get_or-reverse, reverse-append}
 use Rattle.sch_lang.specs.declared.tree.Exp.{Exp}
 use Rattle.sch_lang.specs.declared.tree.Lambda.{Lambda}
-use Rattle.sch_lang.specs.Tree.{Expressions, Lambdas, Source, expressions, lambdas, count}
+use Rattle.sch_lang.specs.Tree.{Lambdas, Source, count}
 use Rattle.sch_lang.specs.View.{expression, expressions_of, lambdas_of, function}
-use Rattle.sch_lang.proofs.ListViews.{expressions_of_list, lambdas_of_list}
+use Rattle.sch_lang.proofs.ListViews.{expressions_of_list, lambdas_of_list, left, left_lambdas}
 use Rattle.sch_word.specs.declared.statics.Statics as declared
 use Rattle.sch_word.specs.values.StaticsView.{statics}
 use Rattle.sch_cells.specs.SourceView.{source_of}
 use Rattle.sch_cells.specs.declared.tree.Exp as to
 use Rattle.sch_cells.specs.declared.tree.Lambda as to_lambda
 use Rattle.sch_cells.specs.Tree as cells
-use Rattle.sch_cells.specs.Tree.{Trees, no_trees, and_tree, trees, no_lambdas, and_lambda}
+use Rattle.sch_cells.specs.Tree.{Trees, no_trees, no_lambdas, and_lambda}
 use Rattle.sch_cells.specs.View.{tree, trees_of, function as cells_function, lambdas_of as cells_lambdas_of}
-use Rattle.sch_cells.proofs.Rows.{trees_of_list, lambdas_of_list as cells_lambdas_of_list}
+use Rattle.sch_cells.proofs.Rows.{and_then, and_then_lambda, trees_onto, lambdas_onto}
 use Rattle.sch_rename.specs.Made.{number_at, binds, binds_each, binds_lambdas, renamed, renamed_each, renamed_function, renamed_lambdas, renamed_source}
 use Rattle.sch_lang.specs.InScope.{EachInScope, LambdasInScope}
 use Rattle.sch_word.specs.trees.Bindings.{scope_with}
@@ -34,37 +34,10 @@ variables_step s r x m n e h = rw (reverse-append s (x ∷ []), add-one) (rw e a
 
 -- ## The lists that loops make
 
-abbrev pub and_then : to.Exp → Trees → Trees
-and_then q rest = and_tree (tree q) rest
-
-abbrev pub and_then_lambda : to_lambda.Lambda → cells.Lambdas → cells.Lambdas
-and_then_lambda q rest = and_lambda q.name q.first q.formals q.rest (tree q.body) rest
-
-onto_trees : (qs : List to.Exp) → trees (map tree qs) ≡ onto and_then qs no_trees
-onto_trees [] = refl
-onto_trees (q ∷ qs) = ap (and_tree (tree q)) (onto_trees qs)
-
-pub trees_onto : (qs : List to.Exp) → trees_of qs ≡ onto and_then qs no_trees
-trees_onto qs = trees_of_list qs ∙ onto_trees qs
-
-onto_lambdas : (qs : List to_lambda.Lambda) → cells.lambdas (map cells_function qs) ≡ onto and_then_lambda qs no_lambdas
-onto_lambdas [] = refl
-onto_lambdas (q ∷ qs) = ap (and_then_lambda q) (onto_lambdas qs)
-
-pub lambdas_onto : (qs : List to_lambda.Lambda) → cells_lambdas_of qs ≡ onto and_then_lambda qs no_lambdas
-lambdas_onto qs = cells_lambdas_of_list qs ∙ onto_lambdas qs
-
 -- ## The turns
 
 pub then_same : {a b c : List ℕ} → a ≡ b → b ≡ c → a ≡ c
 then_same p q = p ∙ q
-
--- what is left of a list, as trees
-abbrev pub left : List Exp → Expressions
-left es = expressions (map expression es)
-
-abbrev pub left_lambdas : List Lambda → Lambdas
-left_lambdas ls = lambdas (map function ls)
 
 module _ (s : List ℕ) (items : List Exp) (i : ℕ) (all : List to.Exp) (e : Exp) (q : to.Exp) (x y total : ℕ) (whole : Trees) (l : i < length items) (is : e ≡ get_or items i e) where
   pub each_made : tree q ≡ renamed (expression e) s x → y ≡ x + binds (expression e) →

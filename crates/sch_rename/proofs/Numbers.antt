@@ -1,32 +1,25 @@
 -- The numbers that are given: each once, all below the next one, and bound where they are used.
 use Rattle.std.proofs.Common.{◌≡◌, ℕ, zero, suc, ◌+◌, ◌<◌, ◌≤◌, Bool, true, false, List, [], ◌∷◌, ◌++◌, length, refl, ap, arith}
-use Rattle.std.specs.Prelude.{IsTrue, ◌||◌, not, nat_eq}
+use Rattle.std.specs.Prelude.{IsTrue, ◌||◌, nat_eq}
 use Rattle.std.proofs.lemmas.Bool.{lt-ltb}
-use Rattle.sch_word.specs.trees.NumberSets.{has}
+use Rattle.sch_word.specs.trees.NumberSets.{has, without_repeats}
 use Rattle.sch_lang.specs.Tree.{Expression, Expressions, Lambdas, Source, constant, literal, local, global, set_local, set_global, define, branch, sequence, bind, fix, letrec, lambda, call, operation, no_expressions, and_expression, no_lambdas, and_lambda, count, count_lambdas}
 use Rattle.sch_word.specs.trees.Bindings.{numbers, scope_with}
-use Rattle.sch_cells.specs.Variables.{bound, bound_each, bound_lambdas, closed, closed_each, closed_lambdas, distinct, below}
+use Rattle.sch_cells.specs.Variables.{bound, bound_each, bound_lambdas, closed, closed_each, closed_lambdas, below}
 use Rattle.sch_rename.specs.Made.{number_at, binds, binds_each, binds_lambdas, renamed, renamed_each, renamed_lambdas}
 use Rattle.sch_lang.specs.InScope.{InScope, EachInScope, LambdasInScope}
 use Rattle.sch_rename.proofs.Scopes.{inside}
 use Rattle.sch_word.proofs.Shaped.{both_true}
 use Rattle.sch_rename.proofs.FreeKept.{counts, counts_lambdas}
 use Rattle.sch_word.proofs.facts.NumberTests.{same}
-use Rattle.sch_word.proofs.facts.NumberSets.{below_numbers}
+use Rattle.sch_word.proofs.facts.NumberSets.{below_numbers, numbers_joined}
 use Rattle.sch_word.proofs.facts.Booleans.{is_not_true}
 
 -- ## Each number once
 
-numbers_on : (x m n : ℕ) → numbers x m ++ numbers (x + m) n ≡ numbers x (m + n)
-numbers_on x zero n = let e : x + 0 ≡ x = omega arith in let d : 0 + n ≡ n = omega arith in rw (e, d) refl
-numbers_on x (suc m) n =
-    let e : x + suc m ≡ suc x + m = omega arith in
-    let d : suc m + n ≡ suc (m + n) = omega arith in
-    rw (e, d) (ap (λ l. x ∷ l) (numbers_on (suc x) m n))
-
 -- one list of numbers after another
 on : {A B : List ℕ} (x m n y : ℕ) → y ≡ x + m → A ≡ numbers x m → B ≡ numbers y n → A ++ B ≡ numbers x (m + n)
-on x m n y e p q = rw (p, q, e) (numbers_on x m n)
+on x m n y e p q = rw (p, q, e) (numbers_joined x m n)
 
 -- three of them
 on_three : {A B C : List ℕ} (x a b c y z : ℕ) → y ≡ x + a → z ≡ x + a + b → A ≡ numbers x a → B ≡ numbers y b → C ≡ numbers z c → A ++ (B ++ C) ≡ numbers x (a + b + c)
@@ -68,7 +61,7 @@ mutual
 pub program_bound : (p : Source) → bound_lambdas (renamed_lambdas p.library [] 0) ++ bound_each (renamed_each p.forms [] (binds_lambdas p.library)) ≡ numbers 0 (binds_lambdas p.library + binds_each p.forms)
 program_bound p = on 0 (binds_lambdas p.library) (binds_each p.forms) _ (omega arith) (lambdas_bound p.library [] 0) (each_bound p.forms [] _)
 
-pub numbers_distinct : (x n : ℕ) → IsTrue (distinct (numbers x n))
+pub numbers_distinct : (x n : ℕ) → IsTrue (without_repeats (numbers x n))
 numbers_distinct x zero = refl
 numbers_distinct x (suc n) = both_true (is_not_true _ (below_numbers x (suc x) n (omega arith))) (numbers_distinct (suc x) n)
 

@@ -1,6 +1,6 @@
 -- Scopes of numbers, and sets of variables seen through them.
 use Rattle.std.proofs.Common.{◌≡◌, ℕ, zero, suc, ◌+◌, ◌<◌, Bool, true, false, List, [], ◌∷◌, length, map, refl, ap, ◌∙◌, subst, arith}
-use Rattle.std.specs.Prelude.{nat_eq, ◌||◌}
+use Rattle.std.specs.Prelude.{nat_eq}
 use Rattle.std.proofs.lemmas.Bool.{eqb-true}
 use Rattle.sch_word.specs.trees.NumberSets.{has, unless, insert, union}
 use Rattle.sch_lang.specs.Variables.{outside_one, outside}
@@ -8,6 +8,7 @@ use Rattle.sch_rename.specs.Made.{number_at}
 use Rattle.sch_word.specs.trees.Bindings.{scope_with, remove, without}
 use Rattle.sch_word.proofs.facts.NumberTests.{below_differs, same as self}
 use Rattle.sch_word.proofs.facts.NumberSets.{Under, union_under}
+use Rattle.sch_word.proofs.facts.Booleans.{or_same}
 
 -- a scope of numbers that fall from the nearest on, all below x
 abbrev pub Falls : List ℕ → ℕ → Type 0
@@ -50,9 +51,6 @@ same_at s x k j f l r = go (nat_eq k j) refl (nat_eq (number_at s k) (number_at 
     go false e false g = refl
     go true e false g = absurd (let q : k ≡ j = eqb-true k j e in let r : nat_eq (number_at s k) (number_at s j) ≡ true = rw q (self (number_at s j)) in cc)
     go false e true g = absurd (let q : k ≡ j = at_same s x k j f l r (eqb-true (number_at s k) (number_at s j) g) in let r : nat_eq k j ≡ true = rw q (self j) in cc)
-
-pub or_same : {a b c d : Bool} → a ≡ c → b ≡ d → (a || b) ≡ (c || d)
-or_same p q = rw (p, q) refl
 
 -- ## Sets
 

@@ -8,15 +8,16 @@ use Rattle.std.proofs.lemmas.Bool.{eqb-true}
 use Rattle.sch_sets.specs.Members.{NumberSet}
 use Rattle.sch_sets.proofs.Membership.{contains-empty, contains-intersection, contains-remove, contains-union}
 use Rattle.sch_word.specs.trees.Bindings.{numbers}
-use Rattle.sch_word.specs.trees.NumberSets.{has, unless}
-use Rattle.sch_word.proofs.facts.Booleans.{and_left, and_of, or_swap, or_false}
+use Rattle.sch_word.specs.trees.NumberSets.{has, unless, without_repeats}
+use Rattle.sch_word.proofs.facts.Booleans.{and_left, or_swap, or_false, not_either}
+use Rattle.sch_word.proofs.facts.Lists.{all_passing}
 use Rattle.sch_control.specs.declared.operation.Application.{Application}
 use Rattle.sch_control.specs.declared.operation.Atom.{Atom}
 use Rattle.sch_control.specs.declared.operation.Member.{Member}
 use Rattle.sch_control.specs.AtomsAndSites.{member_atoms}
 use Rattle.sch_control.specs.Meaning.{among, binds, heads}
 use Rattle.sch_control.specs.Tree.{Expression, bind, sequence, branch, fix, call, return, end, save}
-use Rattle.sch_control.specs.Valid.{member_variables, without_repeats}
+use Rattle.sch_control.specs.Valid.{member_variables}
 use Rattle.sch_control.specs.flow.Live.{named}
 use Rattle.sch_control.specs.flow.LiveTests.{behind, is_soon, Behind}
 use Rattle.sch_control.specs.flow.Reads.{IsWith}
@@ -26,14 +27,6 @@ use Rattle.sch_control.proofs.VariableLists.{among_is}
 use Rattle.sch_restores.specs.Restores.{eager, wanted}
 
 -- ## What a call restores
-
--- what passes a test passes a weaker one
-pub all_passing : (f p : ℕ → Bool) (xs : List ℕ) → ((x : ℕ) → f x ≡ true → p x ≡ true) → list_all p (filter f xs) ≡ true
-all_passing f p [] h = refl
-all_passing f p (x ∷ xs) h = by (f x) refl (all_passing f p xs h) where
-  by : (t : Bool) → f x ≡ t → list_all p (filter f xs) ≡ true → list_all p (cond t (x ∷ filter f xs) (filter f xs)) ≡ true
-  by true e rest = and_of (p x) _ (h x e) rest
-  by false e rest = rest
 
 pub once_first : (f : ℕ → Bool) (n : ℕ) → without_repeats (filter f (numbers 0 n)) ≡ true
 once_first f n = once_filter f (numbers 0 n) (once_from 0 n)
@@ -162,14 +155,8 @@ module _ (n : ℕ) (inside : ℕ → Bool) (s : Behind) where
 
 -- ## What is bound
 
-both_out : (p q r : Bool) → (not p && (not q && r)) ≡ (not (q || p) && r)
-both_out true true r = refl
-both_out true false r = refl
-both_out false true r = refl
-both_out false false r = refl
-
 then_out : (a b : Expression) (u v w : NumberSet) → IsUnbound u v b → IsUnbound v w a → (x : ℕ) → set.contains w x ≡ (not (binds x b || binds x a) && set.contains u x)
-then_out a b u v w h k x = k x ∙ (ap (λ z. not (binds x a) && z) (h x) ∙ both_out (binds x a) (binds x b) (set.contains u x))
+then_out a b u v w h k x = k x ∙ (ap (λ z. not (binds x a) && z) (h x) ∙ not_either (binds x b) (binds x a) (set.contains u x))
 
 pub sequence_unbound : (a b : Expression) (u v w : NumberSet) → IsUnbound u v b → IsUnbound v w a → IsUnbound u w (sequence a b)
 sequence_unbound a b u v w h k x = then_out a b u v w h k x ∙ ap (λ z. not z && set.contains u x) (or_swap (binds x b) (binds x a))
@@ -196,7 +183,7 @@ pub fix_unbound : (members : List (Member ℕ)) (e : Expression) (u v w : Number
 fix_unbound members e u v w h k x =
     k x ∙ (ap (λ z. not (has x (member_variables members)) && z) (h x)
     ∙ (ap (λ z. not z && (not (binds x e) && set.contains u x)) (sym (among_is x members))
-    ∙ (both_out (among x members) (binds x e) (set.contains u x) ∙ ap (λ z. not z && set.contains u x) (or_swap (binds x e) (among x members)))))
+    ∙ (not_either (binds x e) (among x members) (set.contains u x) ∙ ap (λ z. not z && set.contains u x) (or_swap (binds x e) (among x members)))))
 
 -- ## Regions
 

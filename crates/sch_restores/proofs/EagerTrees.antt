@@ -5,12 +5,13 @@ use Rattle.std.specs.Bool.{MatchBool}
 use Rattle.std.specs.List.{list_all}
 use Rattle.std.proofs.Math.Path.{fun_ext}
 use Rattle.std.proofs.lemmas.Bool.Decides.{nat_tests}
-use Rattle.sch_word.specs.trees.NumberSets.{has}
+use Rattle.sch_word.specs.trees.NumberSets.{has, without_repeats}
 use Rattle.sch_word.specs.trees.Bindings.{numbers}
 use Rattle.sch_word.proofs.facts.Booleans.{and_left, and_right, and_of}
+use Rattle.sch_word.proofs.facts.Lists.{all_passing}
 use Rattle.sch_control.specs.Meaning.{plain, do_body, no_region, with_region}
 use Rattle.sch_control.specs.Tree.{Expression, perform, bind, sequence, branch, fix, call, tail_call, return, end, save, Code}
-use Rattle.sch_control.specs.Valid.{in_scope_whole, numbered, without_repeats}
+use Rattle.sch_control.specs.Valid.{in_scope_whole, numbered}
 use Rattle.sch_control.specs.flow.Bare.{unlisted, erased}
 use Rattle.sch_control.specs.flow.Live.{Across, MayGive, Live, Soon, Later, nothing_later}
 use Rattle.sch_control.specs.flow.LiveSets.{LiveSets, HasLiveSets}
@@ -30,7 +31,7 @@ use Rattle.sch_paths.proofs.runs.SameWithoutMarks.{silently}
 use Rattle.sch_paths.proofs.saves.ListedBelow.{ListsBelow, body_below}
 use Rattle.sch_paths.proofs.saves.SavedAndRestored.{all_restored, eager_between}
 use Rattle.sch_restores.specs.Restores.{eager, eagerly_restored, wanted, RestoresSuffice}
-use Rattle.sch_restores.proofs.EagerSteps.{all_passing, once_first}
+use Rattle.sch_restores.proofs.EagerSteps.{once_first}
 
 module _ (n : ℕ) where
   -- ## The tree is the same but for what is listed at calls

@@ -1,9 +1,10 @@
 -- All routines are what an `Asm` may have, and what `resolve` joins to a program.
 use Rattle.std.proofs.Common.{◌≡◌, ℕ, ◌+◌, ◌-◌, ◌≤◌, List, [], ◌∷◌, ◌++◌, Bool, true, false, refl, arith, ◌∙◌}
 use Rattle.std.specs.List.{AllByRecursion, list_all}
-use Rattle.std.specs.Prelude.{All, IsTrue, nat_le, nat_lt, ◌||◌, ◌&&◌}
+use Rattle.std.specs.Prelude.{All, IsTrue, ◌||◌}
 use Rattle.std.proofs.lemmas.Bool.{and_from, and_parts, leb-true}
 use Rattle.std.proofs.lemmas.List.Elements.{All-from_recursion}
+use Rattle.sch_word.specs.trees.NumberSets.{has}
 use Rattle.sch_word.specs.declared.stop.Stop.TheVariants.{WrongType, OutOfRange, NotProcedure, WrongCount, DivideByZero, Overflow, HeapLimit, DepthLimit, Unset, OutputFailed}
 use Rattle.sch_asm.specs.declared.item.Item.{Item}
 use Rattle.sch_asm.specs.declared.routine.LeftOver.TheVariants.{FromFirst, FromSecond, FromThird, FromFourth, FromFifth, FromSixth, InSlots}
@@ -11,7 +12,7 @@ use Rattle.sch_asm.specs.declared.routine.Routine.{Routine}
 use Rattle.sch_asm.specs.declared.routine.Routine.TheVariants.{End, Stop, Put, PutFixnum, FillWords, FillBytes, PutValue, NewVector, NewString, NewList}
 use Rattle.sch_asm.specs.Codes.{text_size}
 use Rattle.sch_asm.specs.Effects.{AreEffective}
-use Rattle.sch_asm.specs.Items.{AreItems, AreKnown, AreRoutines, IsEachOnce, is_among, is_routine, labels_in, marks_arrive, uses_in, word_uses}
+use Rattle.sch_asm.specs.Items.{AreItems, AreKnown, AreRoutines, IsEachOnce, is_inner, is_routine, labels_in, marks_arrive, uses_in, word_uses}
 use Rattle.sch_asm.specs.Narrow.{is_narrow_item, narrowed}
 use Rattle.sch_asm.specs.Routines.{label_of}
 use Rattle.sch_asm.proofs.NarrowItems.{all_narrow, narrowed_marked, narrowed_size, narrowed_sound}
@@ -45,19 +46,19 @@ pub all_known : (heap_end : ℕ) → AreKnown (all_routines heap_end) []
 all_known heap_end =
     let labels = labels_in (all_routines heap_end) in
     let uses = uses_in (all_routines heap_end) ++ word_uses [] in
-    let known : ℕ → Bool = λ l. is_routine l || is_among labels l in
+    let known : ℕ → Bool = λ l. is_routine l || has l labels in
     All-from_recursion (λ l. IsTrue (known l)) uses (says known uses refl)
 
 pub all_joined : (heap_end : ℕ) → AreRoutines (all_routines heap_end) [] 0
 all_joined heap_end = record {
   complete = complete;
-  others = All-from_recursion (λ l. IsTrue (is_routine l || (nat_le 64 l && nat_lt l 1024))) (labels_in (all_routines heap_end))
-      (says (λ l. is_routine l || (nat_le 64 l && nat_lt l 1024)) (labels_in (all_routines heap_end)) refl);
+  others = All-from_recursion (λ l. IsTrue (is_routine l || is_inner l)) (labels_in (all_routines heap_end))
+      (says (λ l. is_routine l || is_inner l) (labels_in (all_routines heap_end)) refl);
   no_words = refl;
   no_zeros = refl;
 }
   where
-    complete : (k : Routine) → IsTrue (is_among (labels_in (all_routines heap_end)) (label_of k))
+    complete : (k : Routine) → IsTrue (has (label_of k) (labels_in (all_routines heap_end)))
     complete End = refl
     complete (Stop WrongType) = refl
     complete (Stop OutOfRange) = refl

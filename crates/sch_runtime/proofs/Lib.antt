@@ -8,6 +8,7 @@ pub mod PutBytes
 pub mod FillLoop
 pub mod Effective
 pub mod RoutineItems
+mod EachRegister
 pub mod AllForms
 pub mod AllItems
 mod Examples

@@ -10,7 +10,8 @@ use Rattle.sch_word.specs.declared.answer.Answer.{Answer}
 use Rattle.sch_word.specs.declared.answer.Answer.TheVariants.{Took, Failed}
 use Rattle.sch_insn.specs.declared.insn.Arg.TheVariants.{Reg}
 use Rattle.sch_insn.specs.declared.insn.Insn.TheVariants.{MovNumber, AddTo, SubTo, CmpNumber8, Syscall}
-use Rattle.sch_insn.specs.Machine.{set_register, add64, sub64, difference_of, sum_of, unknown_flags, condition, head_or_0}
+use Rattle.sch_word.specs.values.Options.{first_or_0}
+use Rattle.sch_insn.specs.Machine.{set_register, add64, sub64, difference_of, sum_of, unknown_flags, condition}
 use Rattle.sch_insn.specs.Step.{Runs, answered, rest_of, write_row, piece_written}
 use Rattle.sch_insn.proofs.Paths.{leads_then, leads_on}
 use Rattle.sch_insn.specs.declared.register.TheConstants.{RAX, RCX, RDX, RSI, RDI, R11}
@@ -62,7 +63,7 @@ module _ (setting : Setting) where
   -- the view after a write
   abbrev wrote : View → ℕ → ℕ → List ℕ → List Answer → View
   wrote x next rax taken left = record x {
-    registers = set_register (set_register (set_register x.registers RAX rax) RCX (head_or_0 x.spare)) R11 (head_or_0 (rest_of x.spare));
+    registers = set_register (set_register (set_register x.registers RAX rax) RCX (first_or_0 x.spare)) R11 (first_or_0 (rest_of x.spare));
     flags = unknown_flags;
     place = next;
     output = x.output ++ taken;

@@ -10,11 +10,11 @@ ghost use Rattle.sch_select_memory.specs.RestCode.{list_label, more_code, regist
 
 use sch_asm::Item;
 use sch_insn::condition::{A, E, NE};
-use sch_insn::register::{R8, R9, R10, R11, R12, RAX, RBP, RBX, RCX, RDI, RDX, RSI};
+use sch_insn::register::{R11, R12, RAX, RBP, RCX, RDX};
 use sch_insn::{Arg, Insn};
 use sch_select_memory::addresses::{DATA_OFFSET, FIRST_IN_SLOT, heap_offset, list_label, stop};
 use sch_select_memory::word::{NIL, PAIR};
-use sch_word::{List, Mem, Stop};
+use sch_word::{ARGUMENT_REGISTERS, List, Mem, Stop};
 
 // The labels inside the routine, most of them numbered by the operands in front.
 const REST_LABEL: u32 = 81;
@@ -74,17 +74,15 @@ fn first_list(out: &mut List<Item>, heap_end: u32, m: u32, r: u8) -> Result<(), 
     first_register(out, m, r)
 }
 
-/// The six ways into the routine with the first operand in a register.
+/// The ways into the routine with the first operand in a register, one for each of them.
 fn first_lists(out: &mut List<Item>, heap_end: u32) -> Result<(), Mem>
     requires { heap_end ≤ max_heap_end }
     ensures { OnOk result ((rest : List Item) → out.new ++ rest ≡ out.old ++ firsts_code heap_end 0 argument_registers rest) }
 {
-    first_list(out, heap_end, 0, RBX)?;
-    first_list(out, heap_end, 1, R8)?;
-    first_list(out, heap_end, 2, R9)?;
-    first_list(out, heap_end, 3, R10)?;
-    first_list(out, heap_end, 4, RSI)?;
-    first_list(out, heap_end, 5, RDI)
+    for m in 0..FIRST_IN_SLOT {
+        first_list(out, heap_end, m, ARGUMENT_REGISTERS[m as usize])?;
+    }
+    Ok(())
 }
 
 /// The way into the routine with all operands in slots: RCX has the address of the first one.
@@ -140,11 +138,10 @@ fn more(out: &mut List<Item>, m: u32, r: u8) -> Result<(), Mem>
 fn mores(out: &mut List<Item>) -> Result<(), Mem>
     ensures { OnOk result ((rest : List Item) → out.new ++ rest ≡ out.old ++ registers_code 1 later_registers rest) }
 {
-    more(out, 1, R8)?;
-    more(out, 2, R9)?;
-    more(out, 3, R10)?;
-    more(out, 4, RSI)?;
-    more(out, 5, RDI)
+    for m in 1..FIRST_IN_SLOT {
+        more(out, m, ARGUMENT_REGISTERS[m as usize])?;
+    }
+    Ok(())
 }
 
 /// The operands in slots, and the end of the list.

@@ -2,12 +2,12 @@
 use Rattle.std.proofs.Common.{◌≡◌, ℕ, ◌<◌, Bool, true, false, List, [], ◌∷◌, Option, Some, None, refl, ap, sym, ◌∙◌, subst, inl, inr, ◌⊎◌, arith}
 use Rattle.std.specs.Prelude.{nat_lt, ◌||◌, ◌&&◌, not, filter}
 use Rattle.std.proofs.lemmas.Bool.Decides.{nat_tests}
-use Rattle.sch_word.specs.trees.NumberSets.{has}
+use Rattle.sch_word.specs.trees.NumberSets.{has, without_repeats}
 use Rattle.sch_word.specs.trees.Bindings.{numbers}
 use Rattle.sch_word.proofs.facts.Booleans.{and_left, and_right, and_of, not_true}
 use Rattle.sch_control.specs.Meaning.{no_region, with_region}
 use Rattle.sch_control.specs.Tree.{Expression, perform, bind, sequence, branch, fix, call, tail_call, return, end, save, Code}
-use Rattle.sch_control.specs.Valid.{first_scope, in_scope, in_scope_whole, numbered, bound_in, without_repeats}
+use Rattle.sch_control.specs.Valid.{first_scope, in_scope, in_scope_whole, numbered, bound_in}
 use Rattle.sch_control.specs.flow.Bare.{unlisted, unsaved, erased}
 use Rattle.sch_control.specs.flow.Live.{known}
 use Rattle.sch_control.specs.flow.LiveSets.{HasLiveSets}

@@ -3,12 +3,12 @@ use Rattle.std.proofs.Common.{◌≡◌, ℕ, Bool, true, false, List, [], ◌�
 use Rattle.std.specs.Prelude.{nat_lt, ◌||◌, ◌&&◌, not, filter}
 use Rattle.std.specs.List.{list_all}
 use Rattle.std.proofs.Math.Path.{fun_ext}
-use Rattle.sch_word.specs.trees.NumberSets.{has}
+use Rattle.sch_word.specs.trees.NumberSets.{has, without_repeats}
 use Rattle.sch_word.specs.trees.Bindings.{numbers}
 use Rattle.sch_word.proofs.facts.Booleans.{and_left, and_right, and_of}
 use Rattle.sch_control.specs.Meaning.{no_region, with_region}
 use Rattle.sch_control.specs.Tree.{Expression, perform, bind, sequence, branch, fix, call, tail_call, return, end, save}
-use Rattle.sch_control.specs.Valid.{is_bare, without_repeats}
+use Rattle.sch_control.specs.Valid.{is_bare}
 use Rattle.sch_control.proofs.NumberLists.{has_filter, all_filter, once_filter, once_from, below_from, all_left}
 use Rattle.sch_control.specs.flow.Bare.{unlisted, unsaved, erased}
 use Rattle.sch_control.specs.flow.Regions.{regions_apart, SavesBelow}

@@ -25,6 +25,15 @@ use Rattle.sch_select.specs.Select.{all_labels_needed, body_code}
 abbrev pub labels_end : (n : ℕ) → Code → ℕ
 labels_end n c = n + c.labels + 2 + all_labels_needed c.instructions
 
+-- how many labels of their own bodies have: those of their jumps, the one behind each, one for a list, and those of instructions
+abbrev pub own_labels : List Code → ℕ
+own_labels [] = 0
+own_labels (c ∷ cs) = c.labels + 2 + all_labels_needed c.instructions + own_labels cs
+
+-- these, and the one at which each begins
+abbrev pub labels_of : List Code → ℕ
+labels_of codes = length codes + own_labels codes
+
 -- a procedure's body is jumped over where the forms are done
 abbrev pub passed_code : Option Entry → (out : ℕ) → List Item → List Item
 passed_code None out rest = rest

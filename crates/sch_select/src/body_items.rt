@@ -1,6 +1,6 @@
 //! The items of bodies.
 
-ghost use Rattle.std.specs.Prelude.{◌≡◌, ◌+◌, ◌<◌, ◌≤◌, ◌++◌, ◌∷◌, IfOk, IsTrue, OnOk, List};
+ghost use Rattle.std.specs.Prelude.{◌≡◌, ◌+◌, ◌^◌, ◌≤◌, ◌++◌, ◌∷◌, IfOk, IsTrue, OnOk, List, length};
 ghost use Rattle.std.specs.List.{list_all};
 ghost use Rattle.sch_word.specs.trees.Shape.{max_operands};
 ghost use Rattle.sch_frames.specs.Valid.{max_words};
@@ -10,10 +10,10 @@ ghost use Rattle.sch_insn.specs.declared.insn.Insn.TheVariants.{MovTo};
 ghost use Rattle.sch_frames.specs.SourceView.{codes_of, code_of};
 ghost use Rattle.sch_select.specs.Select.{all_labels_needed, labels_needed, operand_needs, operation_needs};
 ghost use Rattle.sch_select.specs.Select.{body_code, copy_insn, instruction_code};
-ghost use Rattle.sch_select_memory.specs.Addresses.{max_heap_end, place_operand};
+ghost use Rattle.sch_select_memory.specs.Addresses.{max_heap_end, max_labels, place_operand};
 ghost use Rattle.sch_select_memory.specs.Reach.{is_reached_place};
-ghost use Rattle.sch_select.specs.Reach.{is_reached_code, is_reached_entry, is_reached_instruction};
-ghost use Rattle.sch_select.specs.Program.{count_code, entry_code, form_code, forms_code, labels_end, passed_code};
+ghost use Rattle.sch_select.specs.Reach.{is_reached_code, is_reached_entry, is_reached_instruction, names_below};
+ghost use Rattle.sch_select.specs.Program.{count_code, entry_code, form_code, forms_code, labels_end, own_labels, passed_code};
 
 use sch_asm::Item;
 use sch_control::{Entry, Operand, Operation};
@@ -25,7 +25,7 @@ use sch_select_memory::addresses::{body_label, place_operand};
 use sch_select_memory::enter_rest;
 use sch_select_memory::word::FALSE;
 use sch_select_operations::{call, check_count, group, operation, tail_call};
-use sch_word::{List, MarkKind, Mem, Place, add_numbers};
+use sch_word::{List, MarkKind, Mem, Place};
 
 /// Where the labels of a body are, its own from `base` on, and `end` behind it; how many words a frame has; where
 /// the heap ends; and how many literals there are.
@@ -64,6 +64,8 @@ fn instruction(out: &mut List<Item>, labels: Labels, n: u32, i: &Instruction) ->
     requires words { labels.words ≤ max_words }
     requires low { labels.heap_end ≤ max_heap_end }
     requires reached { IsTrue (is_reached_instruction i.now) }
+    requires below { IsTrue (names_below labels.base labels.end i.now) }
+    requires few { n + 12 ≤ 2 ^ 32 }
     ensures { OnOk result ((rest : List Item) → out.new ++ rest
         ≡ out.old ++ instruction_code labels.base labels.end labels.words labels.heap_end labels.literals n i.now rest) }
 {
@@ -80,18 +82,11 @@ fn instruction(out: &mut List<Item>, labels: Labels, n: u32, i: &Instruction) ->
         Instruction::Return => out.push(Item::Plain(Insn::JumpTo(Arg::Reg(R15)))),
         Instruction::End => out.push(Item::Jump(labels.end)),
         Instruction::IfFalse(l) => {
-            let label = add_numbers(labels.base, *l)?;
             out.push(Item::Plain(Insn::CmpNumber(Arg::Reg(RAX), FALSE)))?;
-            out.push(Item::JumpIf(E, label))
+            out.push(Item::JumpIf(E, labels.base + *l))
         }
-        Instruction::Jump(l) => {
-            let label = add_numbers(labels.base, *l)?;
-            out.push(Item::Jump(label))
-        }
-        Instruction::Label(l) => {
-            let label = add_numbers(labels.base, *l)?;
-            out.push(Item::Label(label))
-        }
+        Instruction::Jump(l) => out.push(Item::Jump(labels.base + *l)),
+        Instruction::Label(l) => out.push(Item::Label(labels.base + *l)),
         Instruction::Mark(mark) => out.push(Item::Mark(*mark)),
     }
 }
@@ -139,6 +134,8 @@ fn body(
     requires words { labels.words ≤ max_words }
     requires low { labels.heap_end ≤ max_heap_end }
     requires reached { IsTrue (list_all is_reached_instruction instructions.now) }
+    requires below { IsTrue (list_all (names_below labels.base labels.end) instructions.now) }
+    requires few { n + all_labels_needed instructions.now + 12 ≤ 2 ^ 32 }
     ensures items { OnOk result ((rest : List Item) → out.new ++ rest
         ≡ out.old ++ body_code labels.base labels.end labels.words labels.heap_end labels.literals n instructions.now rest) }
     ensures next { IfOk result (λ m. m ≡ n + all_labels_needed instructions.now) }
@@ -146,7 +143,7 @@ fn body(
     let mut next = n;
     for i in instructions {
         instruction(out, labels, next, i)?;
-        next = add_numbers(next, labels_needed(i))?;
+        next += labels_needed(i);
     }
     Ok(next)
 }
@@ -197,13 +194,13 @@ fn form(out: &mut List<Item>, frames: Frames, label: u32, n: u32, b: &FrameBody)
     requires words { frames.words ≤ max_words }
     requires low { frames.heap_end ≤ max_heap_end }
     requires reached { IsTrue (is_reached_code (code_of b.now)) }
+    requires count { label ≤ max_labels }
+    requires few { labels_end n (code_of b.now) + 12 ≤ 2 ^ 32 }
     ensures items { OnOk result ((rest : List Item) → out.new ++ rest
         ≡ out.old ++ form_code frames.words frames.heap_end frames.literals label n (code_of b.now) rest) }
     ensures next { IfOk result (λ m. m ≡ labels_end n (code_of b.now)) }
 {
-    let end = add_numbers(n, b.labels)?;
-    let list = add_numbers(end, 1)?;
-    let first = add_numbers(end, 2)?;
+    let end = n + b.labels;
     let labels = Labels {
         base: n,
         end,
@@ -212,11 +209,10 @@ fn form(out: &mut List<Item>, frames: Frames, label: u32, n: u32, b: &FrameBody)
         literals: frames.literals,
     };
     passed(out, &b.entry, end)?;
-    let own = body_label(label)?;
-    out.push(Item::Label(own))?;
-    check_entry(out, &b.entry, list)?;
+    out.push(Item::Label(body_label(label)))?;
+    check_entry(out, &b.entry, end + 1)?;
     out.push(Item::Mark(MarkKind::Enter(label)))?;
-    let next = body(out, labels, first, b.instructions.as_slice())?;
+    let next = body(out, labels, end + 2, b.instructions.as_slice())?;
     out.push(Item::Label(end))?;
     Ok(next)
 }
@@ -231,6 +227,8 @@ pub(crate) fn forms(
     requires words { frames.words ≤ max_words }
     requires low { frames.heap_end ≤ max_heap_end }
     requires reached { IsTrue (list_all is_reached_code (codes_of bodies.now)) }
+    requires count { length bodies.now ≤ max_labels }
+    requires few { n + own_labels (codes_of bodies.now) + 12 ≤ 2 ^ 32 }
     ensures { OnOk result ((rest : List Item) → out.new ++ rest
         ≡ out.old ++ forms_code frames.words frames.heap_end frames.literals 0 n (codes_of bodies.now) rest) }
 {
@@ -238,7 +236,7 @@ pub(crate) fn forms(
     let mut label = 0;
     for b in bodies {
         next = form(out, frames, label, next, b)?;
-        label = add_numbers(label, 1)?;
+        label += 1;
     }
     Ok(())
 }

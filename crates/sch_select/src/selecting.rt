@@ -2,6 +2,7 @@
 
 ghost use Rattle.std.specs.Prelude.{◌≡◌, ◌+◌, ◌*◌, ◌^◌, ◌<◌, ◌≤◌, ◌++◌, [], ◌∷◌, IfOk, IsTrue, OnOk, length, pos, replicate};
 ghost use Rattle.std.specs.List.{list_all};
+ghost use Rattle.sch_word.specs.runs.ProgramLayout.{data_address};
 ghost use Rattle.sch_word.specs.declared.limits.TheConstants.{MAX_DEPTH};
 ghost use Rattle.sch_word.specs.runs.Runs.{max_statics};
 ghost use Rattle.sch_asm.specs.Codes.{instructions_in, text_size};
@@ -20,9 +21,9 @@ ghost use Rattle.sch_select.specs.Follows.{EndsFrames, EntersFrames, FollowsFram
 ghost use Rattle.sch_select.specs.Jumps.{jumps_ahead};
 ghost use Rattle.sch_select.specs.Reach.{is_reached_code};
 ghost use Rattle.sch_select_data.specs.Data.{heap_of, max_heap_address};
-ghost use Rattle.sch_select.specs.Program.{frames_bytes, laid_code, max_data, max_stack, own_label, program_code, program_zeros, forms_code};
-ghost use Rattle.sch_select.specs.Program.{stack_bytes};
-ghost use Rattle.sch_select_memory.specs.Addresses.{max_heap_end};
+ghost use Rattle.sch_select.specs.Program.{frames_bytes, forms_code, labels_of, laid_code, max_data, max_stack, own_label};
+ghost use Rattle.sch_select.specs.Program.{own_labels, program_code, program_zeros, stack_bytes};
+ghost use Rattle.sch_select_memory.specs.Addresses.{max_heap_end, max_labels};
 ghost use Rattle.sch_select.specs.MarkedStores.{stores_marked};
 ghost use Rattle.sch_select.specs.FrameWords.{keeps_frame};
 ghost use Rattle.sch_select.specs.Sizes.{kinds_in, kinds_of, steps_size};
@@ -75,6 +76,8 @@ fn put_bodies(
     requires words { frames.words ≤ max_words }
     requires low { frames.heap_end ≤ max_heap_end }
     requires reached { IsTrue (list_all is_reached_code (codes_of bodies.now)) }
+    requires count { length bodies.now ≤ max_labels }
+    requires labels { n + own_labels (codes_of bodies.now) + 12 ≤ 2 ^ 32 }
     ensures { OnOk result (items.new ≡ items.old ++ forms_code frames.words frames.heap_end frames.literals 0 n
         (codes_of bodies.now) (item.Jump (label_of routine.End) ∷ [])) }
 {
@@ -89,14 +92,12 @@ fn selected_items(alloc: Global, p: &FrameProgram, ends: Ends) -> Result<List<It
     requires depth { ends.depth ≤ MAX_DEPTH }
     requires reached { IsTrue (list_all is_reached_code (codes_of p.now.bodies)) }
     requires few { length p.now.statics.literals ≤ max_statics }
+    requires labels { length p.now.bodies + own_labels (codes_of p.now.bodies) ≤ max_labels }
     ensures { IfOk result (λ items. items ≡ laid_code p.now.words ends.stack (length p.now.statics.literals) ends.heap
         ends.depth (length p.now.bodies) (codes_of p.now.bodies)) }
 {
     let bodies = p.bodies.as_slice();
-    let own = match u32::try_from(bodies.len()) {
-        Ok(count) => body_label(count)?,
-        Err(_) => return Err(Mem),
-    };
+    let own = body_label(bodies.len() as u32);
     let mut items = List::new(alloc);
     items.extend_from_slice(&[
         Item::Plain(Insn::MovWord(RBP, ends.stack as i64)),
@@ -119,6 +120,7 @@ fn items_of(alloc: Global, p: &FrameProgram, ends: Ends) -> Result<List<Item>, M
     requires depth { ends.depth ≤ MAX_DEPTH }
     requires reached { IsTrue (list_all is_reached_code (codes_of p.now.bodies)) }
     requires few { length p.now.statics.literals ≤ max_statics }
+    requires labels { length p.now.bodies + own_labels (codes_of p.now.bodies) ≤ max_labels }
     ensures { IfOk result (λ items. items ≡ narrowed (laid_code p.now.words ends.stack (length p.now.statics.literals) ends.heap
         ends.depth (length p.now.bodies) (codes_of p.now.bodies))) }
 {
@@ -132,11 +134,12 @@ fn items_of(alloc: Global, p: &FrameProgram, ends: Ends) -> Result<List<Item>, M
 /// Resolved with the run-time routines for where its heap ends, they do what the program does, whatever the machine is given and
 /// whatever the kernel answers, and pass the program's marks. No call spreads its last operand. The frames of a form
 /// and of the calls that may be pending take at most 2^30 bytes. Time and memory are linear in the
-/// instructions, the labels, what is static and the library. It is out of memory also where a label would be past the
-/// numbers of 32 bits.
+/// instructions, the labels, what is static and the library.
 pub fn select(alloc: Global, p: &FrameProgram, limits: Limits) -> Result<Asm, Mem>
     requires covered { IsTrue (is_covered_program (source p.now)) }
     requires stack { frames_bytes p.now.words limits.depth ≤ max_stack }
+    // All labels have numbers of 32 bits.
+    requires labels { labels_of (source p.now).bodies ≤ max_labels }
     ensures follows { IfOk result (λ a. FollowsFrames (source p.now) limits.heap limits.depth a.items a.words a.zeros) }
     ensures steps { IfOk result (λ a. EndsFrames (source p.now) limits.heap limits.depth a.items a.words a.zeros) }
     ensures passes { IfOk result (λ a. PassesFrames (source p.now) limits.heap limits.depth a.items a.words a.zeros) }
@@ -158,7 +161,7 @@ pub fn select(alloc: Global, p: &FrameProgram, limits: Limits) -> Result<Asm, Me
     // other registers is not looked at, nor RCX behind the routine of lists, where it has the address of a slot.
     ensures frame { IfOk result (λ a. IsTrue (list_all keeps_frame a.items)) }
     // The words end where the heap begins.
-    ensures words { IfOk result (λ a. 0x10000000 + 8 * length a.words ≡ heap_of (source p.now)) }
+    ensures words { IfOk result (λ a. data_address + 8 * length a.words ≡ heap_of (source p.now)) }
     ensures low { IfOk result (λ a. heap_of (source p.now) ≤ max_heap_address) }
     ensures zeros { IfOk result (λ a. a.zeros ≡ program_zeros (source p.now) limits.heap limits.depth) }
     ensures ends { IfOk result (λ a. 8 * length a.words + a.zeros ≤ max_data) }

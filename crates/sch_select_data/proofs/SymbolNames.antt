@@ -9,8 +9,8 @@ use Rattle.std.proofs.lemmas.Nat.{from_le_bytes-to_le_bytes_8}
 use Rattle.std.proofs.lemmas.Option.{slice_get_within}
 use Rattle.std.proofs.Math.Seq.{drop-append_seam}
 use Rattle.sch_word.specs.values.Values.{are_bytes}
+use Rattle.sch_word.proofs.facts.Lists.{get_front, get_behind}
 use Rattle.sch_asm.proofs.Words.{eight_count}
-use Rattle.sch_select_memory.proofs.heap.Contents.{get_front, get_behind}
 use Rattle.sch_select_data.specs.ObjectWords.{text_words}
 use Rattle.sch_select_data.proofs.literals.WordBytes.{word_bytes, word_bytes_length, text_there}
 use Rattle.sch_select_data.proofs.literals.Sizes.{text_words_length}

@@ -1,6 +1,7 @@
 //! The data of a program: where they lie, and their words.
 
-ghost use Rattle.std.specs.Prelude.{◌≡◌, ◌+◌, ◌*◌, ◌/◌, ◌^◌, ◌≤◌, ◌++◌, IfOk, OnOk, length, map, replicate};
+ghost use Rattle.std.specs.Prelude.{◌≡◌, ◌+◌, ◌*◌, ◌/◌, ◌^◌, ◌≤◌, ◌++◌, IfOk, IsTrue, OnOk, length, map, replicate};
+ghost use Rattle.std.specs.List.{list_all};
 ghost use Rattle.sch_word.specs.runs.Runs.{names_size, statics_size, max_statics};
 ghost use Rattle.sch_word.specs.trees.Shape.{max_library};
 ghost use Rattle.sch_word.specs.values.LiteralView.{literals_of};
@@ -14,6 +15,7 @@ ghost use Rattle.sch_select_data.specs.Data.{word_list};
 ghost use Rattle.sch_select_memory.specs.StaticBytes.{static_bytes};
 ghost use Rattle.sch_select_data.specs.NameWords.{each_name, name_addresses, name_count, name_words, symbol_words, symbols_count};
 ghost use Rattle.sch_select_memory.specs.Addresses.{names_address};
+ghost use Rattle.sch_select_memory.specs.Reach.{is_reached_label};
 
 use crate::contents::word_at;
 use crate::placing::StaticObjects;
@@ -215,11 +217,11 @@ fn push_symbols(words: &mut List<Word>, first: u64, symbols: &[Bytes]) -> Result
 
 /// The records of the library's procedures.
 fn push_closures(words: &mut List<Word>, library: &[u32]) -> Result<(), Mem>
+    requires { IsTrue (list_all is_reached_label library.now) }
     ensures { OnOk result (words.new ≡ words.old ++ closure_words library.now) }
 {
     for label in library {
-        let code = body_label(*label)?;
-        words.push(Word::Address(code))?;
+        words.push(Word::Address(body_label(*label)))?;
         words.push(Word::Fixed(0))?;
     }
     Ok(())
@@ -238,6 +240,7 @@ pub fn words_of(
     requires count { places.count ≡ static_count (statics p.now.statics) }
     requires values { literals.values ≡ map Fixed (placed_values (literals_of p.now.statics.literals) places.unit) }
     requires objects { literals.objects ≡ map Fixed (placed_each (literals_of p.now.statics.literals) places.unit) }
+    requires library { IsTrue (list_all is_reached_label p.now.library) }
     ensures { IfOk result (λ words. words ≡ data_words places.names places.closures places.unit (statics p.now.statics) p.now.library) }
 {
     let mut words = first_words(alloc)?;

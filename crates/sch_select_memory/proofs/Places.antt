@@ -18,6 +18,7 @@ use Rattle.sch_insn.specs.Machine.{set_register, add64, word}
 use Rattle.sch_asm.specs.declared.item.Item.{Item}
 use Rattle.sch_asm.specs.declared.item.Item.TheVariants.{Plain}
 use Rattle.sch_word.specs.declared.mark.MarkKind.{MarkKind}
+use Rattle.sch_word.proofs.facts.Lists.{get_there}
 use Rattle.sch_asm.specs.Stands.{Setting, Stands}
 use Rattle.sch_asm.specs.Data.{Inside, word_in, with_word}
 use Rattle.sch_asm.specs.Effects.{is_scratch}
@@ -33,7 +34,6 @@ use Rattle.sch_select_memory.specs.Addresses.{max_heap_end, place_operand, table
 use Rattle.sch_select_memory.specs.Addresses.{names_address, body_label}
 use Rattle.sch_select_memory.specs.Names.{AreNamed}
 use Rattle.sch_select_memory.proofs.heap.Encodings.{fits}
-use Rattle.sch_select_memory.proofs.heap.Elements.{get_there}
 use Rattle.sch_select_memory.proofs.Straight.{Kept, moved_to}
 
 -- Where a program lies: its text, the size of its data and of its frames; where its globals begin and how many there

@@ -1,31 +1,21 @@
 -- Where the name of a symbol is in the data.
-use Rattle.std.proofs.Common.{◌≡◌, ℕ, zero, suc, ◌+◌, ◌-◌, ◌*◌, ◌≤◌, List, [], ◌∷◌, ◌++◌, length, take, drop}
-use Rattle.std.proofs.Common.{Some, refl, sym, ap, ◌∙◌, arith, true}
+use Rattle.std.proofs.Common.{◌≡◌, ℕ, ◌+◌, ◌-◌, ◌*◌, ◌≤◌, List, ◌++◌, length, take, drop}
+use Rattle.std.proofs.Common.{Some, sym, ap, ◌∙◌, arith, true}
 use Rattle.std.specs.Prelude.{slice_get}
 use Rattle.std.proofs.lemmas.List.{drop-drop, take-append-drop}
 use Rattle.sch_word.specs.declared.answer.Answer.{Answer}
 use Rattle.sch_word.specs.values.Values.{symbol, are_bytes}
 use Rattle.sch_word.specs.runs.Computation.{State}
+use Rattle.sch_word.proofs.facts.Lists.{get_there, piece_within}
 use Rattle.sch_control.specs.Operations.{Procedure}
 use Rattle.sch_asm.specs.Data.{Inside, PieceAt, word_in}
 use Rattle.sch_asm.proofs.Words.{eight_count}
 use Rattle.sch_select_memory.specs.Parts.{Parts}
 use Rattle.sch_select_memory.specs.Encoded.{IsWord}
 use Rattle.sch_select_memory.proofs.heap.Ranges.{piece_in}
-use Rattle.sch_select_memory.proofs.heap.Elements.{get_there}
 use Rattle.sch_select_memory.specs.Addresses.{table_address, names_address}
 use Rattle.sch_select_memory.specs.Names.{word_from, IsNamed}
 use Rattle.sch_select_memory.proofs.Places.{Plan, heap_above, StoreAt}
-
--- some elements of a list's first ones
-piece_within : (k n l : ℕ) (xs : List ℕ) → k + n ≤ l → take n (drop k (take l xs)) ≡ take n (drop k xs)
-piece_within zero zero l xs le = refl
-piece_within zero (suc n) zero xs le = absurd (omega (arith, le))
-piece_within zero (suc n) (suc l) [] le = refl
-piece_within zero (suc n) (suc l) (x ∷ xs) le = ap (λ ys. x ∷ ys) (piece_within zero n l xs (omega (arith, le)))
-piece_within (suc k) n zero xs le = absurd (omega (arith, le))
-piece_within (suc k) n (suc l) [] le = refl
-piece_within (suc k) n (suc l) (x ∷ xs) le = piece_within k n l xs (omega (arith, le))
 
 -- the bytes of names, where these stand at an address of the data
 names_piece : (bytes names : List ℕ) (first a n : ℕ) → take (length names) (drop (first - 0x10000000) bytes) ≡ names
@@ -35,7 +25,7 @@ names_piece bytes names first a n e low le within =
     let k = a - first in
     let at : first - 0x10000000 + k ≡ a - 0x10000000 = omega (arith, low, le) in
     ap (λ m. take n (drop m bytes)) (sym at) ∙ ap (take n) (sym (drop-drop k (first - 0x10000000) bytes))
-    ∙ sym (piece_within k n (length names) (drop (first - 0x10000000) bytes) (omega (arith, le, within)))
+    ∙ sym (piece_within (drop (first - 0x10000000) bytes) k n (length names) (omega (arith, le, within)))
     ∙ ap (λ l. take n (drop k l)) e
 
 names_word : (bytes names : List ℕ) (first a : ℕ) → take (length names) (drop (first - 0x10000000) bytes) ≡ names

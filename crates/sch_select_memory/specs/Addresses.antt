@@ -1,5 +1,5 @@
 -- Where a program's data lie, the labels of its code, and places as operands.
-use Rattle.std.specs.Prelude.{ℕ, ◌+◌, ◌-◌, ◌*◌, pos}
+use Rattle.std.specs.Prelude.{ℕ, ◌+◌, ◌-◌, ◌*◌, ◌^◌, pos}
 use Rattle.sch_word.specs.declared.place.Place.{Place}
 use Rattle.sch_word.specs.declared.place.Place.TheVariants as place
 use Rattle.sch_word.specs.declared.stop.Stop.{Stop}
@@ -7,6 +7,7 @@ use Rattle.sch_word.specs.runs.ProgramLayout.{data_address}
 use Rattle.sch_insn.specs.declared.insn.Arg.{Arg}
 use Rattle.sch_insn.specs.declared.insn.Arg.TheVariants.{Reg, Base32}
 use Rattle.sch_insn.specs.declared.register.TheConstants.{RBP, R12}
+use Rattle.sch_asm.specs.declared.routine.TheConstants.{FIRST_LABEL}
 use Rattle.sch_asm.specs.declared.routine.Routine.TheVariants as routine
 use Rattle.sch_asm.specs.Routines.{label_of}
 
@@ -63,13 +64,14 @@ vector_label = label_of routine.NewVector
 abbrev pub string_label : ℕ
 string_label = label_of routine.NewString
 
--- the labels of routines are below this one, and the bodies' are from it on
-abbrev pub first_label : ℕ
-first_label = 1024
+-- The most labels of bodies. They are numbered from FIRST_LABEL on, and so many numbers of 32 bits are left behind them that each
+-- instruction may be given the most labels that one needs.
+abbrev pub max_labels : ℕ
+max_labels = 2 ^ 32 - 2048
 
 -- where the code of a body begins
 abbrev pub body_label : ℕ → ℕ
-body_label label = first_label + label
+body_label label = FIRST_LABEL + label
 
 -- ## Places
 

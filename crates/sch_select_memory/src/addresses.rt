@@ -1,14 +1,15 @@
 //! Labels, addresses and immediates.
 
-ghost use Rattle.std.specs.Prelude.{◌≡◌, ◌*◌, ◌^◌, ◌<◌, ◌≤◌, IfOk, IsTrue, pos};
-ghost use Rattle.sch_select_memory.specs.Addresses.{body_label, global_address, heap_offset, literal_address, max_heap_end, part_operand, place_operand, stop_label};
+ghost use Rattle.std.specs.Prelude.{◌≡◌, ◌*◌, ◌^◌, ◌<◌, ◌≤◌, IsTrue, pos};
+ghost use Rattle.sch_select_memory.specs.Addresses.{body_label, global_address, heap_offset, literal_address, max_heap_end, max_labels, part_operand, place_operand};
+ghost use Rattle.sch_select_memory.specs.Addresses.{stop_label};
 ghost use Rattle.sch_select_memory.specs.Reach.{is_reached_place, max_slots};
 ghost use Rattle.sch_select_memory.specs.RestCode.{first_in_slot, list_label};
 
-use sch_asm::{LeftOver, Routine};
+use sch_asm::{FIRST_LABEL, LeftOver, Routine};
 use sch_insn::Arg;
 use sch_insn::register::{R12, RBP};
-use sch_word::{ARGUMENT_REGISTERS, DATA_ADDRESS, Mem, Place, Stop, add_numbers};
+use sch_word::{ARGUMENT_REGISTERS, DATA_ADDRESS, Place, Stop};
 
 /// Where the address of the names of symbols stands in the data.
 pub const TABLE_ADDRESS: u64 = 0x1000_0320;
@@ -22,14 +23,12 @@ pub const DATA_OFFSET: i32 = DATA_ADDRESS as i32;
 /// How many operands are in registers: the first with as many in front is in a slot.
 pub const FIRST_IN_SLOT: u32 = ARGUMENT_REGISTERS.len() as u32;
 
-/// The labels of bodies are numbered from here on.
-const FIRST_LABEL: u32 = 1024;
-
-/// Where the code of a body begins. A label past the numbers of 32 bits is out of memory.
-pub fn body_label(label: u32) -> Result<u32, Mem>
-    ensures { IfOk result (λ m. m ≡ body_label label) }
+/// Where the code of a body begins.
+pub fn body_label(label: u32) -> u32
+    requires { label ≤ max_labels }
+    ensures { result ≡ body_label label }
 {
-    add_numbers(FIRST_LABEL, label)
+    FIRST_LABEL + label
 }
 
 /// Where the routine of a stop begins.

@@ -1,5 +1,5 @@
--- Which operations items can be made for: the slots, the fields and the operands that they name are few enough that each
--- displacement and each immediate is a number of 32 bits.
+-- Which operations items can be made for: the slots, the fields, the operands and the bodies that they name are few enough that
+-- each displacement, each immediate and each label is a number of 32 bits.
 use Rattle.std.specs.Prelude.{ℕ, ◌*◌, Bool, true, ◌&&◌, nat_le, nat_lt, length}
 use Rattle.std.specs.List.{list_all}
 use Rattle.sch_word.specs.declared.place.Place.{Place}
@@ -14,7 +14,7 @@ use Rattle.sch_control.specs.declared.operation.Closure.{Closure}
 use Rattle.sch_control.specs.declared.operation.Member.{Member}
 use Rattle.sch_control.specs.declared.operation.Operation.{Operation}
 use Rattle.sch_control.specs.declared.operation.Operation.TheVariants as operation
-use Rattle.sch_select_memory.specs.Reach.{is_reached_place}
+use Rattle.sch_select_memory.specs.Reach.{is_reached_label, is_reached_place}
 
 abbrev pub is_reached_atom : Atom Place → Bool
 is_reached_atom (Variable p) = is_reached_place p
@@ -29,7 +29,7 @@ is_reached_source (source.Atom a) = is_reached_atom a
 is_reached_source (source.Field p k) = is_reached_place p && nat_lt k max_free_variables
 
 abbrev pub is_reached_closure : Closure Place → Bool
-is_reached_closure c = nat_le (length c.fields) max_free_variables && list_all is_reached_source c.fields
+is_reached_closure c = is_reached_label c.label && (nat_le (length c.fields) max_free_variables && list_all is_reached_source c.fields)
 
 abbrev pub is_reached_member : Member Place → Bool
 is_reached_member m = is_reached_place m.at && is_reached_closure m.closure

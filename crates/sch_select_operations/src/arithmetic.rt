@@ -1,6 +1,6 @@
 //! The items of tests of types, comparisons and arithmetic.
 
-ghost use Rattle.std.specs.Prelude.{◌≡◌, ◌+◌, ◌++◌, IsTrue, OnOk, List, int_le, nat_abs, pos};
+ghost use Rattle.std.specs.Prelude.{◌≡◌, ◌+◌, ◌^◌, ◌≤◌, ◌++◌, IsTrue, OnOk, List, int_le, nat_abs, pos};
 ghost use Rattle.sch_word.specs.declared.primitive.Primitive.TheVariants.{CharToInteger, IntegerToChar, Multiply, Quotient};
 ghost use Rattle.sch_word.specs.declared.primitive.Primitive.TheVariants.{Remainder};
 ghost use Rattle.sch_asm.specs.declared.item.Item.{Item};
@@ -16,7 +16,7 @@ use sch_select_memory::addresses::stop;
 use sch_select_memory::word::{
     BYTE_MASK, CHARACTER, CHARACTER_SHIFT, FALSE, FIXNUM_SHIFT, TAG_MASK, TRUE,
 };
-use sch_word::{List, Mem, Stop, add_numbers};
+use sch_word::{List, Mem, Stop};
 
 /// The word of the number 255.
 const LARGEST_BYTE: i32 = 8 * 255;
@@ -106,11 +106,12 @@ fn division(out: &mut List<Item>) -> Result<(), Mem>
 }
 
 /// A remainder in RAX becomes a modulus. The two labels are those behind n.
-fn adjusted(n: u32, negative: u32, add: u32) -> [Item; 12]
-    requires negative { n + 1 ≡ negative }
-    requires add { n + 2 ≡ add }
+fn adjusted(n: u32) -> [Item; 12]
+    requires { n + 4 ≤ 2 ^ 32 }
     ensures { (rest : List Item) → result ++ rest ≡ modulo_code n rest }
 {
+    let negative = n + 1;
+    let add = n + 2;
     [
         Item::Plain(Insn::CmpNumber(Arg::Reg(RAX), 0)),
         Item::JumpIf(E, n),
@@ -128,11 +129,10 @@ fn adjusted(n: u32, negative: u32, add: u32) -> [Item; 12]
 }
 
 pub(crate) fn modulo(out: &mut List<Item>, n: u32) -> Result<(), Mem>
+    requires { n + 4 ≤ 2 ^ 32 }
     ensures { OnOk result ((rest : List Item) → out.new ++ rest ≡ out.old ++ modulo_code n rest) }
 {
-    let negative = add_numbers(n, 1)?;
-    let add = add_numbers(n, 2)?;
-    out.extend_from_slice(&adjusted(n, negative, add))
+    out.extend_from_slice(&adjusted(n))
 }
 
 /// A character becomes its number.

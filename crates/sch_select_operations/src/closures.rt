@@ -52,7 +52,7 @@ fn record(out: &mut List<Item>, offset: u32, c: &Closure<Place>) -> Result<(), M
     requires reached { IsTrue (is_reached_closure c.now) }
     ensures { OnOk result ((rest : List Item) → out.new ++ rest ≡ out.old ++ record_code offset c.now rest) }
 {
-    let label = body_label(c.label)?;
+    let label = body_label(c.label);
     out.extend_from_slice(&[
         Item::LoadLabel(RCX, label),
         Item::Plain(Insn::MovTo(part_operand(offset), RCX)),

@@ -1,6 +1,6 @@
 //! The items of globals.
 
-ghost use Rattle.std.specs.Prelude.{◌≡◌, ◌++◌, IsTrue, OnOk, List};
+ghost use Rattle.std.specs.Prelude.{◌≡◌, ◌+◌, ◌^◌, ◌≤◌, ◌++◌, IsTrue, OnOk, List};
 ghost use Rattle.sch_asm.specs.declared.item.Item.{Item};
 ghost use Rattle.sch_select_operations.specs.Reach.{is_reached_operand};
 ghost use Rattle.sch_select_operations.specs.PrimitiveCode.{global_code, set_global_code};
@@ -34,7 +34,8 @@ pub fn set_global(
     g: u32,
     o: &Operand<Place>,
 ) -> Result<(), Mem>
-    requires { IsTrue (is_reached_operand o.now) }
+    requires labels { n + 4 ≤ 2 ^ 32 }
+    requires reached { IsTrue (is_reached_operand o.now) }
     ensures { OnOk result ((rest : List Item) → out.new ++ rest ≡ out.old ++ set_global_code literals n g o.now rest) }
 {
     operand(out, n, o)?;

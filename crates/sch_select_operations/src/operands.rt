@@ -1,6 +1,6 @@
 //! The items of atoms, of primitives over registers, and of operands.
 
-ghost use Rattle.std.specs.Prelude.{◌≡◌, ◌+◌, ◌++◌, IsTrue, OnOk, List};
+ghost use Rattle.std.specs.Prelude.{◌≡◌, ◌+◌, ◌^◌, ◌≤◌, ◌++◌, IsTrue, OnOk, List};
 ghost use Rattle.std.specs.List.{list_all};
 ghost use Rattle.sch_word.specs.declared.primitive.Primitive.TheVariants.{CharToInteger, IntegerToChar, Multiply, Quotient};
 ghost use Rattle.sch_word.specs.declared.primitive.Primitive.TheVariants.{Remainder};
@@ -83,6 +83,7 @@ pub(crate) fn unary(out: &mut List<Item>, n: u32, which: Primitive) -> Result<()
 
 /// A primitive of two operands, in RAX and RCX.
 pub(crate) fn binary(out: &mut List<Item>, n: u32, which: Primitive) -> Result<(), Mem>
+    requires { n + 4 ≤ 2 ^ 32 }
     ensures { OnOk result ((rest : List Item) → out.new ++ rest ≡ out.old ++ binary_code n which rest) }
 {
     match which {
@@ -114,7 +115,8 @@ pub(crate) fn binary(out: &mut List<Item>, n: u32, which: Primitive) -> Result<(
 
 /// A primitive that reads, over atoms.
 fn read(out: &mut List<Item>, n: u32, which: Primitive, atoms: &[Atom<Place>]) -> Result<(), Mem>
-    requires { IsTrue (list_all is_reached_atom atoms.now) }
+    requires labels { n + 4 ≤ 2 ^ 32 }
+    requires reached { IsTrue (list_all is_reached_atom atoms.now) }
     ensures { OnOk result ((rest : List Item) → out.new ++ rest ≡ out.old ++ read_code n which atoms.now rest) }
 {
     match atoms {
@@ -133,7 +135,8 @@ fn read(out: &mut List<Item>, n: u32, which: Primitive, atoms: &[Atom<Place>]) -
 
 /// An operand into RAX.
 pub(crate) fn operand(out: &mut List<Item>, n: u32, o: &Operand<Place>) -> Result<(), Mem>
-    requires { IsTrue (is_reached_operand o.now) }
+    requires labels { n + 4 ≤ 2 ^ 32 }
+    requires reached { IsTrue (is_reached_operand o.now) }
     ensures { OnOk result ((rest : List Item) → out.new ++ rest ≡ out.old ++ operand_code n o.now rest) }
 {
     match o {
@@ -144,7 +147,8 @@ pub(crate) fn operand(out: &mut List<Item>, n: u32, o: &Operand<Place>) -> Resul
 
 /// A second operand into RCX, while RAX keeps the first.
 pub(crate) fn second(out: &mut List<Item>, n: u32, o: &Operand<Place>) -> Result<(), Mem>
-    requires { IsTrue (is_reached_operand o.now) }
+    requires labels { n + 4 ≤ 2 ^ 32 }
+    requires reached { IsTrue (is_reached_operand o.now) }
     ensures { OnOk result ((rest : List Item) → out.new ++ rest ≡ out.old ++ second_code n o.now rest) }
 {
     match o {

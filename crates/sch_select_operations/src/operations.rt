@@ -1,6 +1,6 @@
 //! The items of operations.
 
-ghost use Rattle.std.specs.Prelude.{◌≡◌, ◌≤◌, ◌++◌, IsTrue, OnOk, List};
+ghost use Rattle.std.specs.Prelude.{◌≡◌, ◌≤◌, ◌+◌, ◌^◌, ◌++◌, IsTrue, OnOk, List};
 ghost use Rattle.sch_select_memory.specs.Addresses.{max_heap_end};
 ghost use Rattle.sch_asm.specs.declared.item.Item.{Item};
 ghost use Rattle.sch_select_operations.specs.OperationCode.{operation_code};
@@ -16,7 +16,7 @@ use sch_control::{Operation, Source};
 use sch_insn::register::{RAX, RCX};
 use sch_word::{List, Mem, Place};
 
-/// An operation, whose value is left in RAX. Its labels are from n on.
+/// An operation, whose value is left in RAX. Its labels are from n on, twelve at most.
 pub fn operation(
     out: &mut List<Item>,
     heap_end: u32,
@@ -25,6 +25,7 @@ pub fn operation(
     o: &Operation<Place>,
 ) -> Result<(), Mem>
     requires low { heap_end ≤ max_heap_end }
+    requires labels { n + 12 ≤ 2 ^ 32 }
     requires reached { IsTrue (is_reached_operation o.now) }
     ensures { OnOk result ((rest : List Item) → out.new ++ rest ≡ out.old ++ operation_code heap_end literals n o.now rest) }
 {

@@ -1,6 +1,6 @@
 //! The items of primitives over operands.
 
-ghost use Rattle.std.specs.Prelude.{◌≡◌, ◌≤◌, ◌+◌, ◌++◌, IsTrue, OnOk, List};
+ghost use Rattle.std.specs.Prelude.{◌≡◌, ◌≤◌, ◌+◌, ◌^◌, ◌++◌, IsTrue, OnOk, List};
 ghost use Rattle.std.specs.List.{list_all};
 ghost use Rattle.sch_select_memory.specs.Addresses.{max_heap_end};
 ghost use Rattle.sch_asm.specs.declared.item.Item.{Item};
@@ -16,7 +16,7 @@ use sch_control::{Atom, Operand};
 use sch_insn::register::{R11, RAX, RCX};
 use sch_insn::{Arg, Insn};
 use sch_select_memory::addresses::stop;
-use sch_word::{List, Mem, Place, Primitive, Stop, add_numbers};
+use sch_word::{List, Mem, Place, Primitive, Stop};
 
 /// An index into RCX. What a primitive reads is no number: stop 65.
 fn index(out: &mut List<Item>, o: &Operand<Place>) -> Result<(), Mem>
@@ -37,6 +37,7 @@ fn three(
     b: &Operand<Place>,
     c: &Operand<Place>,
 ) -> Result<(), Mem>
+    requires labels { n + 12 ≤ 2 ^ 32 }
     requires first { IsTrue (is_reached_operand a.now) }
     requires second { IsTrue (is_reached_operand b.now) }
     requires third { IsTrue (is_reached_operand c.now) }
@@ -44,7 +45,7 @@ fn three(
 {
     operand(out, n, c)?;
     out.push(Item::Plain(Insn::MovTo(Arg::Reg(R11), RAX)))?;
-    operand(out, add_numbers(n, 4)?, a)?;
+    operand(out, n + 4, a)?;
     index(out, b)
 }
 
@@ -61,7 +62,8 @@ fn ternary(out: &mut List<Item>, which: Primitive) -> Result<(), Mem>
 
 /// A primitive of two operands, or a new pair.
 fn pair_or_binary(out: &mut List<Item>, heap_end: u32, n: u32, which: Primitive) -> Result<(), Mem>
-    requires { heap_end ≤ max_heap_end }
+    requires low { heap_end ≤ max_heap_end }
+    requires labels { n + 4 ≤ 2 ^ 32 }
     ensures { OnOk result ((rest : List Item) → out.new ++ rest ≡ out.old ++ pair_or_binary heap_end n which rest) }
 {
     match which {
@@ -70,7 +72,7 @@ fn pair_or_binary(out: &mut List<Item>, heap_end: u32, n: u32, which: Primitive)
     }
 }
 
-/// A primitive.
+/// A primitive. Its labels are from n to n + 11.
 pub fn primitive(
     out: &mut List<Item>,
     heap_end: u32,
@@ -79,6 +81,7 @@ pub fn primitive(
     operands: &[Operand<Place>],
 ) -> Result<(), Mem>
     requires low { heap_end ≤ max_heap_end }
+    requires labels { n + 12 ≤ 2 ^ 32 }
     requires reached { IsTrue (list_all is_reached_operand operands.now) }
     ensures { OnOk result ((rest : List Item) → out.new ++ rest
         ≡ out.old ++ primitive_code heap_end n which operands.now rest) }
@@ -86,12 +89,12 @@ pub fn primitive(
     match operands {
         [o] => {
             operand(out, n, o)?;
-            unary(out, add_numbers(n, 8)?, which)
+            unary(out, n + 8, which)
         }
         [o, q] => {
             operand(out, n, o)?;
-            second(out, add_numbers(n, 4)?, q)?;
-            pair_or_binary(out, heap_end, add_numbers(n, 8)?, which)
+            second(out, n + 4, q)?;
+            pair_or_binary(out, heap_end, n + 8, which)
         }
         [o, q, r] => {
             three(out, n, o, q, r)?;

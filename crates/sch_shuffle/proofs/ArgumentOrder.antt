@@ -4,6 +4,7 @@ use Rattle.std.specs.Prelude.{filter}
 use Rattle.std.proofs.lemmas.List.{map-append, append-nil, take_at, drop_at}
 use Rattle.std.proofs.lemmas.List.Elements.{filter-append}
 use Rattle.sch_word.specs.trees.Bindings.{numbers}
+use Rattle.sch_word.specs.trees.NumberSets.{has}
 use Rattle.sch_word.specs.declared.place.Place.{Place}
 use Rattle.sch_word.proofs.facts.NumberSets.{numbers_length}
 use Rattle.sch_shuffle.specs.declared.choice.Choice.{Choice}
@@ -11,7 +12,7 @@ use Rattle.sch_shuffle.specs.declared.choice.Choice.TheVariants.{Direct, Aside}
 use Rattle.sch_shuffle.specs.Tree.{Tree}
 use Rattle.sch_shuffle.specs.Assignment.{place_at, Transfer}
 use Rattle.sch_shuffle.specs.Plans.{onward, transfer, transfers}
-use Rattle.sch_shuffle.specs.Greedy.{uses_target, is_in, number_of, all_choices, evaluations, onwards, made}
+use Rattle.sch_shuffle.specs.Greedy.{uses_target, number_of, all_choices, evaluations, onwards, made}
 use Rattle.sch_shuffle.specs.GreedySteps.{order, IsOrdered, onward_from, GoesOnInOrder}
 use Rattle.sch_shuffle.proofs.WaitingArguments.{members, choice_members, length_choices, in_numbers}
 
@@ -54,7 +55,7 @@ module _ (args : List Tree) (targets free : List Place) where
       let cs : List Choice = all_choices args targets in
       record {
         whole = ap length order_is ∙ members_length cs ∙ length_choices (uses_target args targets) n (numbers 0 n);
-        each = λ k lt. ap (is_in k) order_is ∙ choice_members (uses_target args targets) n (numbers 0 n) (numbers_length 0 n) k ∙ in_numbers n 0 k (omega arith) (omega (arith, lt));
+        each = λ k lt. ap (has k) order_is ∙ choice_members (uses_target args targets) n (numbers 0 n) (numbers_length 0 n) k ∙ in_numbers n 0 k (omega arith) (omega (arith, lt));
       }
 
   -- ## What was set aside

@@ -1,16 +1,16 @@
 -- As many temporaries as rings.
 use Rattle.std.proofs.Common.{◌≡◌, ℕ, zero, suc, ◌+◌, ◌-◌, ◌<◌, ◌≤◌, Bool, true, false, List, [], ◌∷◌, length, refl, ap, sym, ◌∙◌, arith, inl, inr, get_or}
-use Rattle.std.specs.Prelude.{nat_eq}
-use Rattle.std.proofs.lemmas.Bool.{cases_eq, cases_lt, eq-eqb, ne_eqb, cases_Bool}
-use Rattle.std.proofs.Math.Bool.{or-true}
+use Rattle.std.proofs.lemmas.Bool.{cases_eq, cases_lt, ne_eqb, cases_Bool}
 use Rattle.sch_word.specs.trees.Bindings.{numbers}
+use Rattle.sch_word.specs.trees.NumberSets.{has}
 use Rattle.sch_word.specs.declared.place.Place.{Place}
+use Rattle.sch_word.proofs.facts.NumberSets.{in_more}
 use Rattle.sch_shuffle.specs.Tree.{Tree}
 use Rattle.sch_shuffle.specs.Assignment.{AreDistinct, temps}
 use Rattle.sch_shuffle.specs.Plans.{Act, direct, aside, across, onward, transfers, sets_aside, count, NeedsTemporaries}
-use Rattle.sch_shuffle.specs.Greedy.{uses_target, is_in}
+use Rattle.sch_shuffle.specs.Greedy.{uses_target}
 use Rattle.sch_shuffle.specs.CycleSearch.{successor, iter, path, ring, is_ring, all_rings}
-use Rattle.sch_shuffle.proofs.WaitingArguments.{Once, below_in, rising_numbers, below_numbers}
+use Rattle.sch_shuffle.proofs.WaitingArguments.{Once, below_in, in_first, in_rest, rising_numbers, below_numbers}
 use Rattle.sch_shuffle.proofs.Paths.{path_at, length_path, iter_add, Back, ring_cases}
 use Rattle.sch_shuffle.proofs.ExactCycles.{length_le, where_in, ring_is, rings_sound, rings_rise}
 use Rattle.sch_shuffle.proofs.RingNeedsTemporary.{sets_one_aside}
@@ -31,35 +31,35 @@ temps_asides args targets (aside k p ∷ list) = ap suc (temps_asides args targe
 temps_asides args targets (across k p q ∷ list) = ap suc (temps_asides args targets list)
 temps_asides args targets (onward k p ∷ list) = temps_asides args targets list
 
-counted_in : (list : List Act) (i : ℕ) → 1 ≤ count (sets_aside i) list → is_in i (asides list) ≡ true
+counted_in : (list : List Act) (i : ℕ) → 1 ≤ count (sets_aside i) list → has i (asides list) ≡ true
 counted_in [] i h = absurd (omega (arith, h))
 counted_in (direct k ∷ list) i h = counted_in list i h
 counted_in (onward k p ∷ list) i h = counted_in list i h
-counted_in (across k p q ∷ list) i h = let r = counted_in list i h in rw r (or-true (nat_eq k i))
+counted_in (across k p q ∷ list) i h = in_more i k (asides list) (counted_in list i h)
 counted_in (aside k p ∷ list) i h =
     elim (cases_eq k i) [
-      | inl same ↦ let yes_ = eq-eqb k i same in rw yes_ refl
-      | inr other ↦ let no_ = ne_eqb k i other in rw no_ (counted_in list i (rw no_ at h))
+      | inl same ↦ in_first k i (asides list) same
+      | inr other ↦ let no_ = ne_eqb k i other in in_more i k (asides list) (counted_in list i (rw no_ at h))
     ]
 
-pub in_at_index : (js : List ℕ) (a j : ℕ) → a < length js → get_or js a 0 ≡ j → is_in j js ≡ true
+pub in_at_index : (js : List ℕ) (a j : ℕ) → a < length js → get_or js a 0 ≡ j → has j js ≡ true
 in_at_index [] a j h e = absurd (omega (arith, h))
-in_at_index (i ∷ js) zero j h e = let yes_ = eq-eqb i j e in rw yes_ refl
-in_at_index (i ∷ js) (suc a) j h e = let r = in_at_index js a j (omega (arith, h)) e in rw r (or-true (nat_eq i j))
+in_at_index (i ∷ js) zero j h e = in_first i j js e
+in_at_index (i ∷ js) (suc a) j h e = in_more j i js (in_at_index js a j (omega (arith, h)) e)
 
 -- ## At least as many
 
 abbrev Apart : List (List ℕ) → Type 0
-Apart rs = (a b : ℕ) → a < b → b < length rs → (v : ℕ) → is_in v (get_or rs a []) ≡ true → is_in v (get_or rs b []) ≡ true → ⊥
+Apart rs = (a b : ℕ) → a < b → b < length rs → (v : ℕ) → has v (get_or rs a []) ≡ true → has v (get_or rs b []) ≡ true → ⊥
 
-picked : (rs : List (List ℕ)) (P : ℕ → Type 0) → Apart rs → ((a : ℕ) → a < length rs → (v : ℕ) × (is_in v (get_or rs a []) ≡ true) × P v)
+picked : (rs : List (List ℕ)) (P : ℕ → Type 0) → Apart rs → ((a : ℕ) → a < length rs → (v : ℕ) × (has v (get_or rs a []) ≡ true) × P v)
     → (zs : List ℕ) × (length zs ≡ length rs) × Once zs
-    × ((j : ℕ) → is_in j zs ≡ true → P j × ((a : ℕ) × (a < length rs) × (is_in j (get_or rs a []) ≡ true)))
+    × ((j : ℕ) → has j zs ≡ true → P j × ((a : ℕ) × (a < length rs) × (has j (get_or rs a []) ≡ true)))
 picked [] P apart each = ([], refl, tt, λ j e. absurd (cc))
 picked (r ∷ rs) P apart each =
     let first_ = each 0 (omega arith) in
     let rest = picked rs P (λ a b h k. apart (suc a) (suc b) (omega (arith, h)) (omega (arith, k))) (λ a h. each (suc a) (omega (arith, h))) in
-    let off : is_in first_.0 rest.0 ≡ false = elim (cases_Bool (is_in first_.0 rest.0)) [
+    let off : has first_.0 rest.0 ≡ false = elim (cases_Bool (has first_.0 rest.0)) [
       | inl there ↦ let w = rest.3 first_.0 there in absurd (apart 0 (suc w.1.0) (omega arith) (let z = w.1.1 in omega (arith, z)) first_.0 first_.1 w.1.2)
       | inr not_ ↦ not_
     ] in (
@@ -69,8 +69,7 @@ picked (r ∷ rs) P apart each =
       λ j e. elim (cases_eq first_.0 j) [
         | inl same ↦ rw (← same) (first_.2, (0, omega arith, first_.1))
         | inr other ↦
-            let no_ = ne_eqb first_.0 j other in
-            let w = rest.3 j (rw no_ at e) in (w.0, (suc w.1.0, (let z = w.1.1 in omega (arith, z)), w.1.2))
+            let w = rest.3 j (in_rest first_.0 j rest.0 other e) in (w.0, (suc w.1.0, (let z = w.1.1 in omega (arith, z)), w.1.2))
       ],
     )
 
@@ -97,14 +96,14 @@ module _ (args : List Tree) (targets : List Place) (l : length targets ≡ lengt
             let rest = no_earlier fuel (c - m) k m back (omega (arith, h, some, more)) in omega (arith, same, rest)
       ]
 
-  in_path : (m x v : ℕ) → is_in v (path S m x) ≡ true → (a : ℕ) × (a < m) × (iter S a x ≡ v)
+  in_path : (m x v : ℕ) → has v (path S m x) ≡ true → (a : ℕ) × (a < m) × (iter S a x ≡ v)
   in_path m x v e =
       let w = where_in (path S m x) v e in
       let len = length_path S m x in
       let h : w.0 < m = let z = w.1 in omega (arith, z, len) in (w.0, h, sym (path_at S m x w.0 0 h) ∙ w.2)
 
   -- rings that start at different arguments have none in common
-  rings_apart : (i j v : ℕ) → i < j → j < n → is_ring (ring S n i) ≡ true → is_ring (ring S n j) ≡ true → is_in v (ring S n i) ≡ true → is_in v (ring S n j) ≡ true → ⊥
+  rings_apart : (i j v : ℕ) → i < j → j < n → is_ring (ring S n i) ≡ true → is_ring (ring S n j) ≡ true → has v (ring S n i) ≡ true → has v (ring S n j) ≡ true → ⊥
   rings_apart i j v lt jn hi hj vi vj =
       elim (ring_cases S n i (omega (arith, lt, jn))) [
         | inl none ↦ let bad : is_ring (ring S n i) ≡ false = rw none refl in let both : true ≡ false = sym hi ∙ bad in cc
@@ -130,7 +129,7 @@ module _ (args : List Tree) (targets : List Place) (l : length targets ≡ lengt
       λ a b lt h v x y.
       let f = rings_rise args targets l apart (numbers 0 n) (rising_numbers n 0) a b lt h in
       rings_apart f.0 f.1 v f.2 (below_in n (numbers 0 n) below f.1 f.3) f.6 f.7 (rw f.4 at x) (rw f.5 at y) in
-      let zs = picked rs (λ v. is_in v (asides list) ≡ true) far (λ a h.
+      let zs = picked rs (λ v. has v (asides list) ≡ true) far (λ a h.
       let f = rings_sound args targets l apart (numbers 0 n) a h in
       let is = (ring_is args targets l apart f.0 (below_in n (numbers 0 n) below f.0 f.1) f.2).0 in
       let one = sets_one_aside args targets l apart (ring S n f.0) is list plan realizes in

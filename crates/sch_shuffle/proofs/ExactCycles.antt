@@ -1,53 +1,53 @@
 -- The rings that are found are exactly the rings that there are.
 use Rattle.std.proofs.Common.{◌≡◌, ◌≢◌, ℕ, zero, suc, ◌+◌, ◌-◌, ◌<◌, ◌≤◌, Bool, true, false, List, [], ◌∷◌, length, refl, ap, sym, ◌∙◌, arith, inl, inr, ◌⊎◌, get_or}
-use Rattle.std.specs.Prelude.{nat_eq, nat_lt}
-use Rattle.std.proofs.lemmas.Bool.{cases_eq, cases_lt, eq-eqb, ne_eqb, cases_Bool}
+use Rattle.std.specs.Prelude.{nat_lt}
+use Rattle.std.proofs.lemmas.Bool.{cases_eq, cases_lt, cases_Bool}
 use Rattle.std.proofs.lemmas.Bool.Decides.{nat_tests}
 use Rattle.std.proofs.lemmas.List.{same_lists, length-map, get_or_default, get_or-map}
-use Rattle.std.proofs.Math.Bool.{or-true}
 use Rattle.sch_word.specs.trees.Bindings.{numbers}
+use Rattle.sch_word.specs.trees.NumberSets.{has}
 use Rattle.sch_word.specs.declared.place.Place.{Place}
 use Rattle.sch_word.specs.declared.place.Place.TheVariants.{Reg}
-use Rattle.sch_word.proofs.facts.NumberSets.{numbers_length}
+use Rattle.sch_word.proofs.facts.NumberSets.{in_here, in_more, numbers_length}
 use Rattle.sch_shuffle.specs.Tree.{Tree, place, fixed, literal, read}
 use Rattle.sch_word.specs.values.Places.{same_place}
 use Rattle.sch_shuffle.specs.Assignment.{operand_at, place_at, AreDistinct}
-use Rattle.sch_shuffle.specs.Greedy.{is_in, without}
+use Rattle.sch_shuffle.specs.Greedy.{without}
 use Rattle.sch_shuffle.specs.Cycles.{IsRing, AreTheCycles}
 use Rattle.sch_shuffle.specs.CycleSearch.{stands_in, first, successor, iter, path, ring, is_ring, rings, all_rings, places_at, cycles}
-use Rattle.sch_shuffle.proofs.WaitingArguments.{Rising, Once, is_above, below_in, length_without, without_other, in_numbers, rising_numbers, below_numbers, rising_rest}
+use Rattle.sch_shuffle.proofs.WaitingArguments.{Rising, Once, in_rest, is_above, below_in, length_without, without_other, in_numbers, rising_numbers, below_numbers, rising_rest}
 use Rattle.sch_word.proofs.facts.Places.{place_same, places_same}
 use Rattle.sch_shuffle.proofs.Paths.{first_found, Back, length_path, path_at, iter_suc, walks_back, all_differ, ring_walk, ring_cases}
 
 -- ## Lists without repetition
 
-pub length_le : (xs ys : List ℕ) → Once xs → ((j : ℕ) → is_in j xs ≡ true → is_in j ys ≡ true) → length xs ≤ length ys
+pub length_le : (xs ys : List ℕ) → Once xs → ((j : ℕ) → has j xs ≡ true → has j ys ≡ true) → length xs ≤ length ys
 length_le [] ys o h = omega arith
 length_le (x ∷ xs) ys o h =
-    let inside : is_in x ys ≡ true = h x (let yes_ = eq-eqb x x refl in rw yes_ refl) in
+    let inside : has x ys ≡ true = h x (in_here x xs) in
     let less = length_without x ys inside in
     let rest = length_le xs (without x ys) o.1 (λ j e.
-    let ne : j ≢ x = λ same. absurd (let bad : is_in x xs ≡ true = ap (λ i. is_in i xs) (sym same) ∙ e in let both : true ≡ false = sym bad ∙ o.0 in cc) in
-    without_other j x ys ne ∙ h j (rw e (or-true (nat_eq x j)))) in
+    let ne : j ≢ x = λ same. absurd (let bad : has x xs ≡ true = ap (λ i. has i xs) (sym same) ∙ e in let both : true ≡ false = sym bad ∙ o.0 in cc) in
+    without_other j x ys ne ∙ h j (in_more j x xs e)) in
     omega (arith, less, rest)
 
-pub few : (n : ℕ) (xs : List ℕ) → Once xs → ((j : ℕ) → is_in j xs ≡ true → j < n) → length xs ≤ n
+pub few : (n : ℕ) (xs : List ℕ) → Once xs → ((j : ℕ) → has j xs ≡ true → j < n) → length xs ≤ n
 few n xs o h =
     let l = length_le xs (numbers 0 n) o (λ j e. in_numbers n 0 j (omega arith) (let k = h j e in omega (arith, k))) in
     let m = numbers_length 0 n in omega (arith, l, m)
 
-pub where_in : (js : List ℕ) (j : ℕ) → is_in j js ≡ true → (a : ℕ) × (a < length js) × (get_or js a 0 ≡ j)
+pub where_in : (js : List ℕ) (j : ℕ) → has j js ≡ true → (a : ℕ) × (a < length js) × (get_or js a 0 ≡ j)
 where_in [] j e = absurd (cc)
 where_in (i ∷ js) j e =
     elim (cases_eq i j) [
       | inl same ↦ (0, omega arith, same)
-      | inr other ↦ let no_ = ne_eqb i j other in let w = where_in js j (rw no_ at e) in (suc w.0, omega (arith, w.1), w.2)
+      | inr other ↦ let w = where_in js j (in_rest i j js other e) in (suc w.0, omega (arith, w.1), w.2)
     ]
 
 pub once_from : (js : List ℕ) → ((a b : ℕ) → a < length js → b < length js → get_or js a 0 ≡ get_or js b 0 → a ≡ b) → Once js
 once_from [] h = tt
 once_from (j ∷ js) h = (
-  elim (cases_Bool (is_in j js)) [
+  elim (cases_Bool (has j js)) [
     | inl there ↦ let w = where_in js j there in absurd (let bad = h 0 (suc w.0) (omega arith) (omega (arith, w.1)) (sym w.2) in omega (arith, bad))
     | inr not_there ↦ not_there
   ],
@@ -194,32 +194,31 @@ module _ (args : List Tree) (targets : List Place) (l : length targets ≡ lengt
   -- ## All of them
 
   pub rings_sound : (ks : List ℕ) (a : ℕ) → a < length (rings S n ks)
-      → (k : ℕ) × (is_in k ks ≡ true) × (is_ring (ring S n k) ≡ true) × (get_or (rings S n ks) a [] ≡ ring S n k)
+      → (k : ℕ) × (has k ks ≡ true) × (is_ring (ring S n k) ≡ true) × (get_or (rings S n ks) a [] ≡ ring S n k)
   rings_sound [] a h = absurd (omega (arith, h))
   rings_sound (k ∷ ks) a h = go (cases_Bool (is_ring (ring S n k))) (rings_sound ks)
     where
-      here : is_in k (k ∷ ks) ≡ true
-      here = let yes_ = eq-eqb k k refl in rw yes_ refl
+      here : has k (k ∷ ks) ≡ true
+      here = in_here k ks
 
       go : ((is_ring (ring S n k) ≡ true) ⊎ (is_ring (ring S n k) ≡ false))
-          → ((a : ℕ) → a < length (rings S n ks) → (j : ℕ) × (is_in j ks ≡ true) × (is_ring (ring S n j) ≡ true) × (get_or (rings S n ks) a [] ≡ ring S n j))
-          → (j : ℕ) × (is_in j (k ∷ ks) ≡ true) × (is_ring (ring S n j) ≡ true) × (get_or (rings S n (k ∷ ks)) a [] ≡ ring S n j)
-      go (inr no_) rest = let f = rest a (rw no_ at h) in (f.0, rw f.1 (or-true (nat_eq k f.0)), f.2, rw no_ f.3)
+          → ((a : ℕ) → a < length (rings S n ks) → (j : ℕ) × (has j ks ≡ true) × (is_ring (ring S n j) ≡ true) × (get_or (rings S n ks) a [] ≡ ring S n j))
+          → (j : ℕ) × (has j (k ∷ ks) ≡ true) × (is_ring (ring S n j) ≡ true) × (get_or (rings S n (k ∷ ks)) a [] ≡ ring S n j)
+      go (inr no_) rest = let f = rest a (rw no_ at h) in (f.0, in_more f.0 k ks f.1, f.2, rw no_ f.3)
       go (inl yes_) rest = at_ a (rw yes_ at h)
         where
-          at_ : (b : ℕ) → b < suc (length (rings S n ks)) → (j : ℕ) × (is_in j (k ∷ ks) ≡ true) × (is_ring (ring S n j) ≡ true) × (get_or (rings S n (k ∷ ks)) b [] ≡ ring S n j)
+          at_ : (b : ℕ) → b < suc (length (rings S n ks)) → (j : ℕ) × (has j (k ∷ ks) ≡ true) × (is_ring (ring S n j) ≡ true) × (get_or (rings S n (k ∷ ks)) b [] ≡ ring S n j)
           at_ zero x = (k, here, yes_, rw yes_ refl)
-          at_ (suc b) x = let f = rest b (omega (arith, x)) in (f.0, rw f.1 (or-true (nat_eq k f.0)), f.2, rw yes_ f.3)
+          at_ (suc b) x = let f = rest b (omega (arith, x)) in (f.0, in_more f.0 k ks f.1, f.2, rw yes_ f.3)
 
-  pub rings_complete : (ks : List ℕ) (k : ℕ) → is_in k ks ≡ true → is_ring (ring S n k) ≡ true
+  pub rings_complete : (ks : List ℕ) (k : ℕ) → has k ks ≡ true → is_ring (ring S n k) ≡ true
       → (a : ℕ) × (a < length (rings S n ks)) × (get_or (rings S n ks) a [] ≡ ring S n k)
   rings_complete [] k e h = absurd (cc)
   rings_complete (j ∷ ks) k e h =
       elim (cases_eq j k) [
         | inl same ↦ let yes_ : is_ring (ring S n j) ≡ true = ap (λ i. is_ring (ring S n i)) same ∙ h in (0, rw yes_ (omega arith), rw yes_ (ap (ring S n) same))
         | inr other ↦
-            let no_ = ne_eqb j k other in
-            let f = rings_complete ks k (rw no_ at e) h in
+            let f = rings_complete ks k (in_rest j k ks other e) h in
             elim (cases_Bool (is_ring (ring S n j))) [
               | inl yes_ ↦ (suc f.0, rw yes_ (omega (arith, f.1)), rw yes_ f.2)
               | inr not_ ↦ (f.0, rw not_ f.1, rw not_ f.2)
@@ -228,29 +227,29 @@ module _ (args : List Tree) (targets : List Place) (l : length targets ≡ lengt
 
   -- those that come later have greater starts
   pub rings_rise : (ks : List ℕ) → Rising ks → (a b : ℕ) → a < b → b < length (rings S n ks)
-      → (i j : ℕ) × (i < j) × (is_in j ks ≡ true) × (get_or (rings S n ks) a [] ≡ ring S n i) × (get_or (rings S n ks) b [] ≡ ring S n j)
+      → (i j : ℕ) × (i < j) × (has j ks ≡ true) × (get_or (rings S n ks) a [] ≡ ring S n i) × (get_or (rings S n ks) b [] ≡ ring S n j)
       × (is_ring (ring S n i) ≡ true) × (is_ring (ring S n j) ≡ true)
   rings_rise [] r a b lt h = absurd (omega (arith, h))
   rings_rise (k ∷ ks) r a b lt h = go (cases_Bool (is_ring (ring S n k))) (rings_rise ks (rising_rest k ks r))
     where
       go : ((is_ring (ring S n k) ≡ true) ⊎ (is_ring (ring S n k) ≡ false))
-          → ((a b : ℕ) → a < b → b < length (rings S n ks) → (i j : ℕ) × (i < j) × (is_in j ks ≡ true) × (get_or (rings S n ks) a [] ≡ ring S n i) × (get_or (rings S n ks) b [] ≡ ring S n j)
+          → ((a b : ℕ) → a < b → b < length (rings S n ks) → (i j : ℕ) × (i < j) × (has j ks ≡ true) × (get_or (rings S n ks) a [] ≡ ring S n i) × (get_or (rings S n ks) b [] ≡ ring S n j)
           × (is_ring (ring S n i) ≡ true) × (is_ring (ring S n j) ≡ true))
-          → (i j : ℕ) × (i < j) × (is_in j (k ∷ ks) ≡ true) × (get_or (rings S n (k ∷ ks)) a [] ≡ ring S n i) × (get_or (rings S n (k ∷ ks)) b [] ≡ ring S n j)
+          → (i j : ℕ) × (i < j) × (has j (k ∷ ks) ≡ true) × (get_or (rings S n (k ∷ ks)) a [] ≡ ring S n i) × (get_or (rings S n (k ∷ ks)) b [] ≡ ring S n j)
           × (is_ring (ring S n i) ≡ true) × (is_ring (ring S n j) ≡ true)
       go (inr no_) rest =
-          let f = rest a b lt (rw no_ at h) in (f.0, f.1, f.2, rw f.3 (or-true (nat_eq k f.1)), rw no_ f.4, rw no_ f.5, f.6, f.7)
+          let f = rest a b lt (rw no_ at h) in (f.0, f.1, f.2, in_more f.1 k ks f.3, rw no_ f.4, rw no_ f.5, f.6, f.7)
       go (inl yes_) rest = at_ a b lt (rw yes_ at h)
         where
           at_ : (a b : ℕ) → a < b → b < suc (length (rings S n ks))
-              → (i j : ℕ) × (i < j) × (is_in j (k ∷ ks) ≡ true) × (get_or (rings S n (k ∷ ks)) a [] ≡ ring S n i) × (get_or (rings S n (k ∷ ks)) b [] ≡ ring S n j)
+              → (i j : ℕ) × (i < j) × (has j (k ∷ ks) ≡ true) × (get_or (rings S n (k ∷ ks)) a [] ≡ ring S n i) × (get_or (rings S n (k ∷ ks)) b [] ≡ ring S n j)
               × (is_ring (ring S n i) ≡ true) × (is_ring (ring S n j) ≡ true)
           at_ a zero x y = absurd (omega (arith, x))
           at_ zero (suc b) x y =
               let f = rings_sound ks b (omega (arith, y)) in
-              (k, f.0, is_above k ks r f.0 f.1, rw f.1 (or-true (nat_eq k f.0)), rw yes_ refl, rw yes_ f.3, yes_, f.2)
+              (k, f.0, is_above k ks r f.0 f.1, in_more f.0 k ks f.1, rw yes_ refl, rw yes_ f.3, yes_, f.2)
           at_ (suc a) (suc b) x y =
-              let f = rest a b (omega (arith, x)) (omega (arith, y)) in (f.0, f.1, f.2, rw f.3 (or-true (nat_eq k f.1)), rw yes_ f.4, rw yes_ f.5, f.6, f.7)
+              let f = rest a b (omega (arith, x)) (omega (arith, y)) in (f.0, f.1, f.2, in_more f.1 k ks f.3, rw yes_ f.4, rw yes_ f.5, f.6, f.7)
 
   starts : (k : ℕ) → k < n → is_ring (ring S n k) ≡ true → place_at (places_at targets (ring S n k)) 0 ≡ place_at targets k
   starts k kn h =

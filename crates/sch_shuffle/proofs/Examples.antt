@@ -3,6 +3,7 @@ use Rattle.std.specs.Prelude.{◌≡◌, ℕ, zero, suc, ◌+◌, ◌*◌, Bool,
 use Rattle.std.proofs.Common.{refl, ap, arith, inl, inr, ◌<◌, ◌≤◌}
 use Rattle.std.proofs.lemmas.List.Elements.{All-from_recursion, recursion_from_All}
 use Rattle.sch_word.specs.declared.place.Place.{Place}
+use Rattle.sch_word.specs.trees.NumberSets.{has}
 use Rattle.sch_word.specs.declared.place.Place.TheVariants.{Reg, Slot}
 use Rattle.sch_word.specs.declared.primitive.Primitive.{Primitive}
 use Rattle.sch_word.specs.declared.primitive.Primitive.TheVariants.{Eq, IsPair}
@@ -12,7 +13,7 @@ use Rattle.sch_word.specs.values.Places.{same_place}
 use Rattle.sch_shuffle.specs.Meaning.{Reading, given}
 use Rattle.sch_shuffle.specs.Assignment.{place_at, Transfer, after, Assigns, Carries, AlwaysAssigns, IsAmong, IsSpare, AreDistinct, temps}
 use Rattle.sch_shuffle.specs.Plans.{direct, aside, across, onward, transfer, transfers, evaluates, sets_aside, goes_on, is_across, count, IsAct, IsPlan, IsMove, AreAtoms, NeedsTemporaries}
-use Rattle.sch_shuffle.specs.Greedy.{uses_target, needed, goes_before, is_in, all_choices, acts, made}
+use Rattle.sch_shuffle.specs.Greedy.{uses_target, needed, goes_before, all_choices, acts, made}
 use Rattle.sch_shuffle.specs.GreedySteps.{waiting, order, IsGreedy, IsOrdered, GoesOnInOrder}
 use Rattle.sch_shuffle.specs.Cycles.{IsRing, AreTheCycles}
 use Rattle.sch_shuffle.specs.CycleSearch.{successor, path, period, ring, cycles}
@@ -314,10 +315,10 @@ equal_row = refl
 stays_row : goes_before 2 0 ≡ false
 stays_row = refl
 
-in_row : is_in 2 (0 ∷ 2 ∷ []) ≡ true
+in_row : has 2 (0 ∷ 2 ∷ []) ≡ true
 in_row = refl
 
-not_in_row : is_in 1 (0 ∷ 2 ∷ []) ≡ false
+not_in_row : has 1 (0 ∷ 2 ∷ []) ≡ false
 not_in_row = refl
 
 -- ## A chain, and an argument that stands where it should

@@ -4,6 +4,7 @@ use Rattle.std.proofs.lemmas.Bool.{cases_eq, ne_eqb}
 use Rattle.std.proofs.lemmas.Bool.Decides.{nat_tests}
 use Rattle.std.proofs.lemmas.List.{map-append}
 use Rattle.sch_word.specs.trees.Bindings.{numbers}
+use Rattle.sch_word.specs.trees.NumberSets.{has}
 use Rattle.sch_word.specs.declared.place.Place.{Place}
 use Rattle.sch_word.proofs.facts.NumberSets.{numbers_length}
 use Rattle.sch_shuffle.specs.declared.choice.Choice.{Choice}
@@ -11,9 +12,9 @@ use Rattle.sch_shuffle.specs.declared.choice.Choice.TheVariants.{Direct, Aside}
 use Rattle.sch_shuffle.specs.Tree.{Tree}
 use Rattle.sch_shuffle.specs.Assignment.{place_at, Transfer, temps}
 use Rattle.sch_shuffle.specs.Plans.{transfer, transfers}
-use Rattle.sch_shuffle.specs.Greedy.{uses_target, needed, goes_before, next, next_of, is_in, without, chosen, choices, all_choices, evaluations, onwards, made}
+use Rattle.sch_shuffle.specs.Greedy.{uses_target, needed, goes_before, next, next_of, without, chosen, choices, all_choices, evaluations, onwards, made}
 use Rattle.sch_shuffle.specs.GreedySteps.{waiting, IsFirstClear, IsMostUsed, IsGreedyStep, IsGreedy}
-use Rattle.sch_shuffle.proofs.WaitingArguments.{Above, Rising, above_lower, rising_without, next_of_in, length_without, rising_numbers}
+use Rattle.sch_shuffle.proofs.WaitingArguments.{Above, Rising, above_lower, in_rest, rising_without, next_of_in, length_without, rising_numbers}
 
 before_true : (a b : ℕ) → goes_before a b ≡ true → (0 < b) × ((a ≡ 0) ⊎ (b < a))
 before_true a zero h = absurd (cc)
@@ -63,31 +64,31 @@ first_stays f k b lower h =
     ]
 
 next_best : (f : ℕ → ℕ) (b : ℕ) (ks : List ℕ) → Above b ks
-    → AtLeast f (next f b ks) b × ((j : ℕ) → is_in j ks ≡ true → AtLeast f (next f b ks) j)
+    → AtLeast f (next f b ks) b × ((j : ℕ) → has j ks ≡ true → AtLeast f (next f b ks) j)
 next_best f b [] h = (itself f b, λ j e. absurd (cc))
 next_best f b (k ∷ ks) h =
     go (goes_before (f k) (f b)) refl (next_best f k ks h.1) (next_best f b ks (above_lower b k ks h.0 h.1))
   where
-    go : (t : Bool) → goes_before (f k) (f b) ≡ t → (AtLeast f (next f k ks) k × ((j : ℕ) → is_in j ks ≡ true → AtLeast f (next f k ks) j))
-        → (AtLeast f (next f b ks) b × ((j : ℕ) → is_in j ks ≡ true → AtLeast f (next f b ks) j))
-        → AtLeast f (next f (cond t k b) ks) b × ((j : ℕ) → is_in j (k ∷ ks) ≡ true → AtLeast f (next f (cond t k b) ks) j)
+    go : (t : Bool) → goes_before (f k) (f b) ≡ t → (AtLeast f (next f k ks) k × ((j : ℕ) → has j ks ≡ true → AtLeast f (next f k ks) j))
+        → (AtLeast f (next f b ks) b × ((j : ℕ) → has j ks ≡ true → AtLeast f (next f b ks) j))
+        → AtLeast f (next f (cond t k b) ks) b × ((j : ℕ) → has j (k ∷ ks) ≡ true → AtLeast f (next f (cond t k b) ks) j)
     go true h' x y = (
       follows f (next f k ks) k b x.0 (first_of_two f k b h'),
-      λ j e. elim (cases_eq k j) [ inl same ↦ rw (← same) x.0 | inr other ↦ let no_ = ne_eqb k j other in x.1 j (rw no_ at e) ],
+      λ j e. elim (cases_eq k j) [ inl same ↦ rw (← same) x.0 | inr other ↦ x.1 j (in_rest k j ks other e) ],
     )
     go false h' x y = (
       y.0,
       λ j e. elim (cases_eq k j) [
         | inl same ↦ rw (← same) (follows f (next f b ks) b k y.0 (first_stays f k b h.0 h'))
-        | inr other ↦ let no_ = ne_eqb k j other in y.1 j (rw no_ at e)
+        | inr other ↦ y.1 j (in_rest k j ks other e)
       ],
     )
 
-pub best : (f : ℕ → ℕ) (ws : List ℕ) → Rising ws → (j : ℕ) → is_in j ws ≡ true → AtLeast f (next_of f ws) j
+pub best : (f : ℕ → ℕ) (ws : List ℕ) → Rising ws → (j : ℕ) → has j ws ≡ true → AtLeast f (next_of f ws) j
 best f [] r j e = absurd (cc)
 best f (w ∷ ws) r j e =
     let b = next_best f w ws r in
-    elim (cases_eq w j) [ inl same ↦ rw (← same) b.0 | inr other ↦ let no_ = ne_eqb w j other in b.1 j (rw no_ at e) ]
+    elim (cases_eq w j) [ inl same ↦ rw (← same) b.0 | inr other ↦ b.1 j (in_rest w j ws other e) ]
 
 -- ## Step by step
 

@@ -3,7 +3,7 @@ use Rattle.std.proofs.Common.{◌≡◌, ◌≢◌, ℕ, zero, suc, ◌+◌, ◌
 use Rattle.std.proofs.lemmas.List.{length-map}
 use Rattle.sch_word.specs.trees.Bindings.{numbers}
 use Rattle.sch_word.specs.declared.place.Place.{Place}
-use Rattle.sch_word.specs.declared.place.Place.TheVariants.{Reg, Slot}
+use Rattle.sch_word.specs.declared.place.Place.TheVariants.{Slot}
 use Rattle.sch_shuffle.specs.Tree.{Tree, place}
 use Rattle.sch_shuffle.specs.Assignment.{operand_at, place_at, AreDistinct, AreSpare, temps}
 use Rattle.sch_shuffle.specs.Plans.{AreAtoms}
@@ -11,7 +11,7 @@ use Rattle.sch_shuffle.specs.Greedy.{made}
 use Rattle.sch_shuffle.specs.CycleSearch.{successor, is_ring, rings, all_rings, places_at, cycles}
 use Rattle.sch_shuffle.proofs.WaitingArguments.{AllBelow, below_numbers}
 use Rattle.sch_shuffle.proofs.Paths.{walk, ring_walk}
-use Rattle.sch_word.proofs.facts.Places.{place_other}
+use Rattle.sch_word.proofs.facts.Places.{place_other, slot_number}
 use Rattle.sch_shuffle.proofs.Promises.{as_few}
 
 -- n slots from j on, and what places hold
@@ -73,10 +73,6 @@ held_at : (ps : List Place) (i : ℕ) → i < length ps → operand_at (held ps)
 held_at [] i lt = absurd (omega (arith, lt))
 held_at (p ∷ ps) zero lt = refl
 held_at (p ∷ ps) (suc i) lt = held_at ps i (omega (arith, lt))
-
-abbrev slot_number : Place → ℕ
-slot_number (Slot j) = j
-slot_number (Reg r) = 0
 
 slots_distinct : (n j : ℕ) → AreDistinct (slots n j)
 slots_distinct n j a b x y e =

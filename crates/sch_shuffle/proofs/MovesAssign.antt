@@ -1,23 +1,21 @@
 -- The moves bring each argument to its target, and each takes what its argument gave before them.
-use Rattle.std.proofs.Common.{◌≡◌, ◌≢◌, ℕ, zero, suc, ◌+◌, ◌<◌, ◌≤◌, Bool, true, false, List, [], ◌∷◌, ◌++◌, length, refl, ap, sym, ◌∙◌, arith, inl, inr, ◌⊎◌}
-use Rattle.std.specs.Prelude.{nat_eq}
-use Rattle.std.proofs.lemmas.Bool.{cases_eq, eq-eqb, ne_eqb, eqb-true}
+use Rattle.std.proofs.Common.{◌≡◌, ◌≢◌, ℕ, zero, suc, ◌+◌, ◌<◌, ◌≤◌, Bool, true, false, List, [], ◌∷◌, ◌++◌, length, refl, ap, sym, ◌∙◌, arith, inl, inr}
+use Rattle.std.proofs.lemmas.Bool.{cases_eq}
 use Rattle.std.proofs.Math.Bool.{or-true}
 use Rattle.sch_word.specs.trees.Bindings.{numbers}
+use Rattle.sch_word.specs.trees.NumberSets.{has}
 use Rattle.sch_word.specs.declared.place.Place.{Place}
-use Rattle.sch_word.specs.declared.place.Place.TheVariants.{Reg, Slot}
-use Rattle.sch_word.proofs.facts.NumberSets.{numbers_length}
+use Rattle.sch_word.proofs.facts.NumberSets.{in_here, in_more, numbers_length}
 use Rattle.sch_shuffle.specs.declared.choice.Choice.{Choice}
 use Rattle.sch_shuffle.specs.declared.choice.Choice.TheVariants.{Direct, Aside}
 use Rattle.sch_shuffle.specs.Tree.{Tree, Trees, place, fixed, literal, read, no_trees, and_tree, uses, uses_one}
-use Rattle.sch_word.specs.values.Places.{same_place}
-use Rattle.sch_word.proofs.facts.Places.{place_same, places_same, place_other, cases_place}
+use Rattle.sch_word.proofs.facts.Places.{place_same, place_other, cases_place}
 use Rattle.sch_shuffle.specs.Meaning.{Reading, given, each_given}
 use Rattle.sch_shuffle.specs.Assignment.{operand_at, place_at, Transfer, moved, after, Assigns, Carries, AreDistinct, AreSpare}
 use Rattle.sch_shuffle.specs.Plans.{Act, direct, aside, across, onward, transfer, transfers}
 use Rattle.sch_shuffle.specs.ActValues.{Depends, EachBrings, acted, after_acts, brings, goes_to}
-use Rattle.sch_shuffle.specs.Greedy.{uses_target, needed, next_of, is_in, without, chosen, choices, all_choices, evaluations, onwards, acts, made}
-use Rattle.sch_shuffle.proofs.WaitingArguments.{Rising, AllBelow, below_in, without_other, without_gone, rising_without, below_without, length_without, next_of_in, in_numbers, rising_numbers, below_numbers, length_choices, members, Once, not_in, choice_members, choice_once, clear, all_below}
+use Rattle.sch_shuffle.specs.Greedy.{uses_target, needed, next_of, without, chosen, choices, all_choices, evaluations, onwards, acts, made}
+use Rattle.sch_shuffle.proofs.WaitingArguments.{Rising, AllBelow, below_in, in_rest, without_other, without_gone, rising_without, below_without, length_without, next_of_in, in_numbers, rising_numbers, below_numbers, length_choices, members, Once, not_in, choice_members, choice_once, clear, all_below}
 
 -- ## What operands give
 
@@ -90,15 +88,15 @@ module _ {V : Type 0} (value : ℕ → (Place → V) → V) (args : List Tree) (
   Taken list t = EachBrings targets value s t list
 
   -- what is not written is kept
-  kept_evaluations : (cs : List Choice) (u : ℕ) (t : Place → V) (p : Place) → ((j : ℕ) → is_in j (members cs) ≡ true → p ≢ place_at targets j)
+  kept_evaluations : (cs : List Choice) (u : ℕ) (t : Place → V) (p : Place) → ((j : ℕ) → has j (members cs) ≡ true → p ≢ place_at targets j)
       → ((v : ℕ) → u ≤ v → v < u + length cs → p ≢ place_at free v) → run (evaluations free u cs) t p ≡ t p
   kept_evaluations [] u t p h k = refl
   kept_evaluations (Direct i ∷ cs) u t p h k =
-      let later : (j : ℕ) → is_in j (members cs) ≡ true → p ≢ place_at targets j = λ j e. h j (rw e (or-true (nat_eq i j))) in
+      let later : (j : ℕ) → has j (members cs) ≡ true → p ≢ place_at targets j = λ j e. h j (in_more j i (members cs) e) in
       kept_evaluations cs u _ p later (λ v a b. k v a (omega (arith, b)))
-      ∙ acted_else targets value (direct i) t p (h i (let yes_ = eq-eqb i i refl in rw yes_ refl))
+      ∙ acted_else targets value (direct i) t p (h i (in_here i (members cs)))
   kept_evaluations (Aside i ∷ cs) u t p h k =
-      let later : (j : ℕ) → is_in j (members cs) ≡ true → p ≢ place_at targets j = λ j e. h j (rw e (or-true (nat_eq i j))) in
+      let later : (j : ℕ) → has j (members cs) ≡ true → p ≢ place_at targets j = λ j e. h j (in_more j i (members cs) e) in
       kept_evaluations cs (suc u) _ p later (λ v a b. k v (omega (arith, a)) (omega (arith, b)))
       ∙ acted_else targets value (aside i (place_at free u)) t p (k u (omega arith) (omega arith))
 
@@ -110,10 +108,10 @@ module _ {V : Type 0} (value : ℕ → (Place → V) → V) (args : List Tree) (
 
   -- what the waiting arguments use is as it was
   abbrev Ready : List ℕ → (Place → V) → Type 0
-  Ready ws t = (j : ℕ) → is_in j ws ≡ true → (p : Place) → uses (operand_at args j) p ≡ true → t p ≡ s p
+  Ready ws t = (j : ℕ) → has j ws ≡ true → (p : Place) → uses (operand_at args j) p ≡ true → t p ≡ s p
 
-  good_step : (ws : List ℕ) (k : ℕ) (rest : List Choice) (c u : ℕ) (t : Place → V) → k < n → AllBelow n ws → is_in k ws ≡ true
-      → ((j : ℕ) → is_in j (without k ws) ≡ true → j ≢ k) → ((j : ℕ) → is_in j (members rest) ≡ true → (is_in j ws ≡ true) × (j ≢ k)) → length rest ≡ c → u + suc c ≤ n → Ready ws t
+  good_step : (ws : List ℕ) (k : ℕ) (rest : List Choice) (c u : ℕ) (t : Place → V) → k < n → AllBelow n ws → has k ws ≡ true
+      → ((j : ℕ) → has j (without k ws) ≡ true → j ≢ k) → ((j : ℕ) → has j (members rest) ≡ true → (has j ws ≡ true) × (j ≢ k)) → length rest ≡ c → u + suc c ≤ n → Ready ws t
       → ((u' : ℕ) (t' : Place → V) → u' + c ≤ n → Ready (without k ws) t' → Good rest u' (run (evaluations free u' rest) t') × Taken (evaluations free u' rest) t')
       → (r : ℕ) → needed W ws k ≡ r
       → Good (chosen r k ∷ rest) u (run (evaluations free u (chosen r k ∷ rest)) t) × Taken (evaluations free u (chosen r k ∷ rest)) t
@@ -127,7 +125,7 @@ module _ {V : Type 0} (value : ℕ → (Place → V) → V) (args : List Tree) (
       ∙ takes in
       let more = ih u t1 (omega (arith, room)) (λ j e p uses_p.
       let ne : j ≢ k = gone j e in
-      let old : is_in j ws ≡ true = sym (without_other j k ws ne) ∙ e in
+      let old : has j ws ≡ true = sym (without_other j k ws ne) ∙ e in
       elim (cases_place p (place_at targets k)) [
         | inl same ↦ absurd (let no_ = clear W ws k none j old ne in let yes_ : W j k ≡ true = rw (← same) uses_p in cc)
         | inr other ↦ acted_else targets value (direct k) t p other ∙ ready j old p uses_p
@@ -143,7 +141,7 @@ module _ {V : Type 0} (value : ℕ → (Place → V) → V) (args : List Tree) (
       ∙ takes in
       let more = ih (suc u) t1 (omega (arith, room)) (λ j e p uses_p.
       let ne : j ≢ k = gone j e in
-      let old : is_in j ws ≡ true = sym (without_other j k ws ne) ∙ e in
+      let old : has j ws ≡ true = sym (without_other j k ws ne) ∙ e in
       elim (cases_place p (place_at free u)) [
         | inl same ↦ absurd (let no_ = unused u j (omega (arith, room)) (below_in n ws below j old) in let yes_ = rw same at uses_p in cc)
         | inr other ↦ acted_else targets value (aside k (place_at free u)) t p other ∙ ready j old p uses_p
@@ -155,20 +153,20 @@ module _ {V : Type 0} (value : ℕ → (Place → V) → V) (args : List Tree) (
   good_all zero ws u t len rising below room ready = (tt, tt)
   good_all (suc c) ws u t len rising below room ready =
       let k : ℕ = next_of (needed W ws) ws in
-      let inside : is_in k ws ≡ true = next_of_in (needed W ws) ws (omega (arith, len)) in
+      let inside : has k ws ≡ true = next_of_in (needed W ws) ws (omega (arith, len)) in
       let less = length_without k ws inside in
       let l : length (without k ws) ≡ c = omega (arith, less, len) in
-      let gone : (j : ℕ) → is_in j (without k ws) ≡ true → j ≢ k =
-      λ j e same. absurd (let g = without_gone k ws rising in let here : is_in k (without k ws) ≡ true = ap (λ x. is_in x (without k ws)) (sym same) ∙ e in cc) in
-      let later : (j : ℕ) → is_in j (members (choices W c (without k ws))) ≡ true → (is_in j ws ≡ true) × (j ≢ k) =
-      λ j e. let there : is_in j (without k ws) ≡ true = sym (choice_members W c (without k ws) l j) ∙ e in (sym (without_other j k ws (gone j there)) ∙ there, gone j there) in
+      let gone : (j : ℕ) → has j (without k ws) ≡ true → j ≢ k =
+      λ j e same. absurd (let g = without_gone k ws rising in let here : has k (without k ws) ≡ true = ap (λ x. has x (without k ws)) (sym same) ∙ e in cc) in
+      let later : (j : ℕ) → has j (members (choices W c (without k ws))) ≡ true → (has j ws ≡ true) × (j ≢ k) =
+      λ j e. let there : has j (without k ws) ≡ true = sym (choice_members W c (without k ws) l j) ∙ e in (sym (without_other j k ws (gone j there)) ∙ there, gone j there) in
       good_step ws k (choices W c (without k ws)) c u t (below_in n ws below k inside) below inside gone later (length_choices W c (without k ws)) room ready
       (λ u' t' room' ready'. good_all c (without k ws) u' t' l (rising_without k ws rising) (below_without n k ws below) room' ready')
       (needed W ws k) refl
 
   -- ## What was set aside goes on
 
-  good_kept : (cs : List Choice) (u k : ℕ) (t t1 : Place → V) → is_in k (members cs) ≡ false → k < n → AllBelow n (members cs) → u + length cs ≤ n
+  good_kept : (cs : List Choice) (u k : ℕ) (t t1 : Place → V) → has k (members cs) ≡ false → k < n → AllBelow n (members cs) → u + length cs ≤ n
       → ((p : Place) → p ≢ place_at targets k → t1 p ≡ t p) → Good cs u t → Good cs u t1
   good_kept [] u k t t1 no_ kn below room same good = tt
   good_kept (Direct i ∷ cs) u k t t1 no_ kn below room same good =
@@ -178,7 +176,7 @@ module _ {V : Type 0} (value : ℕ → (Place → V) → V) (args : List Tree) (
       let apart_ = not_in i k (members cs) no_ in
       (same (place_at free u) (λ e. off u k (omega (arith, room)) kn (sym e)) ∙ good.0, good_kept cs (suc u) k t t1 apart_.1 kn below.1 (omega (arith, room)) same good.1)
 
-  kept_onwards : (cs : List Choice) (u k : ℕ) (t : Place → V) → is_in k (members cs) ≡ false → k < n → AllBelow n (members cs)
+  kept_onwards : (cs : List Choice) (u k : ℕ) (t : Place → V) → has k (members cs) ≡ false → k < n → AllBelow n (members cs)
       → run (onwards free u cs) t (place_at targets k) ≡ t (place_at targets k)
   kept_onwards [] u k t no_ kn below = refl
   kept_onwards (Direct i ∷ cs) u k t no_ kn below = kept_onwards cs u k t (not_in i k (members cs) no_).1 kn below.1
@@ -188,12 +186,12 @@ module _ {V : Type 0} (value : ℕ → (Place → V) → V) (args : List Tree) (
       ∙ acted_else targets value (onward i (place_at free u)) t (place_at targets k) (λ e. apart_.0 (sym (apart k i kn below.0 e)))
 
   finish : (cs : List Choice) (u : ℕ) (t : Place → V) → Once (members cs) → AllBelow n (members cs) → u + length cs ≤ n → Good cs u t
-      → (j : ℕ) → is_in j (members cs) ≡ true → run (onwards free u cs) t (place_at targets j) ≡ val j
+      → (j : ℕ) → has j (members cs) ≡ true → run (onwards free u cs) t (place_at targets j) ≡ val j
   finish [] u t once below room good j e = absurd (cc)
   finish (Direct k ∷ cs) u t once below room good j e =
       elim (cases_eq k j) [
         | inl same ↦ rw (← same) (kept_onwards cs u k t once.0 below.0 below.1 ∙ good.0)
-        | inr other ↦ let no_ = ne_eqb k j other in finish cs u t once.1 below.1 (omega (arith, room)) good.1 j (rw no_ at e)
+        | inr other ↦ finish cs u t once.1 below.1 (omega (arith, room)) good.1 j (in_rest k j (members cs) other e)
       ]
   finish (Aside k ∷ cs) u t once below room good j e =
       let move : Act = onward k (place_at free u) in
@@ -201,9 +199,8 @@ module _ {V : Type 0} (value : ℕ → (Place → V) → V) (args : List Tree) (
       elim (cases_eq k j) [
         | inl same ↦ rw (← same) (kept_onwards cs (suc u) k t1 once.0 below.0 below.1 ∙ acted_here targets value move t (place_at targets k) refl ∙ good.0)
         | inr other ↦
-            let no_ = ne_eqb k j other in
             finish cs (suc u) t1 once.1 below.1 (omega (arith, room))
-            (good_kept cs (suc u) k t t1 once.0 below.0 below.1 (omega (arith, room)) (λ p h. acted_else targets value move t p h) good.1) j (rw no_ at e)
+            (good_kept cs (suc u) k t t1 once.0 below.0 below.1 (omega (arith, room)) (λ p h. acted_else targets value move t p h) good.1) j (in_rest k j (members cs) other e)
       ]
 
   -- and takes what was set aside
@@ -239,7 +236,7 @@ module _ {V : Type 0} (value : ℕ → (Place → V) → V) (args : List Tree) (
       let below : AllBelow n ws = below_numbers n 0 n (omega arith) in
       let good = good_all value args targets free n near far off unused same s n ws 0 s (numbers_length 0 n) (rising_numbers n 0) below (omega arith) (λ j e p h. refl) in
       let once : Once (members cs) = choice_once W n ws (numbers_length 0 n) (rising_numbers n 0) in
-      let inside : (j : ℕ) → is_in j (members cs) ≡ is_in j ws = choice_members W n ws (numbers_length 0 n) in
+      let inside : (j : ℕ) → has j (members cs) ≡ has j ws = choice_members W n ws (numbers_length 0 n) in
       let small : AllBelow n (members cs) = all_below n (members cs) (λ j e. below_in n ws below j (sym (inside j) ∙ e)) in
       let room : 0 + length cs ≤ n = let l = length_choices W n ws in omega (arith, l) in
       let first : List Act = evaluations free 0 cs in
@@ -248,7 +245,7 @@ module _ {V : Type 0} (value : ℕ → (Place → V) → V) (args : List Tree) (
       let brought = onwards_taken value args targets free n near far off unused same s cs 0 middle once small room good.0 in (
         brings_both targets value s s first second good.1 brought,
         λ i lt.
-            let there : is_in i (members cs) ≡ true = inside i ∙ in_numbers n 0 i (omega arith) (omega (arith, lt)) in
+            let there : has i (members cs) ≡ true = inside i ∙ in_numbers n 0 i (omega arith) (omega (arith, lt)) in
             let last = finish value args targets free n near far off unused same s cs 0 middle once small room good.0 i there in
             ap (λ st. st (place_at targets i)) (acts_both targets value first second s) ∙ last,
       )

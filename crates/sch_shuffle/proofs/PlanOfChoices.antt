@@ -5,6 +5,7 @@ use Rattle.std.specs.List.{AllByRecursion}
 use Rattle.std.proofs.lemmas.List.Elements.{All-append, All-from_recursion}
 use Rattle.std.proofs.lemmas.Bool.{cases_eq, eq-eqb, ne_eqb}
 use Rattle.sch_word.specs.trees.Bindings.{numbers}
+use Rattle.sch_word.specs.trees.NumberSets.{has}
 use Rattle.sch_word.specs.declared.place.Place.{Place}
 use Rattle.sch_word.proofs.facts.NumberSets.{numbers_length}
 use Rattle.sch_shuffle.specs.declared.choice.Choice.{Choice}
@@ -12,8 +13,8 @@ use Rattle.sch_shuffle.specs.declared.choice.Choice.TheVariants.{Direct, Aside}
 use Rattle.sch_shuffle.specs.Tree.{Tree}
 use Rattle.sch_shuffle.specs.Assignment.{IsAmong, place_at}
 use Rattle.sch_shuffle.specs.Plans.{Act, evaluates, sets_aside, goes_on, is_across, count, IsAct, IsMove, IsPlan, direct, aside, across, onward, transfers}
-use Rattle.sch_shuffle.specs.Greedy.{uses_target, is_in, all_choices, evaluations, onwards, acts}
-use Rattle.sch_shuffle.proofs.WaitingArguments.{AllBelow, below_in, below_numbers, members, Once, not_in, choice_members, choice_once, all_below, rising_numbers, in_numbers, length_choices}
+use Rattle.sch_shuffle.specs.Greedy.{uses_target, all_choices, evaluations, onwards, acts}
+use Rattle.sch_shuffle.proofs.WaitingArguments.{AllBelow, below_in, below_numbers, members, Once, in_rest, not_in, choice_members, choice_once, all_below, rising_numbers, in_numbers, length_choices}
 
 pub count_both : (f : Act → Bool) (xs ys : List Act) → count f (xs ++ ys) ≡ count f xs + count f ys
 count_both f [] ys = omega arith
@@ -25,28 +26,28 @@ count_both f (x ∷ xs) ys = go (f x) (count_both f xs ys)
     go false h = h
 
 module _ (args : List Tree) (targets free : List Place) (P : Place → Type 0) (are : (u : ℕ) → u < length free → P (place_at free u)) where
-  evaluated_none : (cs : List Choice) (u i : ℕ) → is_in i (members cs) ≡ false → count (evaluates i) (evaluations free u cs) ≡ 0
+  evaluated_none : (cs : List Choice) (u i : ℕ) → has i (members cs) ≡ false → count (evaluates i) (evaluations free u cs) ≡ 0
   evaluated_none [] u i h = refl
   evaluated_none (Direct k ∷ cs) u i h =
       let off = not_in k i (members cs) h in let no_ = ne_eqb k i off.0 in rw no_ (evaluated_none cs u i off.1)
   evaluated_none (Aside k ∷ cs) u i h =
       let off = not_in k i (members cs) h in let no_ = ne_eqb k i off.0 in rw no_ (evaluated_none cs (suc u) i off.1)
 
-  evaluated_once : (cs : List Choice) (u i : ℕ) → Once (members cs) → is_in i (members cs) ≡ true → count (evaluates i) (evaluations free u cs) ≡ 1
+  evaluated_once : (cs : List Choice) (u i : ℕ) → Once (members cs) → has i (members cs) ≡ true → count (evaluates i) (evaluations free u cs) ≡ 1
   evaluated_once [] u i o h = absurd (cc)
   evaluated_once (Direct k ∷ cs) u i o h =
       elim (cases_eq k i) [
         | inl same ↦
             let yes_ = eq-eqb k i same in
             let none = evaluated_none cs u i (rw (← same) o.0) in rw yes_ (omega (arith, none))
-        | inr other ↦ let no_ = ne_eqb k i other in rw no_ (evaluated_once cs u i o.1 (rw no_ at h))
+        | inr other ↦ let no_ = ne_eqb k i other in rw no_ (evaluated_once cs u i o.1 (in_rest k i (members cs) other h))
       ]
   evaluated_once (Aside k ∷ cs) u i o h =
       elim (cases_eq k i) [
         | inl same ↦
             let yes_ = eq-eqb k i same in
             let none = evaluated_none cs (suc u) i (rw (← same) o.0) in rw yes_ (omega (arith, none))
-        | inr other ↦ let no_ = ne_eqb k i other in rw no_ (evaluated_once cs (suc u) i o.1 (rw no_ at h))
+        | inr other ↦ let no_ = ne_eqb k i other in rw no_ (evaluated_once cs (suc u) i o.1 (in_rest k i (members cs) other h))
       ]
 
   onward_none : (cs : List Choice) (u i : ℕ) → count (evaluates i) (onwards free u cs) ≡ 0
@@ -82,7 +83,7 @@ module _ (args : List Tree) (targets free : List Place) (P : Place → Type 0) (
       let W = uses_target args targets in
       let ws : List ℕ = numbers 0 n in
       let cs : List Choice = all_choices args targets in
-      let inside : (j : ℕ) → is_in j (members cs) ≡ is_in j ws = choice_members W n ws (numbers_length 0 n) in
+      let inside : (j : ℕ) → has j (members cs) ≡ has j ws = choice_members W n ws (numbers_length 0 n) in
       let below : AllBelow n (members cs) = all_below n (members cs) (λ j e. below_in n ws (below_numbers n 0 n (omega arith)) j (sym (inside j) ∙ e)) in
       let once : Once (members cs) = choice_once W n ws (numbers_length 0 n) (rising_numbers n 0) in
       let l : length cs ≡ n = length_choices W n ws in

@@ -3,7 +3,7 @@ use Rattle.std.proofs.Common.{◌≡◌, ◌≢◌, ℕ, zero, suc, ◌+◌, ◌
 use Rattle.std.specs.Prelude.{nat_eq}
 use Rattle.std.specs.List.{AllByRecursion}
 use Rattle.std.proofs.lemmas.List.Elements.{recursion_from_All}
-use Rattle.std.proofs.lemmas.Bool.{cases_eq, eq-eqb, ne_eqb}
+use Rattle.std.proofs.lemmas.Bool.{cases_eq, eq-eqb, ne_eqb, eqb-false}
 use Rattle.std.proofs.lemmas.Bool.Decides.{nat_tests}
 use Rattle.sch_word.specs.declared.place.Place.{Place}
 use Rattle.sch_word.specs.values.Values.{Value, object}
@@ -146,9 +146,6 @@ module _ (args : List Tree) (targets : List Place) where
     no_first true n h = absurd (omega (arith, h))
     no_first false n h = (refl, h)
 
-    from_unequal : (x : ℕ) → nat_eq x i ≡ false → x ≢ i
-    from_unequal x h e = absurd (let t = eq-eqb x i e in let both : true ≡ false = sym t ∙ h in cc)
-
     goes_direct : (acts : List Act) → AllByRecursion (IsAct args (IsSpare args targets)) acts → count (sets_aside i) acts ≡ 0 → count (goes_on i) acts ≡ 0
         → (count (writes (place_at targets i)) acts ≡ count (evaluates i) acts) × AllByRecursion (From (place_at targets i) home) acts
     goes_direct [] all none stays = (refl, tt)
@@ -180,7 +177,7 @@ module _ (args : List Tree) (targets : List Place) where
         let first_ = no_first (nat_eq k i) (count (goes_on i) acts) stays in
         let rest = goes_direct acts all.1 none first_.1 in
         let off : place_at targets i ≢ place_at targets k =
-        λ e. from_unequal k first_.0 (sym (apart i k (omega (arith, inside, l)) (let z = all.0.0 in omega (arith, z, l)) e)) in
+        λ e. eqb-false k i first_.0 (sym (apart i k (omega (arith, inside, l)) (let z = all.0.0 in omega (arith, z, l)) e)) in
         let miss = place_other _ _ off in (rw miss rest.0, (λ e. absurd (off (sym e)), rest.1))
 
   some_positive : (f : ℕ → ℕ) (n : ℕ) → ((a : ℕ) × (a < n) × (1 ≤ f a)) ⊎ ((a : ℕ) → a < n → f a ≡ 0)

@@ -3,35 +3,35 @@ use Rattle.std.proofs.Common.{◌≡◌, ◌≢◌, ℕ, zero, suc, ◌+◌, ◌
 use Rattle.std.specs.Prelude.{nat_eq}
 use Rattle.std.specs.List.{AllByRecursion}
 use Rattle.std.proofs.lemmas.Bool.{cases_eq, eq-eqb, ne_eqb, cases_Bool}
-use Rattle.std.proofs.Math.Bool.{or-true}
 use Rattle.sch_word.specs.trees.Bindings.{numbers}
+use Rattle.sch_word.specs.trees.NumberSets.{has}
 use Rattle.sch_word.specs.declared.place.Place.{Place}
-use Rattle.sch_word.proofs.facts.NumberSets.{numbers_length}
+use Rattle.sch_word.proofs.facts.NumberSets.{in_here, in_more, numbers_length}
 use Rattle.sch_shuffle.specs.declared.choice.Choice.{Choice}
 use Rattle.sch_shuffle.specs.declared.choice.Choice.TheVariants.{Direct, Aside}
 use Rattle.sch_shuffle.specs.Tree.{Tree}
 use Rattle.sch_shuffle.specs.Assignment.{place_at}
 use Rattle.sch_shuffle.specs.Plans.{Act, IsAct}
 use Rattle.sch_shuffle.specs.ActValues.{FewSetAside}
-use Rattle.sch_shuffle.specs.Greedy.{uses_target, needed, next_of, is_in, without, chosen, choices, all_choices, evaluations, onwards, acts}
-use Rattle.sch_shuffle.proofs.WaitingArguments.{AllBelow, Once, all_below, members, below_in, below_numbers, below_without, choice_members, choice_once, length_without, next_of_in, number_chosen, rising_numbers}
+use Rattle.sch_shuffle.specs.Greedy.{uses_target, needed, next_of, without, chosen, choices, all_choices, evaluations, onwards, acts}
+use Rattle.sch_shuffle.proofs.WaitingArguments.{AllBelow, Once, all_below, in_first, in_rest, members, below_in, below_numbers, below_without, choice_members, choice_once, length_without, next_of_in, number_chosen, rising_numbers}
 use Rattle.sch_shuffle.proofs.ExactCycles.{few}
 use Rattle.sch_shuffle.proofs.AtLeastRings.{asides, temps_asides}
 
 -- who needs the target of j
-pub needed_some : (W : ℕ → ℕ → Bool) (js : List ℕ) (j : ℕ) → 0 < needed W js j → (i : ℕ) × (is_in i js ≡ true) × (i ≢ j) × (W i j ≡ true)
+pub needed_some : (W : ℕ → ℕ → Bool) (js : List ℕ) (j : ℕ) → 0 < needed W js j → (i : ℕ) × (has i js ≡ true) × (i ≢ j) × (W i j ≡ true)
 needed_some W [] j h = absurd (omega (arith, h))
 needed_some W (i ∷ js) j h = go (cases_Bool (nat_eq i j)) (cases_Bool (W i j)) (needed_some W js j)
   where
-    more : (0 < needed W js j → (x : ℕ) × (is_in x js ≡ true) × (x ≢ j) × (W x j ≡ true)) → 0 < needed W js j
-        → (x : ℕ) × (is_in x (i ∷ js) ≡ true) × (x ≢ j) × (W x j ≡ true)
-    more rest h = let f = rest h in (f.0, rw f.1 (or-true (nat_eq i f.0)), f.2, f.3)
+    more : (0 < needed W js j → (x : ℕ) × (has x js ≡ true) × (x ≢ j) × (W x j ≡ true)) → 0 < needed W js j
+        → (x : ℕ) × (has x (i ∷ js) ≡ true) × (x ≢ j) × (W x j ≡ true)
+    more rest h = let f = rest h in (f.0, in_more f.0 i js f.1, f.2, f.3)
 
     go : ((nat_eq i j ≡ true) ⊎ (nat_eq i j ≡ false)) → ((W i j ≡ true) ⊎ (W i j ≡ false))
-        → (0 < needed W js j → (x : ℕ) × (is_in x js ≡ true) × (x ≢ j) × (W x j ≡ true)) → (x : ℕ) × (is_in x (i ∷ js) ≡ true) × (x ≢ j) × (W x j ≡ true)
+        → (0 < needed W js j → (x : ℕ) × (has x js ≡ true) × (x ≢ j) × (W x j ≡ true)) → (x : ℕ) × (has x (i ∷ js) ≡ true) × (x ≢ j) × (W x j ≡ true)
     go (inl same) w rest = more rest (rw same at h)
     go (inr other) (inl yes_) rest =
-        (i, (let t = eq-eqb i i refl in rw t refl), (λ e. let t = eq-eqb i j e in let both : true ≡ false = sym t ∙ other in cc), yes_)
+        (i, in_here i js, (λ e. let t = eq-eqb i j e in let both : true ≡ false = sym t ∙ other in cc), yes_)
     go (inr other) (inr no_) rest = more rest (rw (other, no_) at h)
 
 -- ## Choices
@@ -41,20 +41,20 @@ asides_in [] = []
 asides_in (Direct k ∷ cs) = asides_in cs
 asides_in (Aside k ∷ cs) = k ∷ asides_in cs
 
-pub asides_in_members : (cs : List Choice) (j : ℕ) → is_in j (asides_in cs) ≡ true → is_in j (members cs) ≡ true
+pub asides_in_members : (cs : List Choice) (j : ℕ) → has j (asides_in cs) ≡ true → has j (members cs) ≡ true
 asides_in_members [] j e = e
-asides_in_members (Direct k ∷ cs) j e = let r = asides_in_members cs j e in rw r (or-true (nat_eq k j))
+asides_in_members (Direct k ∷ cs) j e = in_more j k (members cs) (asides_in_members cs j e)
 asides_in_members (Aside k ∷ cs) j e =
     elim (cases_eq k j) [
-      | inl same ↦ let yes_ = eq-eqb k j same in rw yes_ refl
-      | inr other ↦ let no_ = ne_eqb k j other in rw no_ (asides_in_members cs j (rw no_ at e))
+      | inl same ↦ in_first k j (members cs) same
+      | inr other ↦ in_more j k (members cs) (asides_in_members cs j (in_rest k j (asides_in cs) other e))
     ]
 
 pub asides_in_once : (cs : List Choice) → Once (members cs) → Once (asides_in cs)
 asides_in_once [] o = tt
 asides_in_once (Direct k ∷ cs) o = asides_in_once cs o.1
 asides_in_once (Aside k ∷ cs) o = (
-  elim (cases_Bool (is_in k (asides_in cs))) [ inl there ↦ let bad = asides_in_members cs k there in absurd (let both : true ≡ false = sym bad ∙ o.0 in cc) | inr not_ ↦ not_ ],
+  elim (cases_Bool (has k (asides_in cs))) [ inl there ↦ let bad = asides_in_members cs k there in absurd (let both : true ≡ false = sym bad ∙ o.0 in cc) | inr not_ ↦ not_ ],
   asides_in_once cs o.1,
 )
 
@@ -88,8 +88,8 @@ module _ (W : ℕ → ℕ → Bool) where
       asides_more (needed W ws k) k c (choices W (suc c) (without k ws)) (asides_less c (without k ws) (omega (arith, less, e)))
 
   module _ (n m : ℕ) (below_m : (i j : ℕ) → i < n → j < n → W i j ≡ true → j < m) where
-    aside_used : (ws : List ℕ) (k : ℕ) (cs : List Choice) → AllBelow n ws → is_in k ws ≡ true → ((j : ℕ) → is_in j (asides_in cs) ≡ true → j < m)
-        → (r : ℕ) → needed W ws k ≡ r → (j : ℕ) → is_in j (asides_in (chosen r k ∷ cs)) ≡ true → j < m
+    aside_used : (ws : List ℕ) (k : ℕ) (cs : List Choice) → AllBelow n ws → has k ws ≡ true → ((j : ℕ) → has j (asides_in cs) ≡ true → j < m)
+        → (r : ℕ) → needed W ws k ≡ r → (j : ℕ) → has j (asides_in (chosen r k ∷ cs)) ≡ true → j < m
     aside_used ws k cs below inside rest zero h j e = rest j e
     aside_used ws k cs below inside rest (suc r) h j e =
         elim (cases_eq k j) [
@@ -97,15 +97,15 @@ module _ (W : ℕ → ℕ → Bool) where
               let f = needed_some W ws k (omega (arith, h)) in
               let lt = below_m f.0 k (below_in n ws below f.0 f.1) (below_in n ws below k inside) f.3 in
               omega (arith, lt, same)
-          | inr other ↦ let no_ = ne_eqb k j other in rest j (rw no_ at e)
+          | inr other ↦ rest j (in_rest k j (asides_in cs) other e)
         ]
 
     -- the target of each is used by another
-    asides_used : (c : ℕ) (ws : List ℕ) → length ws ≡ c → AllBelow n ws → (j : ℕ) → is_in j (asides_in (choices W c ws)) ≡ true → j < m
+    asides_used : (c : ℕ) (ws : List ℕ) → length ws ≡ c → AllBelow n ws → (j : ℕ) → has j (asides_in (choices W c ws)) ≡ true → j < m
     asides_used zero ws e below = λ j h. absurd (cc)
     asides_used (suc c) ws e below =
         let k : ℕ = next_of (needed W ws) ws in
-        let inside : is_in k ws ≡ true = next_of_in (needed W ws) ws (omega (arith, e)) in
+        let inside : has k ws ≡ true = next_of_in (needed W ws) ws (omega (arith, e)) in
         let less = length_without k ws inside in
         aside_used ws k (choices W c (without k ws)) below inside (asides_used c (without k ws) (omega (arith, less, e)) (below_without n k ws below)) (needed W ws k) refl
 
@@ -115,12 +115,12 @@ module _ (W : ℕ → ℕ → Bool) where
   sum_of f [] = 0
   sum_of f (j ∷ js) = f j + sum_of f js
 
-  sum_without : (f : ℕ → ℕ) (k : ℕ) (ws : List ℕ) → is_in k ws ≡ true → f k + sum_of f (without k ws) ≡ sum_of f ws
+  sum_without : (f : ℕ → ℕ) (k : ℕ) (ws : List ℕ) → has k ws ≡ true → f k + sum_of f (without k ws) ≡ sum_of f ws
   sum_without f k [] h = absurd (cc)
   sum_without f k (w ∷ ws) h = by (cases_eq w k) (sum_without f k ws) where
-    by : (w ≡ k) ⊎ (w ≢ k) → (is_in k ws ≡ true → f k + sum_of f (without k ws) ≡ sum_of f ws) → f k + sum_of f (without k (w ∷ ws)) ≡ sum_of f (w ∷ ws)
+    by : (w ≡ k) ⊎ (w ≢ k) → (has k ws ≡ true → f k + sum_of f (without k ws) ≡ sum_of f ws) → f k + sum_of f (without k (w ∷ ws)) ≡ sum_of f (w ∷ ws)
     by (inl same) more = let yes_ = eq-eqb w k same in rw yes_ (ap (λ z. f z + sum_of f ws) (sym same))
-    by (inr other) more = let no_ = ne_eqb w k other in let rest = more (rw no_ at h) in rw no_ (omega (arith, rest))
+    by (inr other) more = let no_ = ne_eqb w k other in let rest = more (in_rest w k ws other h) in rw no_ (omega (arith, rest))
 
   -- each argument is chosen once
   pub sum_chosen : (f : ℕ → ℕ) (c : ℕ) (ws : List ℕ) → length ws ≡ c → sum_of f (members (choices W c ws)) ≡ sum_of f ws
@@ -128,7 +128,7 @@ module _ (W : ℕ → ℕ → Bool) where
   sum_chosen f zero (w ∷ ws) e = absurd (omega (arith, e))
   sum_chosen f (suc c) ws e =
       let k : ℕ = next_of (needed W ws) ws in
-      let inside : is_in k ws ≡ true = next_of_in (needed W ws) ws (omega (arith, e)) in
+      let inside : has k ws ≡ true = next_of_in (needed W ws) ws (omega (arith, e)) in
       let less = length_without k ws inside in
       let rest = sum_chosen f c (without k ws) (omega (arith, less, e)) in
       let all = sum_without f k ws inside in

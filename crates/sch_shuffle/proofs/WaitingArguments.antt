@@ -1,16 +1,29 @@
 -- Rising lists of numbers, and how many of them need a target.
-use Rattle.std.proofs.Common.{◌≡◌, ◌≢◌, ℕ, zero, suc, ◌+◌, ◌-◌, ◌<◌, ◌≤◌, Bool, true, false, cond, List, [], ◌∷◌, ◌++◌, length, refl, ap, sym, ◌∙◌, arith, add-one, inl, inr, get_or}
-use Rattle.std.specs.Prelude.{◌&&◌, not, nat_eq}
+use Rattle.std.proofs.Common.{◌≡◌, ◌≢◌, ℕ, zero, suc, ◌+◌, ◌-◌, ◌<◌, ◌≤◌, Bool, true, false, cond, List, [], ◌∷◌, ◌++◌, length, refl, ap, sym, ◌∙◌, subst, arith, add-one, inl, inr, get_or}
+use Rattle.std.specs.Prelude.{◌&&◌, ◌||◌, not, nat_eq}
 use Rattle.std.specs.List.{remove}
 use Rattle.std.proofs.lemmas.List.{append_assoc, get_or_read}
 use Rattle.std.proofs.lemmas.Bool.{cases_eq, eq-eqb, ne_eqb}
-use Rattle.std.proofs.Math.Bool.{or-true}
 use Rattle.sch_word.specs.trees.Bindings.{numbers}
+use Rattle.sch_word.specs.trees.NumberSets.{has}
 use Rattle.sch_shuffle.specs.declared.choice.Choice.{Choice}
 use Rattle.sch_shuffle.specs.Tree.{Tree}
-use Rattle.sch_shuffle.specs.Greedy.{needed, goes_before, next, next_of, is_in, without, chosen, choices, number_of, AreBelow, uses_target, all_choices}
+use Rattle.sch_shuffle.specs.Greedy.{needed, goes_before, next, next_of, without, chosen, choices, number_of, AreBelow, uses_target, all_choices}
 use Rattle.sch_word.specs.declared.place.Place.{Place}
-use Rattle.sch_word.proofs.facts.NumberSets.{numbers_length}
+use Rattle.sch_word.proofs.facts.Booleans.{false_true, not_right}
+use Rattle.sch_word.proofs.facts.NumberSets.{in_here, in_more, numbers_length}
+
+-- ## What stands in a list
+
+-- the first number of a list stands in it, and any other where it stands in the rest
+pub in_first : (j k : ℕ) (js : List ℕ) → j ≡ k → has k (j ∷ js) ≡ true
+in_first j k js same = subst (λ x. has x (j ∷ js) ≡ true) same (in_here j js)
+
+pub has_later : (j k : ℕ) (js : List ℕ) → j ≢ k → has k (j ∷ js) ≡ has k js
+has_later j k js other = ap (λ b. b || has k js) (ne_eqb k j (λ same. other (sym same)))
+
+pub in_rest : (j k : ℕ) (js : List ℕ) → j ≢ k → has k (j ∷ js) ≡ true → has k js ≡ true
+in_rest j k js other e = sym (has_later j k js other) ∙ e
 
 -- ## Rising lists
 
@@ -30,31 +43,29 @@ pub above_lower : (a b : ℕ) (js : List ℕ) → a < b → Above b js → Above
 above_lower a b [] h k = tt
 above_lower a b (j ∷ js) h k = (omega (arith, h, k.0), k.1)
 
-pub is_above : (b : ℕ) (js : List ℕ) → Above b js → (j : ℕ) → is_in j js ≡ true → b < j
+pub is_above : (b : ℕ) (js : List ℕ) → Above b js → (j : ℕ) → has j js ≡ true → b < j
 is_above b [] h j e = absurd (cc)
 is_above b (i ∷ js) h j e =
     elim (cases_eq i j) [
       | inl same ↦ omega (arith, same, h.0)
-      | inr other ↦
-          let rest : is_in j js ≡ true = let no_ = ne_eqb i j other in rw no_ at e in
-          let k = is_above i js h.1 j rest in omega (arith, k, h.0)
+      | inr other ↦ let k = is_above i js h.1 j (in_rest i j js other e) in omega (arith, k, h.0)
     ]
 
-pub not_above : (b : ℕ) (js : List ℕ) → Above b js → is_in b js ≡ false
+pub not_above : (b : ℕ) (js : List ℕ) → Above b js → has b js ≡ false
 not_above b js h =
-    let go : (t : Bool) → is_in b js ≡ t → is_in b js ≡ false =
-    λ t. elim t as (λ t. is_in b js ≡ t → is_in b js ≡ false) [
+    let go : (t : Bool) → has b js ≡ t → has b js ≡ false =
+    λ t. elim t as (λ t. has b js ≡ t → has b js ≡ false) [
       | true ↦ λ e. absurd (let k = is_above b js h b e in omega arith)
       | false ↦ λ e. e
     ] in
-    go (is_in b js) refl
+    go (has b js) refl
 
-pub below_in : (n : ℕ) (js : List ℕ) → AllBelow n js → (j : ℕ) → is_in j js ≡ true → j < n
+pub below_in : (n : ℕ) (js : List ℕ) → AllBelow n js → (j : ℕ) → has j js ≡ true → j < n
 below_in n [] h j e = absurd (cc)
 below_in n (i ∷ js) h j e =
     elim (cases_eq i j) [
       | inl same ↦ omega (arith, same, h.0)
-      | inr other ↦ below_in n js h.1 j (let no_ = ne_eqb i j other in rw no_ at e)
+      | inr other ↦ below_in n js h.1 j (in_rest i j js other e)
     ]
 
 above_without : (b k : ℕ) (js : List ℕ) → Above b js → Above b (without k js)
@@ -90,10 +101,10 @@ above_at b [] at h lt = absurd (omega (arith, lt))
 above_at b (w ∷ ws) zero h lt = h.0
 above_at b (w ∷ ws) (suc at) h lt = let k = above_at w ws at h.1 (omega (arith, lt)) in omega (arith, k, h.0)
 
-pub in_at : (ws : List ℕ) (at : ℕ) → at < length ws → is_in (get_or ws at 0) ws ≡ true
+pub in_at : (ws : List ℕ) (at : ℕ) → at < length ws → has (get_or ws at 0) ws ≡ true
 in_at [] at lt = absurd (omega (arith, lt))
-in_at (w ∷ ws) zero lt = let yes_ = eq-eqb w w refl in rw yes_ refl
-in_at (w ∷ ws) (suc at) lt = let rest = in_at ws at (omega (arith, lt)) in rw rest (or-true (nat_eq w (get_or ws at 0)))
+in_at (w ∷ ws) zero lt = in_here w ws
+in_at (w ∷ ws) (suc at) lt = in_more (get_or ws at 0) w ws (in_at ws at (omega (arith, lt)))
 
 pub remove_without : (ws : List ℕ) (at : ℕ) → Rising ws → at < length ws → remove ws at ≡ without (get_or ws at 0) ws
 remove_without [] at h lt = absurd (omega (arith, lt))
@@ -103,37 +114,30 @@ remove_without (w ∷ ws) (suc at) h lt =
     let no_ = ne_eqb w (get_or ws at 0) (λ e. omega (arith, lower, e)) in
     rw no_ (ap (λ xs. w ∷ xs) (remove_without ws at (rising_rest w ws h) (omega (arith, lt))))
 
-pub length_without : (k : ℕ) (ws : List ℕ) → is_in k ws ≡ true → length (without k ws) + 1 ≡ length ws
+pub length_without : (k : ℕ) (ws : List ℕ) → has k ws ≡ true → length (without k ws) + 1 ≡ length ws
 length_without k [] e = absurd (cc)
 length_without k (w ∷ ws) e =
     elim (cases_eq w k) [
       | inl same ↦ let yes_ = eq-eqb w k same in rw yes_ (omega arith)
       | inr other ↦
           let no_ = ne_eqb w k other in
-          let rest : is_in k ws ≡ true = rw no_ at e in
-          let h = length_without k ws rest in rw no_ (omega (arith, h))
+          let h = length_without k ws (in_rest w k ws other e) in rw no_ (omega (arith, h))
     ]
 
-pub without_other : (j k : ℕ) (ws : List ℕ) → j ≢ k → is_in j (without k ws) ≡ is_in j ws
+pub without_other : (j k : ℕ) (ws : List ℕ) → j ≢ k → has j (without k ws) ≡ has j ws
 without_other j k [] h = refl
 without_other j k (w ∷ ws) h =
     elim (cases_eq w k) [
-      | inl same ↦
-          let yes_ = eq-eqb w k same in
-          let off = ne_eqb w j (λ e. h (sym e ∙ same)) in rw (yes_, off) refl
-      | inr other ↦
-          let no_ = ne_eqb w k other in
-          let rest = without_other j k ws h in rw (no_, rest) refl
+      | inl same ↦ let yes_ = eq-eqb w k same in rw yes_ (sym (has_later w j ws (λ e. h (sym e ∙ same))))
+      | inr other ↦ let no_ = ne_eqb w k other in rw no_ (ap (λ b. nat_eq j w || b) (without_other j k ws h))
     ]
 
-pub without_gone : (k : ℕ) (ws : List ℕ) → Rising ws → is_in k (without k ws) ≡ false
+pub without_gone : (k : ℕ) (ws : List ℕ) → Rising ws → has k (without k ws) ≡ false
 without_gone k [] h = refl
 without_gone k (w ∷ ws) h =
     elim (cases_eq w k) [
       | inl same ↦ let yes_ = eq-eqb w k same in rw yes_ (rw (← same) (not_above w ws h))
-      | inr other ↦
-          let no_ = ne_eqb w k other in
-          rw (no_, no_) (without_gone k ws (rising_rest w ws h))
+      | inr other ↦ let no_ = ne_eqb w k other in rw no_ (has_later w k (without k ws) other ∙ without_gone k ws (rising_rest w ws h))
     ]
 
 -- ## Numbers from one on
@@ -156,17 +160,17 @@ pub below_numbers : (n k m : ℕ) → k + n ≤ m → AllBelow m (numbers k n)
 below_numbers zero k m h = tt
 below_numbers (suc n) k m h = (omega (arith, h), below_numbers n (suc k) m (omega (arith, h)))
 
-pub in_numbers : (n k j : ℕ) → k ≤ j → j < k + n → is_in j (numbers k n) ≡ true
+pub in_numbers : (n k j : ℕ) → k ≤ j → j < k + n → has j (numbers k n) ≡ true
 in_numbers zero k j h l = absurd (omega (arith, h, l))
 in_numbers (suc n) k j h l =
     elim (cases_eq k j) [
-      | inl same ↦ let yes_ = eq-eqb k j same in rw yes_ refl
-      | inr other ↦ let no_ = ne_eqb k j other in rw no_ (in_numbers n (suc k) j (omega (arith, h, other)) (omega (arith, l)))
+      | inl same ↦ in_first k j (numbers (suc k) n) same
+      | inr other ↦ in_more j k (numbers (suc k) n) (in_numbers n (suc k) j (omega (arith, h, other)) (omega (arith, l)))
     ]
 
 -- ## Needs
 
-pub needed_without : (W : ℕ → ℕ → Bool) (js : List ℕ) (k t : ℕ) → is_in k js ≡ true
+pub needed_without : (W : ℕ → ℕ → Bool) (js : List ℕ) (k t : ℕ) → has k js ≡ true
     → needed W js t ≡ cond (not (nat_eq k t) && W k t) 1 0 + needed W (without k js) t
 needed_without W [] k t e = absurd (cc)
 needed_without W (j ∷ js) k t e =
@@ -174,8 +178,7 @@ needed_without W (j ∷ js) k t e =
       | inl same ↦ let yes_ = eq-eqb j k same in rw (yes_, same) (counted (not (nat_eq k t) && W k t) (needed W js t))
       | inr other ↦
           let no_ = ne_eqb j k other in
-          let rest : is_in k js ≡ true = rw no_ at e in
-          let h = needed_without W js k t rest in
+          let h = needed_without W js k t (in_rest j k js other e) in
           rw no_ (one_more (not (nat_eq j t) && W j t) (needed W js t) (cond (not (nat_eq k t) && W k t) 1 0) (needed W (without k js) t) h)
     ]
   where
@@ -199,51 +202,51 @@ needed_step W n j k count b lt is =
 
 -- ## The next one
 
-pub next_in : (f : ℕ → ℕ) (b : ℕ) (ks : List ℕ) → is_in (next f b ks) (b ∷ ks) ≡ true
-next_in f b [] = let yes_ = eq-eqb b b refl in rw yes_ refl
+pub next_in : (f : ℕ → ℕ) (b : ℕ) (ks : List ℕ) → has (next f b ks) (b ∷ ks) ≡ true
+next_in f b [] = in_here b []
 next_in f b (k ∷ ks) = go (goes_before (f k) (f b)) (ahead (next f k ks) (next_in f k ks)) (later (next f b ks) (next_in f b ks))
   where
-    later : (r : ℕ) → is_in r (b ∷ ks) ≡ true → is_in r (b ∷ (k ∷ ks)) ≡ true
+    later : (r : ℕ) → has r (b ∷ ks) ≡ true → has r (b ∷ (k ∷ ks)) ≡ true
     later r h = elim (cases_eq b r) [
-      | inl same ↦ let yes_ = eq-eqb b r same in rw yes_ refl
-      | inr other ↦ let no_ = ne_eqb b r other in let rest : is_in r ks ≡ true = rw no_ at h in rw (no_, rest) (or-true (nat_eq k r))
+      | inl same ↦ in_first b r (k ∷ ks) same
+      | inr other ↦ in_more r b (k ∷ ks) (in_more r k ks (in_rest b r ks other h))
     ]
 
-    ahead : (r : ℕ) → is_in r (k ∷ ks) ≡ true → is_in r (b ∷ (k ∷ ks)) ≡ true
-    ahead r h = rw h (or-true (nat_eq b r))
+    ahead : (r : ℕ) → has r (k ∷ ks) ≡ true → has r (b ∷ (k ∷ ks)) ≡ true
+    ahead r h = in_more r b (k ∷ ks) h
 
-    go : (t : Bool) → is_in (next f k ks) (b ∷ (k ∷ ks)) ≡ true → is_in (next f b ks) (b ∷ (k ∷ ks)) ≡ true
-        → is_in (next f (cond t k b) ks) (b ∷ (k ∷ ks)) ≡ true
+    go : (t : Bool) → has (next f k ks) (b ∷ (k ∷ ks)) ≡ true → has (next f b ks) (b ∷ (k ∷ ks)) ≡ true
+        → has (next f (cond t k b) ks) (b ∷ (k ∷ ks)) ≡ true
     go true x y = x
     go false x y = y
 
-pub next_of_in : (f : ℕ → ℕ) (ws : List ℕ) → 0 < length ws → is_in (next_of f ws) ws ≡ true
+pub next_of_in : (f : ℕ → ℕ) (ws : List ℕ) → 0 < length ws → has (next_of f ws) ws ≡ true
 next_of_in f [] h = absurd (omega (arith, h))
 next_of_in f (w ∷ ws) h = next_in f w ws
 
-next_same : (f g : ℕ → ℕ) (b : ℕ) (ks : List ℕ) → f b ≡ g b → ((j : ℕ) → is_in j ks ≡ true → f j ≡ g j) → next f b ks ≡ next g b ks
+next_same : (f g : ℕ → ℕ) (b : ℕ) (ks : List ℕ) → f b ≡ g b → ((j : ℕ) → has j ks ≡ true → f j ≡ g j) → next f b ks ≡ next g b ks
 next_same f g b [] h each = refl
 next_same f g b (k ∷ ks) h each =
-    let at_k : f k ≡ g k = each k (let yes_ = eq-eqb k k refl in rw yes_ refl) in
-    let later : (j : ℕ) → is_in j ks ≡ true → f j ≡ g j = λ j e. each j (rw e (or-true (nat_eq k j))) in
+    let at_k : f k ≡ g k = each k (in_here k ks) in
+    let later : (j : ℕ) → has j ks ≡ true → f j ≡ g j = λ j e. each j (in_more j k ks e) in
     rw (h, at_k) (go (goes_before (g k) (g b)) (next_same f g k ks at_k later) (next_same f g b ks h later))
   where
     go : (t : Bool) → next f k ks ≡ next g k ks → next f b ks ≡ next g b ks → next f (cond t k b) ks ≡ next g (cond t k b) ks
     go true x y = x
     go false x y = y
 
-pub next_of_same : (f g : ℕ → ℕ) (ws : List ℕ) → ((j : ℕ) → is_in j ws ≡ true → f j ≡ g j) → next_of f ws ≡ next_of g ws
+pub next_of_same : (f g : ℕ → ℕ) (ws : List ℕ) → ((j : ℕ) → has j ws ≡ true → f j ≡ g j) → next_of f ws ≡ next_of g ws
 next_of_same f g [] each = refl
 next_of_same f g (w ∷ ws) each =
-    next_same f g w ws (each w (let yes_ = eq-eqb w w refl in rw yes_ refl)) (λ j e. each j (rw e (or-true (nat_eq w j))))
+    next_same f g w ws (each w (in_here w ws)) (λ j e. each j (in_more j w ws e))
 
 -- one turn of the loop
 pub turn : (W : ℕ → ℕ → Bool) (n turns : ℕ) (ws : List ℕ) (users : ℕ → ℕ) (k : ℕ) (all whole : List Choice) → turns < n → 0 < length ws
-    → ((j : ℕ) → is_in j ws ≡ true → users j ≡ needed W ws j) → k ≡ next_of users ws → all ++ choices W (n - turns) ws ≡ whole
+    → ((j : ℕ) → has j ws ≡ true → users j ≡ needed W ws j) → k ≡ next_of users ws → all ++ choices W (n - turns) ws ≡ whole
     → (all ++ chosen (users k) k ∷ []) ++ choices W (n - (turns + 1)) (without k ws) ≡ whole
 turn W n turns ws users k all whole lt some each is before =
     let same : next_of (needed W ws) ws ≡ k = sym (next_of_same users (needed W ws) ws each) ∙ sym is in
-    let inside : is_in k ws ≡ true = rw is (next_of_in users ws some) in
+    let inside : has k ws ≡ true = rw is (next_of_in users ws some) in
     let e : n - turns ≡ suc (n - (turns + 1)) = omega (arith, lt) in
     let first : choices W (n - turns) ws ≡ chosen (users k) k ∷ choices W (n - (turns + 1)) (without k ws) = rw (e, same, each k inside) refl in
     append_assoc all (chosen (users k) k ∷ []) (choices W (n - (turns + 1)) (without k ws)) ∙ ap (λ ys. all ++ ys) (sym first) ∙ before
@@ -294,7 +297,7 @@ pub standing : (n : ℕ) (ws : List ℕ) (at : ℕ) → AllBelow n ws → at < l
 standing n ws at below lt = below_in n ws below (get_or ws at 0) (in_at ws at lt)
 
 -- the counts after one argument less
-pub released : (W : ℕ → ℕ → Bool) (ws : List ℕ) (k j : ℕ) (old new : ℕ) → is_in k ws ≡ true → old ≡ needed W ws j
+pub released : (W : ℕ → ℕ → Bool) (ws : List ℕ) (k j : ℕ) (old new : ℕ) → has k ws ≡ true → old ≡ needed W ws j
     → new ≡ old - cond (not (nat_eq k j) && W k j) 1 0 → new ≡ needed W (without k ws) j
 released W ws k j old new inside before is =
     let h = needed_without W ws k j inside in
@@ -325,7 +328,7 @@ kept args targets n turns ws ws' users users' all all' at k lt inv within is nex
     let W = uses_target args targets in
     let rising : Rising ws = inv.1 in
     let rest : ws' ≡ without k ws = removed ∙ remove_without ws at rising within ∙ ap (λ j. without j ws) (sym is) in
-    let inside : is_in k ws ≡ true = ap (λ j. is_in j ws) is ∙ in_at ws at within in
+    let inside : has k ws ≡ true = ap (λ j. has j ws) is ∙ in_at ws at within in
     let shorter = length_without k ws inside in
     let l : length ws' ≡ length (without k ws) = ap length rest in
     let r : Rising ws' = rw rest (rising_without k ws rising) in
@@ -343,56 +346,50 @@ members (c ∷ cs) = number_of c ∷ members cs
 
 abbrev pub Once : List ℕ → Type 0
 Once [] = Unit {0}
-Once (j ∷ js) = (is_in j js ≡ false) × Once js
+Once (j ∷ js) = (has j js ≡ false) × Once js
 
-pub not_in : (i j : ℕ) (js : List ℕ) → is_in j (i ∷ js) ≡ false → (i ≢ j) × (is_in j js ≡ false)
-not_in i j js e = go (nat_eq i j) refl
-  where
-    go : (b : Bool) → nat_eq i j ≡ b → (i ≢ j) × (is_in j js ≡ false)
-    go true h = absurd (cc)
-    go false h = (λ same. absurd (let t = eq-eqb i j same in cc), rw h at e)
+pub not_in : (i j : ℕ) (js : List ℕ) → has j (i ∷ js) ≡ false → (i ≢ j) × (has j js ≡ false)
+not_in i j js e = (λ same. absurd (false_true (in_first i j js same) e), not_right (nat_eq j i) (has j js) e)
 
-pub choice_members : (W : ℕ → ℕ → Bool) (n : ℕ) (ws : List ℕ) → length ws ≡ n → (j : ℕ) → is_in j (members (choices W n ws)) ≡ is_in j ws
+pub choice_members : (W : ℕ → ℕ → Bool) (n : ℕ) (ws : List ℕ) → length ws ≡ n → (j : ℕ) → has j (members (choices W n ws)) ≡ has j ws
 choice_members W zero [] e j = refl
 choice_members W zero (w ∷ ws) e j = absurd (omega (arith, e))
 choice_members W (suc n) ws e j =
     let k : ℕ = next_of (needed W ws) ws in
-    let inside : is_in k ws ≡ true = next_of_in (needed W ws) ws (omega (arith, e)) in
+    let inside : has k ws ≡ true = next_of_in (needed W ws) ws (omega (arith, e)) in
     let less = length_without k ws inside in
     let rest = choice_members W n (without k ws) (omega (arith, less, e)) j in
     elim (cases_eq k j) [
-      | inl same ↦ let yes_ = eq-eqb k j same in let there : is_in j ws ≡ true = rw (← same) inside in rw (number_chosen, yes_) (sym there)
-      | inr other ↦
-          let no_ = ne_eqb k j other in
-          rw (number_chosen, no_) (rest ∙ without_other j k ws (λ h. other (sym h)))
+      | inl same ↦ let there : has j ws ≡ true = rw (← same) inside in rw number_chosen (in_first k j (members (choices W n (without k ws))) same ∙ sym there)
+      | inr other ↦ rw number_chosen (has_later k j (members (choices W n (without k ws))) other ∙ rest ∙ without_other j k ws (λ h. other (sym h)))
     ]
 
 pub choice_once : (W : ℕ → ℕ → Bool) (n : ℕ) (ws : List ℕ) → length ws ≡ n → Rising ws → Once (members (choices W n ws))
 choice_once W zero ws e r = tt
 choice_once W (suc n) ws e r =
     let k : ℕ = next_of (needed W ws) ws in
-    let inside : is_in k ws ≡ true = next_of_in (needed W ws) ws (omega (arith, e)) in
+    let inside : has k ws ≡ true = next_of_in (needed W ws) ws (omega (arith, e)) in
     let less = length_without k ws inside in
     let l : length (without k ws) ≡ n = omega (arith, less, e) in
-    let gone : is_in k (members (choices W n (without k ws))) ≡ false = choice_members W n (without k ws) l k ∙ without_gone k ws r in
+    let gone : has k (members (choices W n (without k ws))) ≡ false = choice_members W n (without k ws) l k ∙ without_gone k ws r in
     (rw number_chosen gone, choice_once W n (without k ws) l (rising_without k ws r))
 
 -- a target that no other needs is used by no other
-pub clear : (W : ℕ → ℕ → Bool) (ws : List ℕ) (k : ℕ) → needed W ws k ≡ 0 → (j : ℕ) → is_in j ws ≡ true → j ≢ k → W j k ≡ false
+pub clear : (W : ℕ → ℕ → Bool) (ws : List ℕ) (k : ℕ) → needed W ws k ≡ 0 → (j : ℕ) → has j ws ≡ true → j ≢ k → W j k ≡ false
 clear W [] k none j e ne = absurd (cc)
 clear W (w ∷ ws) k none j e ne = go (not (nat_eq w k) && W w k) refl none (λ none rest. clear W ws k none j rest ne)
   where
     go : (b : Bool) → (not (nat_eq w k) && W w k) ≡ b → cond b (suc (needed W ws k)) (needed W ws k) ≡ 0
-        → (needed W ws k ≡ 0 → is_in j ws ≡ true → W j k ≡ false) → W j k ≡ false
+        → (needed W ws k ≡ 0 → has j ws ≡ true → W j k ≡ false) → W j k ≡ false
     go true h none more = absurd (omega (arith, none))
     go false h none more =
         elim (cases_eq w j) [
           | inl same ↦
               let no_ = ne_eqb w k (λ x. ne (sym same ∙ x)) in
               let here : W w k ≡ false = rw no_ at h in rw (← same) here
-          | inr other ↦ let no_ = ne_eqb w j other in more none (rw no_ at e)
+          | inr other ↦ more none (in_rest w j ws other e)
         ]
 
-pub all_below : (n : ℕ) (js : List ℕ) → ((j : ℕ) → is_in j js ≡ true → j < n) → AllBelow n js
+pub all_below : (n : ℕ) (js : List ℕ) → ((j : ℕ) → has j js ≡ true → j < n) → AllBelow n js
 all_below n [] h = tt
-all_below n (j ∷ js) h = (h j (let yes_ = eq-eqb j j refl in rw yes_ refl), all_below n js (λ i e. h i (rw e (or-true (nat_eq j i)))))
+all_below n (j ∷ js) h = (h j (in_here j js), all_below n js (λ i e. h i (in_more i j js e)))

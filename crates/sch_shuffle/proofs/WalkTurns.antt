@@ -9,7 +9,7 @@ use Rattle.sch_shuffle.specs.View.{tree, arguments}
 use Rattle.sch_shuffle.specs.Assignment.{operand_at}
 use Rattle.sch_shuffle.specs.CycleSearch.{first, ring, is_ring, rings}
 use Rattle.sch_shuffle.proofs.Paths.{is_later_true, walk, ring_walk}
-use Rattle.sch_shuffle.proofs.WaitingArguments.{AllBelow, numbers_next}
+use Rattle.sch_shuffle.proofs.WaitingArguments.{AllBelow, numbers_next, standing}
 
 pub operand_tree : (args : List Operand) (i : ℕ) (x : Operand) → i < length args → x ≡ get_or args i x → operand_at (arguments args) i ≡ tree x
 operand_tree [] i x lt e = absurd (omega (arith, lt))
@@ -66,11 +66,6 @@ walk_same S R n start (suc steps) done at each lt =
     go false true y = y refl
     go false false y = refl
 
-pub at_below : (n : ℕ) (js : List ℕ) → AllBelow n js → (i : ℕ) → i < length js → get_or js i 0 < n
-at_below n [] h i lt = absurd (omega (arith, lt))
-at_below n (j ∷ js) h zero lt = h.0
-at_below n (j ∷ js) h (suc i) lt = at_below n js h.1 i (omega (arith, lt))
-
 pub ring_below : (S : ℕ → ℕ) (n k : ℕ) → k < n → AllBelow n (ring S n k)
 ring_below S n k h = let e = ring_walk S n k h in rw e (walk_below S n k n [] k tt h)
 
@@ -95,4 +90,4 @@ ring_found items slice successors n k R is e l each lt =
 
 pub found_below : (items slice : List ℕ) (n k : ℕ) (R : ℕ → ℕ) → items ≡ ring R n k → slice ≡ items → k < n → (i : ℕ) → i < length slice → get_or slice i 0 < n
 found_below items slice n k R is e lt i h =
-    let all : AllBelow n slice = rw (e, is) (ring_below R n k lt) in at_below n slice all i h
+    let all : AllBelow n slice = rw (e, is) (ring_below R n k lt) in standing n slice i all h

@@ -1,6 +1,6 @@
 -- The greedy order of the arguments, and the moves that it makes.
 use Rattle.std.specs.Prelude.{ℕ, zero, suc, ◌<◌, Bool, cond, ◌&&◌, ◌||◌, not, nat_eq, nat_lt, List, [], ◌∷◌, ◌++◌, length}
-use Rattle.std.specs.List.{list_any, slice_index_or}
+use Rattle.std.specs.List.{slice_index_or}
 use Rattle.sch_word.specs.trees.Bindings.{numbers}
 use Rattle.sch_word.specs.declared.place.Place.{Place}
 use Rattle.sch_shuffle.specs.declared.choice.Choice.{Choice}
@@ -10,9 +10,6 @@ use Rattle.sch_shuffle.specs.Assignment.{operand_at, place_at, Transfer}
 use Rattle.sch_shuffle.specs.Plans.{Act, direct, aside, onward, transfers}
 
 -- ## Numbers of arguments
-
-abbrev pub is_in : ℕ → List ℕ → Bool
-is_in k js = list_any (λ j. nat_eq j k) js
 
 abbrev pub without : ℕ → List ℕ → List ℕ
 without k [] = []

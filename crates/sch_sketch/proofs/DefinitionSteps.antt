@@ -1,15 +1,16 @@
 -- Bodies and lists of data.
-use Rattle.std.proofs.Common.{◌≡◌, ◌<◌, ◌≤◌, ◌+◌, map, Bool, true, false, ℕ, zero, suc, List, [], ◌∷◌, ◌++◌, length, get_or, Some, None, refl, sym, ap, ◌∙◌, arith, append_assoc}
+use Rattle.std.proofs.Common.{◌≡◌, ◌<◌, ◌+◌, map, Bool, false, ℕ, List, [], ◌∷◌, ◌++◌, Some, None, refl, sym, ap, ◌∙◌, arith, append_assoc}
 use Rattle.std.specs.Prelude.{◌&&◌}
 use Rattle.std.proofs.lemmas.List.{append-nil, map-append}
+use Rattle.sch_word.proofs.facts.Booleans.{and_and}
 use Rattle.sch_read.specs.declared.datum.Datum as code
 use Rattle.sch_read.specs.Grammar.{Datum, Data, atom, list, cons, symbol}
 use Rattle.sch_read.specs.Valid.{weight, weights}
 use Rattle.sch_read.specs.Views.{tree_of, data_of, gather}
+use Rattle.sch_read.proofs.DatumSteps.{weights_append}
 use Rattle.sch_names.specs.declared.keyword.Keyword.TheVariants.{Begin}
 use Rattle.sch_names.specs.Words.{keyword_of}
-use Rattle.sch_names.specs.Scope.{Scope, find}
-use Rattle.sch_sketch.specs.Draft.{Names}
+use Rattle.sch_names.specs.Scope.{Scope, find, Names}
 use Rattle.sch_sketch.specs.Definitions.{is_definition, are_definitions, is_define_word, names_in, names_of_each, inits_in, inits_of_each}
 use Rattle.sch_sketch.specs.Sketch.{Sketches}
 
@@ -27,17 +28,9 @@ begun_names d {xs} {ys} {o} {x} {p} {q} {b} e e' e'' f g = rw (e ∙ ap (list p)
 
 -- ## What is left to visit
 
-pub weights_append : (xs ys : List Datum) → weights (gather (xs ++ ys)) ≡ weights (gather xs) + weights (gather ys)
-weights_append [] ys = omega arith
-weights_append (x ∷ xs) ys = omega (arith, weights_append xs ys)
-
-and_assoc : (a b c : Bool) → (a && (b && c)) ≡ ((a && b) && c)
-and_assoc true b c = refl
-and_assoc false b c = refl
-
 defined_append : (s : Scope) (xs ys : List code.Datum) → are_definitions s (data_of (xs ++ ys)) ≡ (are_definitions s (data_of xs) && are_definitions s (data_of ys))
 defined_append s [] ys = refl
-defined_append s (x ∷ xs) ys = ap (λ b. is_definition s (tree_of x) && b) (defined_append s xs ys) ∙ and_assoc (is_definition s (tree_of x)) (are_definitions s (data_of xs)) (are_definitions s (data_of ys))
+defined_append s (x ∷ xs) ys = ap (λ b. is_definition s (tree_of x) && b) (defined_append s xs ys) ∙ sym (and_and (is_definition s (tree_of x)) (are_definitions s (data_of xs)) (are_definitions s (data_of ys)))
 
 -- the parts of a `begin` are left to look at
 pub begin_defines : (s : Scope) (d : Datum) (some after before : List code.Datum) → is_definition s d ≡ are_definitions s (data_of some) → after ≡ some ++ before

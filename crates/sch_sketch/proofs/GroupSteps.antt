@@ -1,8 +1,7 @@
 -- What is made of the inits of a group and of its body.
 use Rattle.std.proofs.Common.{◌≡◌, ℕ, List, [], ◌∷◌, ◌++◌, Bool, refl, sym, ap, ◌∙◌}
-use Rattle.sch_names.specs.Scope.{Scope, onto}
+use Rattle.sch_names.specs.Scope.{Scope, onto, Names}
 use Rattle.sch_sketch.specs.declared.sketch.Sketch as code
-use Rattle.sch_sketch.specs.Draft.{Names}
 use Rattle.sch_sketch.specs.Sketch.{Sketch, Sketches, no_sketch, and_sketch, node, recurring}
 use Rattle.sch_sketch.specs.SketchView.{sketch_of, sketches_of, ahead}
 use Rattle.sch_sketch.specs.Small.{one}

@@ -1,7 +1,6 @@
 -- Inits that stand before others, and the groups that are made of them.
 use Rattle.std.proofs.Common.{◌≡◌, ℕ, suc, Bool, true, false, length, sym, ap, subst, ◌∙◌, arith}
-use Rattle.sch_names.specs.Scope.{Scope, onto}
-use Rattle.sch_sketch.specs.Draft.{Names}
+use Rattle.sch_names.specs.Scope.{Scope, onto, Names}
 use Rattle.sch_sketch.specs.Sketch.{Kind, Sketch, Sketches, no_sketch, how_many_parts, recurring}
 use Rattle.sch_sketch.specs.Small.{one}
 use Rattle.sch_sketch.specs.Soundness.{IsSound, AreSound, IsSoundKind, are_procedures, but_last}

@@ -3,10 +3,9 @@ use Rattle.std.proofs.Common.{◌≡◌, ◌<◌, ◌+◌, ℕ, zero, suc, Bool,
 use Rattle.sch_read.specs.Grammar.{Datum, Data, atom, list, dotted, vector, none, cons, boolean, integer, character, symbol as symbol_atom}
 use Rattle.sch_read.specs.Grammar as grammar
 use Rattle.sch_read.specs.Parts.{how_many}
-use Rattle.sch_names.specs.Scope.{Scope, onto, find, farther, is_named}
+use Rattle.sch_names.specs.Scope.{Scope, onto, find, farther, is_named, Names}
 use Rattle.sch_sketch.specs.declared.sketch.Position.{Position}
 use Rattle.sch_sketch.specs.declared.sketch.Position.TheVariants.{Value, Test}
-use Rattle.sch_sketch.specs.Draft.{Names}
 use Rattle.sch_sketch.specs.Sketch.{Kind, Sketch, Sketches, node, and_sketch, calling, how_many_parts}
 use Rattle.sch_sketch.specs.Small.{texts, fresh_each, quoted, either_of}
 use Rattle.sch_sketch.specs.Soundness.{IsSound, AreSound}

@@ -9,7 +9,7 @@ use Rattle.sch_read.specs.Grammar as grammar
 use Rattle.sch_read.specs.Parts.{IsNoSymbol}
 use Rattle.sch_read.specs.Views.{tree_of, data_of}
 use Rattle.sch_names.specs.ScopeView.{given_names}
-use Rattle.sch_sketch.specs.Draft.{Names}
+use Rattle.sch_names.specs.Scope.{Names}
 use Rattle.sch_sketch.specs.Formals.{are_symbols, symbols}
 
 no_symbols : (d : grammar.Datum) (rest : Data) → IsNoSymbol d → are_symbols (cons d rest) ≡ false

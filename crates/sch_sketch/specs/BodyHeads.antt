@@ -1,9 +1,8 @@
 -- The definitions at the head of a body, and which data are a body (R5RS 5.2.2).
 use Rattle.std.specs.Prelude.{ℕ, Bool, cond, ◌&&◌, not, [], ◌++◌}
 use Rattle.sch_read.specs.Grammar.{Data, none, cons}
-use Rattle.sch_names.specs.Scope.{Scope}
+use Rattle.sch_names.specs.Scope.{Scope, Names}
 use Rattle.sch_sketch.specs.declared.sketch.Row.TheVariants.{Body}
-use Rattle.sch_sketch.specs.Draft.{Names}
 use Rattle.sch_sketch.specs.Sketch.{Sketches, rest}
 use Rattle.sch_sketch.specs.Small.{one}
 use Rattle.sch_sketch.specs.Distinct.{are_distinct}

@@ -4,10 +4,9 @@ use Rattle.sch_read.specs.Grammar.{Datum, Data, atom, list, none, cons, symbol}
 use Rattle.sch_names.specs.declared.keyword.Keyword.{Keyword}
 use Rattle.sch_names.specs.declared.keyword.Keyword.TheVariants.{Define, Begin}
 use Rattle.sch_names.specs.Words.{keyword_of}
-use Rattle.sch_names.specs.Scope.{Scope, find}
+use Rattle.sch_names.specs.Scope.{Scope, find, Names}
 use Rattle.sch_sketch.specs.declared.fault.Fault.TheVariants.{BadForm}
 use Rattle.sch_sketch.specs.declared.sketch.Row.TheVariants.{Method}
-use Rattle.sch_sketch.specs.Draft.{Names}
 use Rattle.sch_sketch.specs.Sketch.{Sketch, Sketches, text, rest, wrong, and_sketch}
 use Rattle.sch_sketch.specs.Formals.{listed, tail_of, are_formals}
 

@@ -1,7 +1,6 @@
 -- Names that are distinct (R5RS 4.1.4 and 4.2.2).
 use Rattle.std.specs.Prelude.{ℕ, Bool, true, false, cond, List, [], ◌∷◌, ◌++◌, Some, None}
-use Rattle.sch_names.specs.Scope.{is_among}
-use Rattle.sch_sketch.specs.Draft.{Names}
+use Rattle.sch_names.specs.Scope.{is_among, Names}
 
 -- the names that there are
 abbrev pub named : Names → List (List ℕ)

@@ -3,16 +3,13 @@
 use Rattle.std.specs.Prelude.{ℕ, zero, suc, Bool, List, [], ◌∷◌, Option}
 use Rattle.sch_word.specs.declared.constant.Const.{Const}
 use Rattle.sch_word.specs.declared.primitive.Primitive.{Primitive}
+use Rattle.sch_names.specs.Scope.{Names}
 use Rattle.sch_read.specs.Grammar.{Datum}
-
--- the names of variables, the last of them nearest; one that a rewriting adds has none
-abbrev pub Names : Type 0
-Names = List (Option (List ℕ))
 
 -- A symbol is named, and a literal is the datum that is quoted: each is an object of its own. A `letrec`
 -- knows whether each of its inits is a procedure by its form. A procedure has this many formals, the last
 -- of which takes a list where there is a rest. The operands of a call that begins a loop (R5RS 4.2.4) are the
--- inits of variables of these names; any other call has no names.
+-- inits of variables of these names; any other call has no names. Of the names the last is the nearest.
 mutual
   pub data Draft : Type 0 where
     constant : Const → Draft

@@ -2,7 +2,7 @@
 -- left, or that one alone.
 use Rattle.std.specs.Prelude.{Bool, true, false, ◌&&◌, [], ◌∷◌, ◌++◌, Option, Some, None}
 use Rattle.sch_read.specs.Grammar.{Datum, Data, atom, list, dotted, none, cons, symbol}
-use Rattle.sch_sketch.specs.Draft.{Names}
+use Rattle.sch_names.specs.Scope.{Names}
 use Rattle.sch_sketch.specs.Distinct.{are_distinct}
 
 -- what stands in a list, and after its dot; of what is no list, that alone

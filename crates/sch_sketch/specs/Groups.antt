@@ -1,7 +1,6 @@
 -- The `letrec` that bodies and bindings make (R5RS 4.2.2 and 5.2.2).
 use Rattle.std.specs.Prelude.{ℕ}
-use Rattle.sch_names.specs.Scope.{Scope, onto}
-use Rattle.sch_sketch.specs.Draft.{Names}
+use Rattle.sch_names.specs.Scope.{Scope, onto, Names}
 use Rattle.sch_sketch.specs.Sketch.{Sketch, Sketches, node, no_sketch, recurring}
 use Rattle.sch_sketch.specs.Small.{one}
 use Rattle.sch_sketch.specs.Soundness.{are_procedures}

@@ -5,7 +5,7 @@ use Rattle.sch_read.specs.Grammar.{Datum}
 use Rattle.sch_read.specs.declared.datum.Datum as code
 use Rattle.sch_read.specs.Views.{tree_of}
 use Rattle.sch_names.specs.ScopeView.{given_names}
-use Rattle.sch_sketch.specs.Draft.{Names}
+use Rattle.sch_names.specs.Scope.{Names}
 
 -- names are given exactly where a test holds, and are then these
 abbrev pub AreGiven : Bool → Names → Option (List (Option (Bor (List ℕ)))) → Type 0

@@ -4,12 +4,12 @@ use Rattle.std.specs.Prelude.{ℕ, zero, suc, Bool, true, false, List, [], ◌�
 use Rattle.sch_word.specs.declared.constant.Const.TheVariants.{Unspecified}
 use Rattle.sch_word.specs.declared.primitive.Primitive.{Primitive}
 use Rattle.sch_read.specs.Grammar.{Datum, Data}
-use Rattle.sch_names.specs.Scope.{Scope, onto}
+use Rattle.sch_names.specs.Scope.{Scope, onto, Names}
 use Rattle.sch_sketch.specs.declared.fault.Fault.{Fault}
 use Rattle.sch_sketch.specs.declared.sketch.Position.{Position}
 use Rattle.sch_sketch.specs.declared.sketch.Position.TheVariants.{Value, Test}
 use Rattle.sch_sketch.specs.declared.sketch.Row.{Row}
-use Rattle.sch_sketch.specs.Draft.{Names, Draft, Drafts, no_drafts, and_draft, constant, set_local, set_global, define, branch, sequence, bind, letrec, lambda, call, operation}
+use Rattle.sch_sketch.specs.Draft.{Draft, Drafts, no_drafts, and_draft, constant, set_local, set_global, define, branch, sequence, bind, letrec, lambda, call, operation}
 
 -- What is made of parts. The inits of a `letrec` may all be procedures by their forms; the last of a
 -- procedure's variables may take a list of what is left; the operands of a call may be the inits of variables.

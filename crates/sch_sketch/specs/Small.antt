@@ -5,7 +5,8 @@ use Rattle.sch_read.specs.Grammar.{Datum, Data, atom, list, none, cons, boolean,
 use Rattle.sch_read.specs.Parts.{offset}
 use Rattle.sch_sketch.specs.declared.sketch.Position.{Position}
 use Rattle.sch_sketch.specs.declared.sketch.Position.TheVariants.{Value, Test}
-use Rattle.sch_sketch.specs.Draft.{Names, constant, symbol, literal, local}
+use Rattle.sch_names.specs.Scope.{Names}
+use Rattle.sch_sketch.specs.Draft.{constant, symbol, literal, local}
 use Rattle.sch_sketch.specs.Sketch.{Sketch, Sketches, text, leaf, node, no_sketch, and_sketch, choosing, binding}
 
 abbrev pub one : Sketch → Sketches

@@ -35,7 +35,7 @@ exited_does m status ob ol of e = quiet (MachineSteps (step_end.Exited status) m
 
 -- ---- where a run has come to
 
-comes_here : (e : Progress) → ComesTo 0 e e
+pub comes_here : (e : Progress) → ComesTo 0 e e
 comes_here (Runs s) = record { way = []; last = s; path = refl; long = refl; runs = refl }
 comes_here (Exited status s) = (refl, refl)
 comes_here (Stuck cause s) = (refl, refl)

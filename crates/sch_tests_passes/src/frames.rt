@@ -1,5 +1,6 @@
 //! Frame bodies and frame programs.
 
+use crate::straight::is_straight;
 use crate::texts::{control_of, frames_of};
 use sch_control::Body;
 use sch_registers::frame_body;
@@ -7,8 +8,11 @@ use sch_word::{List, Mem};
 use std::alloc::Global;
 use std::test::Fail;
 
-// Whether a body has instructions, and uses no word of a frame.
+// Whether a body tests nothing, has instructions, and uses no word of a frame.
 fn is_laid_out(alloc: Global, b: &Body) -> Result<bool, Mem> {
+    if !is_straight(&b.exp) {
+        return Ok(false);
+    }
     let f = frame_body(alloc, b, &mut List::new(alloc))?;
     Ok(f.words == 0 && !f.instructions.is_empty())
 }

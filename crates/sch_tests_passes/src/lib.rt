@@ -31,6 +31,8 @@ mod selection;
 #[cfg(test)]
 mod sets;
 #[cfg(test)]
+mod straight;
+#[cfg(test)]
 mod texts;
 #[cfg(test)]
 mod trees;

@@ -1,27 +1,20 @@
 //! A body with variables in registers, laid out with a region, with moves of its calls and with what each call restores.
 
-ghost use Rattle.std.specs.Prelude.{◌≡◌, ◌+◌, ◌∷◌, [], false, true, IfOk};
+ghost use Rattle.std.specs.Prelude.{◌≡◌, ◌∷◌, [], false, true, IfOk};
 ghost use Rattle.sch_control.specs.declared.operation.Atom.TheVariants as atom;
 ghost use Rattle.sch_control.specs.declared.operation.Operand.TheVariants as operand;
 ghost use Rattle.sch_word.specs.declared.constant.Const.TheVariants.{Character};
 ghost use Rattle.sch_word.specs.declared.place.Place.TheVariants.{Reg, Slot};
+ghost use Rattle.sch_writer.specs.FewOperands.{FewOperands};
 ghost use Rattle.sch_writer.specs.View.{moves_of};
 
+use crate::straight::is_straight;
 use sch_control::{Application, Atom, Entry, Exp, Operand, Operation};
 use sch_frames::Instruction;
 use sch_word::{Const, List, MarkKind, Mem, Place};
 use sch_writer::{Allocation, Move, Restores, VariablePlaces, write_body};
 use std::alloc::Global;
 use std::test::Fail;
-
-fn slot_behind(x: u32, base: u32) -> Result<Place, Mem>
-    ensures { IfOk result (λ p. p ≡ Slot (x + base)) }
-{
-    match x.checked_add(base) {
-        Some(j) => Ok(Place::Slot(j)),
-        None => Err(Mem),
-    }
-}
 
 // A character goes to the first slot of the next frame, and the operator to R14.
 fn first_moves(alloc: Global) -> Result<List<Move>, Mem>
@@ -74,21 +67,21 @@ fn second_moves(alloc: Global) -> Result<List<Move>, Mem>
     Ok(moves)
 }
 
-// The return address, variable 2 and variable 3 live in R15, RBX and R14, which calls use, and each other variable in a slot
-// behind slot 20. Each of the three is saved in a slot behind slot 10. The slots from 50 on are those of the next frame.
+// The return address, variable 2 and variable 3 live in R15, RBX and R14, which calls use, and are saved in slots 10, 12 and 13.
+// What else there is lives in slot 21. The slots from 50 on are those of the next frame.
 #[derive(Drop)]
 struct Places;
 
 impl VariablePlaces for Places {
-    ghost use Rattle.std.specs.Prelude.{◌+◌, ◌∷◌, [], cond, false, nat_eq, true};
+    ghost use Rattle.std.specs.Prelude.{◌∷◌, [], cond, false, nat_eq, true};
     ghost use Rattle.sch_control.specs.declared.operation.Atom.TheVariants as atom;
     ghost use Rattle.sch_control.specs.declared.operation.Operand.TheVariants as operand;
     ghost use Rattle.sch_word.specs.declared.constant.Const.TheVariants.{Character};
     ghost use Rattle.sch_word.specs.declared.place.Place.TheVariants.{Reg, Slot};
 
     ghost plan = { λ s. record {
-      place = λ x. cond (nat_eq x 0) (Reg 15) (cond (nat_eq x 2) (Reg 3) (cond (nat_eq x 3) (Reg 14) (Slot (x + 20))));
-      home = λ x. Slot (x + 10);
+      place = λ x. cond (nat_eq x 0) (Reg 15) (cond (nat_eq x 2) (Reg 3) (cond (nat_eq x 3) (Reg 14) (Slot 21)));
+      home = λ x. cond (nat_eq x 0) (Slot 10) (cond (nat_eq x 2) (Slot 12) (Slot 13));
       limit = 50;
       moves = λ tail a. cond (nat_eq a.site 0)
           (record { argument = 1; from = operand.Atom (atom.Constant (Character 98)); to = Slot 50; temp = false }
@@ -98,17 +91,21 @@ impl VariablePlaces for Places {
           ∷ record { argument = 1; from = operand.Atom (atom.Variable (Slot 1)); to = Reg 3; temp = false } ∷ []);
     } };
 
-    fn place(&self, x: u32) -> Result<Place, Mem> {
+    fn place(&self, x: u32) -> Place {
         match x {
-            0 => Ok(Place::Reg(15)),
-            2 => Ok(Place::Reg(3)),
-            3 => Ok(Place::Reg(14)),
-            _ => slot_behind(x, 20),
+            0 => Place::Reg(15),
+            2 => Place::Reg(3),
+            3 => Place::Reg(14),
+            _ => Place::Slot(21),
         }
     }
 
-    fn home(&self, x: u32) -> Result<Place, Mem> {
-        slot_behind(x, 10)
+    fn home(&self, x: u32) -> Place {
+        match x {
+            0 => Place::Slot(10),
+            2 => Place::Slot(12),
+            _ => Place::Slot(13),
+        }
     }
 
     fn limit(&self) -> u32 {
@@ -147,27 +144,29 @@ fn variable(x: u32) -> Operand<u32> {
     Operand::Atom(Atom::Variable(x))
 }
 
-fn value(o: Operand<u32>) -> Exp<List<u32>> {
+fn value(o: Operand<u32>) -> Exp<List<u32>>
+    ensures { FewOperands result }
+{
     Exp::Do(Operation::Operand(o))
 }
 
-// The call of a variable with these variables, at a site, after which some are restored.
+// The call of a variable with another one, at a site, after which some are restored.
 fn call(
     alloc: Global,
     site: u32,
     operator: u32,
-    operands: &[u32],
+    operand: u32,
     restored: &[u32],
-) -> Result<Exp<List<u32>>, Mem> {
-    let mut list = List::new(alloc);
-    for x in operands {
-        list.push(variable(*x))?;
-    }
+) -> Result<Exp<List<u32>>, Mem>
+    ensures { IfOk result (λ e. FewOperands e) }
+{
+    let mut operands = List::new(alloc);
+    operands.push(variable(operand))?;
     let a = Application {
         site,
         spread: false,
         operator: variable(operator),
-        operands: list,
+        operands,
     };
     Ok(Exp::Call(a, numbers(alloc, restored)?))
 }
@@ -176,14 +175,21 @@ fn in_turn(
     alloc: Global,
     first: Exp<List<u32>>,
     rest: Exp<List<u32>>,
-) -> Result<Exp<List<u32>>, Mem> {
+) -> Result<Exp<List<u32>>, Mem>
+    requires first { FewOperands first }
+    requires rest { FewOperands rest }
+    ensures { IfOk result (λ e. FewOperands e) }
+{
     let first = Box::new(alloc, first)?;
     let rest = Box::new(alloc, rest)?;
     Ok(Exp::Seq(first, rest))
 }
 
 // Variable 3 is a character in the rest.
-fn with_letter(alloc: Global, rest: Exp<List<u32>>) -> Result<Exp<List<u32>>, Mem> {
+fn with_letter(alloc: Global, rest: Exp<List<u32>>) -> Result<Exp<List<u32>>, Mem>
+    requires { FewOperands rest }
+    ensures { IfOk result (λ e. FewOperands e) }
+{
     let letter = value(Operand::Atom(Atom::Constant(Const::Character(97))));
     let letter = Box::new(alloc, letter)?;
     let rest = Box::new(alloc, rest)?;
@@ -191,21 +197,27 @@ fn with_letter(alloc: Global, rest: Exp<List<u32>>) -> Result<Exp<List<u32>>, Me
 }
 
 // Calls 2 with 3, restores 3 and 0, and returns 3.
-fn calls_the_argument(alloc: Global) -> Result<Exp<List<u32>>, Mem> {
+fn calls_the_argument(alloc: Global) -> Result<Exp<List<u32>>, Mem>
+    ensures { IfOk result (λ e. FewOperands e) }
+{
     let last = Exp::Return(Box::new(alloc, value(variable(3)))?);
-    let second = call(alloc, 1, 2, &[3], &[3, 0])?;
+    let second = call(alloc, 1, 2, 3, &[3, 0])?;
     in_turn(alloc, second, last)
 }
 
 // Calls itself with a variable, restores 2 and 0, and goes on with variable 3.
-fn calls_itself(alloc: Global) -> Result<Exp<List<u32>>, Mem> {
+fn calls_itself(alloc: Global) -> Result<Exp<List<u32>>, Mem>
+    ensures { IfOk result (λ e. FewOperands e) }
+{
     let rest = with_letter(alloc, calls_the_argument(alloc)?)?;
-    let first = call(alloc, 0, 1, &[2], &[2, 0])?;
+    let first = call(alloc, 0, 1, 2, &[2, 0])?;
     in_turn(alloc, first, rest)
 }
 
 // All variables are in a region: 1 lives in a slot, 0 and 2 are saved at the head, and 3 where it is bound.
-fn in_region(alloc: Global) -> Result<Exp<List<u32>>, Mem> {
+fn in_region(alloc: Global) -> Result<Exp<List<u32>>, Mem>
+    ensures { IfOk result (λ e. FewOperands e) }
+{
     let saves = numbers(alloc, &[0, 3, 1, 2])?;
     let e = Box::new(alloc, calls_itself(alloc)?)?;
     Ok(Exp::Save(saves, e))
@@ -308,7 +320,11 @@ fn saves_and_restores(rt: HostRuntime) -> Result<(), Fail> {
         rest: false,
         fields: 0,
     };
-    let out = write_body(alloc, &allocation, Some(entry), &in_region(alloc)?)?;
+    let body = in_region(alloc)?;
+    if !is_straight(&body) {
+        return Err(Fail::from("a body that tests"));
+    }
+    let out = write_body(alloc, &allocation, Some(entry), &body)?;
     let mut all = List::new(alloc);
     for i in out.instructions.as_slice() {
         all.push(seen(i))?;

@@ -1,18 +1,41 @@
 //! The items of a text.
 
+ghost use Rattle.std.specs.Prelude.{◌≤◌, OnOk};
+ghost use Rattle.sch_frames.specs.SourceView.{codes_of};
+ghost use Rattle.sch_select.specs.Program.{labels_of};
+ghost use Rattle.sch_select_memory.specs.Addresses.{max_labels};
+
 use crate::texts::frames_of;
 use sch_core::CoreError;
+use sch_frames::FrameBody;
 use sch_select::select;
 use sch_word::Limits;
 use std::alloc::Global;
 use std::test::Fail;
 
-// How many items a text has that takes no word of a frame.
+// The most labels of jumps, and the most instructions, of a body here.
+const MOST: u32 = 1_000;
+
+// That there is one body, which is short.
+fn check_short(bodies: &[FrameBody]) -> Result<(), CoreError>
+    ensures { OnOk result (labels_of (codes_of bodies.now) ≤ max_labels) }
+{
+    let [body] = bodies else {
+        return Err(CoreError::Memory);
+    };
+    if body.labels > MOST || body.instructions.len() > MOST as usize {
+        return Err(CoreError::Memory);
+    }
+    Ok(())
+}
+
+// How many items a text has that is one short body and takes no word of a frame.
 fn count_items(alloc: Global, text: &[u8], limits: Limits) -> Result<usize, CoreError> {
     let frames = frames_of(alloc, text)?;
     if frames.words > 0 {
         return Err(CoreError::Memory);
     }
+    check_short(frames.bodies.as_slice())?;
     let a = select(alloc, &frames, limits)?;
     Ok(a.items.len())
 }

@@ -8,6 +8,7 @@ ghost use Rattle.sch_control.specs.ProgramView as control;
 ghost use Rattle.sch_frames.specs.Covered as frames;
 ghost use Rattle.sch_frames.specs.ProgramView as view;
 
+use crate::straight::are_straight;
 use sch_control::ControlProgram;
 use sch_core::{CoreError, Library, core};
 use sch_frames::FrameProgram;
@@ -57,11 +58,14 @@ pub(crate) fn control_of(alloc: Global, text: &[u8]) -> Result<ControlProgram, C
     Ok(control)
 }
 
-// The frame program of a short text.
+// The frame program of a short text that is one form at most, which tests nothing.
 pub(crate) fn frames_of(alloc: Global, text: &[u8]) -> Result<FrameProgram, CoreError>
     ensures { IfOk result (λ f. IsTrue (frames.is_covered_program (view.source f))) }
 {
     let control = control_of(alloc, text)?;
+    if !are_straight(control.bodies.as_slice()) {
+        return Err(CoreError::Memory);
+    }
     let made = frame_program(alloc, &control)?;
     Ok(made.frames)
 }

@@ -1,7 +1,8 @@
 -- What each kind of draft assigns.
 use Rattle.std.proofs.Common.{◌≡◌, ℕ, Bool, List, ap, ◌∙◌}
 use Rattle.sch_names.specs.NamesView.{with_name}
-use Rattle.sch_sketch.specs.Draft.{Names, Draft, Drafts, set_global, branch, bind, letrec, call}
+use Rattle.sch_names.specs.Scope.{Names}
+use Rattle.sch_sketch.specs.Draft.{Draft, Drafts, set_global, branch, bind, letrec, call}
 use Rattle.sch_link_tables.specs.Named.{firsts}
 use Rattle.sch_link_tables.proofs.NameSteps.{then_named, three_named}
 use Rattle.sch_toplevel.specs.Assigned.{assigned_in, assigned_in_each}

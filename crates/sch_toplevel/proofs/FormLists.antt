@@ -6,7 +6,7 @@ use Rattle.sch_read.specs.declared.datum.Datum as code
 use Rattle.sch_read.specs.Grammar.{Datum}
 use Rattle.sch_read.specs.Valid.{weight, weights}
 use Rattle.sch_read.specs.Views.{gather, tree_of, data_of}
-use Rattle.sch_sketch.proofs.DefinitionSteps.{weights_append}
+use Rattle.sch_read.proofs.DatumSteps.{weights_append}
 use Rattle.sch_link_tables.specs.Named.{firsts}
 use Rattle.sch_link_tables.proofs.NameSteps.{firsts_append}
 use Rattle.sch_toplevel.specs.declared.forms.Form.{Form}

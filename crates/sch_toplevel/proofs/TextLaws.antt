@@ -1,5 +1,6 @@
 -- A text without faults has one list of drafts, and one with a fault has none.
 use Rattle.std.proofs.Common.{◌≡◌, inl, inr, ◌≤◌, ℕ, true, List, [], Option, Some, None, refl, sym, ap, ◌∙◌, subst}
+use Rattle.std.proofs.lemmas.Option.{none-some}
 use Rattle.sch_read.specs.Grammar.{Data}
 use Rattle.sch_word.proofs.facts.Booleans.{false_true}
 use Rattle.sch_word.proofs.facts.Lists.{some_same}
@@ -15,7 +16,6 @@ use Rattle.sch_expansion.specs.Faults.{HasFault, PartHasFault}
 use Rattle.sch_expansion.specs.Faults as no
 use Rattle.sch_expansion.specs.Reads.{Reads, PartsRead}
 use Rattle.sch_expansion.specs.Reads as re
-use Rattle.sch_expansion.proofs.Best.{none_some}
 use Rattle.sch_expansion.proofs.Readings.{unique, clean, one_fault, one_draft, read_best, read_made, is_read}
 use Rattle.sch_toplevel.specs.Assigned.{assigned_in_each}
 use Rattle.sch_toplevel.specs.Forms.{sketches_of, own_names, text_globals}
@@ -68,7 +68,7 @@ module _ (g : Globals) (items : Data) where
   forms_made {es} a = let p = parts_expand g (read_made g (read g items a) refl) in subst (λ l. FormsExpand g items l) (parts_of (sym p.1)) p.2
 
   pub fault_there : {es : Drafts} (f : Fault) → FormsRead g items (Some f) es → FormHasFault g items f
-  fault_there f a = elim ((read_best g (read g items a)).from f refl) [ inl i ↦ absurd (none_some i) | inr i ↦ part_faulty g i ]
+  fault_there f a = elim ((read_best g (read g items a)).from f refl) [ inl i ↦ absurd (none-some _ i) | inr i ↦ part_faulty g i ]
 
   pub fault_least : {es : Drafts} (f : Fault) → FormsRead g items (Some f) es → (h : Fault) → FormHasFault g items h → rank f ≤ rank h
   fault_least f a h i = let m = (read_best g (read g items a)).below h (faulty g items i) in subst (λ k. rank k ≤ rank h) (sym (some_same m.is)) m.below

@@ -4,12 +4,12 @@ use Rattle.std.specs.Prelude.{◌≡◌, ◌⊎◌, ℕ, Bool, true, false, cond
 use Rattle.sch_read.specs.Grammar.{Datum, Data, atom, list, none, cons}
 use Rattle.sch_read.specs.Parts.{offset}
 use Rattle.sch_names.specs.NamesView.{with_name}
-use Rattle.sch_names.specs.Scope.{is_among, Globals}
+use Rattle.sch_names.specs.Scope.{is_among, Globals, Names}
 use Rattle.sch_sketch.specs.declared.fault.Fault.{Fault}
 use Rattle.sch_sketch.specs.declared.fault.Fault.TheVariants.{BadForm}
 use Rattle.sch_sketch.specs.declared.sketch.Position.TheVariants.{Value}
 use Rattle.sch_sketch.specs.declared.sketch.Row.TheVariants.{Method}
-use Rattle.sch_sketch.specs.Draft.{Names, Draft, lambda}
+use Rattle.sch_sketch.specs.Draft.{Draft, lambda}
 use Rattle.sch_sketch.specs.Sketch.{Sketch, rest, wrong, node, defining}
 use Rattle.sch_expansion.specs.Expands.{Expands}
 use Rattle.sch_expansion.specs.Faults.{HasFault}

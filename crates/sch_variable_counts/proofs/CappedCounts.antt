@@ -8,9 +8,10 @@ use Rattle.sch_lang.specs.declared.tree.Exp.{Exp}
 use Rattle.sch_lang.specs.Tree.{Expression, Expressions, no_expressions, and_expression}
 use Rattle.sch_lang.specs.Variables.{assigns}
 use Rattle.sch_lang.specs.View.{expression}
-use Rattle.sch_lang.specs.Measures.{counts_nothing, one_unless, twice_if, three_each, bound_count, onto_all, onto_assigned, variables, variables_operands, variables_parts}
+use Rattle.sch_word.specs.trees.VariableCounts.{one_unless, twice_if, three_each}
+use Rattle.sch_lang.specs.Measures.{counts_nothing, bound_count, onto_all, onto_assigned, variables, variables_operands, variables_parts}
+use Rattle.sch_lang.proofs.ListViews.{left}
 use Rattle.sch_variable_counts.specs.Walked.{capped, marks_of}
-use Rattle.sch_variable_counts.proofs.ListsLeft.{left}
 
 pub three_is : (n : ℕ) → three_each n ≡ n * 3
 three_is zero = refl

@@ -16,9 +16,10 @@ use Rattle.sch_lang.specs.Measures.{procedure}
 use Rattle.sch_word.specs.trees.Shape.{Procedure, max_free_variables}
 use Rattle.sch_variable_counts.specs.Within.{few_free, each_procedure, each_procedure_in, each_lambda}
 use Rattle.sch_lang.specs.View.{expression, expressions_of, lambdas_of}
+use Rattle.sch_lang.proofs.ListViews.{left, left_lambdas}
 use Rattle.sch_variable_counts.specs.Walked.{found, found_each, found_lambdas}
 use Rattle.sch_variable_counts.proofs.FreeFound.{found_alone}
-use Rattle.sch_variable_counts.proofs.ListsLeft.{left, left_lambdas, whole, whole_lambdas}
+use Rattle.sch_variable_counts.proofs.ListsLeft.{whole, whole_lambdas}
 
 -- ## Variables seen from outside
 

@@ -1,19 +1,12 @@
 -- What is left of lists of expressions and lambdas in a loop.
-use Rattle.std.proofs.Common.{◌≡◌, ℕ, suc, ◌<◌, ◌≤◌, List, length, drop, get_or, sym, ap, map}
+use Rattle.std.proofs.Common.{◌≡◌, ℕ, suc, ◌<◌, ◌≤◌, List, length, drop, get_or, sym, ap}
 use Rattle.std.proofs.lemmas.List.{drop_all}
 use Rattle.sch_word.proofs.facts.Lists.{next_left}
 use Rattle.sch_lang.specs.declared.tree.Exp.{Exp}
 use Rattle.sch_lang.specs.declared.tree.Lambda.{Lambda}
-use Rattle.sch_lang.specs.Tree.{Expressions, Lambdas, expressions, lambdas, and_expression, and_lambda, no_expressions, no_lambdas}
-use Rattle.sch_lang.specs.View.{expression, expressions_of, function, lambdas_of}
-use Rattle.sch_lang.proofs.ListViews.{expressions_of_list, lambdas_of_list}
-
--- a list of them, as a tree has it
-abbrev pub left : List Exp → Expressions
-left es = expressions (map expression es)
-
-abbrev pub left_lambdas : List Lambda → Lambdas
-left_lambdas ls = lambdas (map function ls)
+use Rattle.sch_lang.specs.Tree.{and_expression, and_lambda, no_expressions, no_lambdas}
+use Rattle.sch_lang.specs.View.{expression, expressions_of, lambdas_of}
+use Rattle.sch_lang.proofs.ListViews.{expressions_of_list, lambdas_of_list, left, left_lambdas}
 
 -- what is left at an item, in front of what is left after it
 pub next_expression : (es : List Exp) (i : ℕ) (e : Exp) → i < length es → e ≡ get_or es i e → left (drop i es) ≡ and_expression (expression e) (left (drop (suc i) es))

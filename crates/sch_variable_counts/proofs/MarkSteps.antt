@@ -9,9 +9,9 @@ use Rattle.sch_lang.specs.Measures.{onto_all}
 use Rattle.sch_lang.specs.Tree.{Expression, Expressions, Lambdas, set_local, branch, bind, fix, letrec, call, count, count_lambdas}
 use Rattle.sch_lang.specs.Variables.{assigns, assigns_each, assigns_lambdas}
 use Rattle.sch_lang.specs.View.{expression}
+use Rattle.sch_lang.proofs.ListViews.{left, left_lambdas}
 use Rattle.sch_variable_counts.specs.Walked.{marks_of, marks_in, marks_in_each, marks_in_lambdas}
 use Rattle.sch_word.specs.trees.Assigned.{marked}
-use Rattle.sch_variable_counts.proofs.ListsLeft.{left, left_lambdas}
 use Rattle.sch_variable_counts.proofs.Marks.{group_marked}
 use Rattle.sch_word.proofs.facts.AssignedMarks.{marked_none, marked_same, marked_twice, then_marked, before_marked}
 

@@ -6,10 +6,10 @@ use Rattle.std.proofs.lemmas.List.{reverse-append, set-append_left, length-rever
 use Rattle.std.proofs.Math.Seq.{set-append_seam, drop-append_seam}
 use Rattle.sch_word.specs.trees.Bindings.{numbers}
 use Rattle.sch_word.proofs.facts.Booleans.{false_true}
-use Rattle.sch_word.proofs.facts.Lists.{reverse_cons}
+use Rattle.sch_word.proofs.facts.Lists.{reverse_cons, cons_same}
 use Rattle.sch_lang.specs.Measures.{onto_all}
 use Rattle.sch_word.specs.trees.Assigned.{marked}
-use Rattle.sch_word.proofs.facts.AssignedMarks.{marked_shift, before_marked, marked_far, marked_at, both}
+use Rattle.sch_word.proofs.facts.AssignedMarks.{marked_shift, before_marked, marked_far, marked_at}
 use Rattle.sch_variable_counts.specs.Walked.{marks_of}
 
 -- ## New variables in scope
@@ -18,7 +18,7 @@ marked_onto : (f : ℕ → Bool) (n j : ℕ) (bs : List Bool) → marked f j (on
 marked_onto f zero j bs = ap (λ i. marked f i bs) (omega arith)
 marked_onto f (suc n) j bs =
     let e : suc j + n ≡ j + suc n = omega arith in
-    both refl (marked_onto f n (suc j) bs ∙ ap (λ i. map f (numbers (suc j) n) ++ marked f i bs) e)
+    cons_same refl (marked_onto f n (suc j) bs ∙ ap (λ i. map f (numbers (suc j) n) ++ marked f i bs) e)
 
 -- a walk with n new variables in scope: their marks, and those of the others
 pub under_marked : (f : ℕ → Bool) (n : ℕ) (bs : List Bool) {cs ds : List Bool} → cs ≡ onto_all n false bs → ds ≡ marked f 0 cs → ds ≡ map f (numbers 0 n) ++ marked (λ i. f (i + n)) 0 bs

@@ -11,9 +11,11 @@ use Rattle.sch_lang.specs.declared.tree.Exp.TheVariants as code
 use Rattle.sch_lang.specs.declared.tree.Lambda.{Lambda}
 use Rattle.sch_lang.specs.Tree.{Expression, Expressions, Lambdas, bind, fix, letrec, call, no_expressions, and_expression, count, count_lambdas}
 use Rattle.sch_lang.specs.Variables.{assigns}
-use Rattle.sch_lang.specs.Measures.{bound_count, body_variables, onto_all, onto_assigned, three_each, one_unless, counts_nothing, variables, variables_each, variables_operands}
+use Rattle.sch_word.specs.trees.VariableCounts.{three_each, one_unless}
+use Rattle.sch_lang.specs.Measures.{bound_count, body_variables, onto_all, onto_assigned, counts_nothing, variables, variables_each, variables_operands}
 use Rattle.sch_lang.specs.View.{expression, expressions_of, lambdas_of}
-use Rattle.sch_variable_counts.proofs.ListsLeft.{left, left_lambdas, next_expression, next_lambda, no_expression, no_lambda, whole, whole_lambdas}
+use Rattle.sch_lang.proofs.ListViews.{left, left_lambdas}
+use Rattle.sch_variable_counts.proofs.ListsLeft.{next_expression, next_lambda, no_expression, no_lambda, whole, whole_lambdas}
 use Rattle.sch_variable_counts.specs.declared.counting.Counted.{Counted}
 use Rattle.sch_variable_counts.specs.Counts.{Counts}
 use Rattle.sch_variable_counts.specs.Walked.{capped, marks_of, marks_in, marks_in_each, marks_in_lambdas, Takes}

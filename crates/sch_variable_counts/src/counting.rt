@@ -7,7 +7,9 @@ ghost use Rattle.std.specs.Prelude.{◌≡◌, ◌+◌, ◌&&◌, cond, nat_le, 
 ghost use Rattle.sch_word.specs.trees.Shape.{max_variables};
 ghost use Rattle.sch_lang.specs.Tree.{Expression};
 ghost use Rattle.sch_lang.specs.Variables.{assigns};
-ghost use Rattle.sch_lang.specs.Measures.{body_variables, counts_nothing, once_or_not, one_unless, twice_if, three_each, bound_count, onto_assigned, onto_all, variables, variables_each, variables_operands, variables_parts};
+ghost use Rattle.sch_word.specs.values.Options.{or_false};
+ghost use Rattle.sch_word.specs.trees.VariableCounts.{one_unless, twice_if, three_each};
+ghost use Rattle.sch_lang.specs.Measures.{body_variables, counts_nothing, bound_count, onto_assigned, onto_all, variables, variables_each, variables_operands, variables_parts};
 ghost use Rattle.sch_lang.specs.View.{expression, expressions_of, lambdas_of};
 ghost use Rattle.sch_variable_counts.specs.Counts.{Counts};
 ghost use Rattle.sch_variable_counts.specs.Kinds.{IsBind, IsFix, IsLetrec};
@@ -75,14 +77,14 @@ fn counts_nothing(e: &Exp, once: &[bool]) -> bool
     match e {
         Exp::Constant(_) => true,
         Exp::Literal(_) => true,
-        Exp::Local(k) => once_or_not(once, *k as usize),
+        Exp::Local(k) => or_false(once, *k as usize),
         _ => false,
     }
 }
 
 /// Whether the variable with k bound nearer is one of the body's and counts once.
-fn once_or_not(once: &[bool], k: usize) -> bool
-    ensures { result ≡ once_or_not (slice_get (reverse once.now) k) }
+fn or_false(once: &[bool], k: usize) -> bool
+    ensures { result ≡ or_false (slice_get (reverse once.now) k) }
 {
     let n = once.len();
     k < n && once[n - 1 - k]

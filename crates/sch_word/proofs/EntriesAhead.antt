@@ -24,7 +24,8 @@ taken_grows : (n : ℕ) (t : Store) → OutcomeGrows (with_entries n t) (taken n
 taken_grows zero t = grows_self (with_entries zero t)
 taken_grows (suc n) t = quiet (with_entries (suc n) t) (with_entries n t) refl refl refl (omega arith) (omega arith) (omega arith)
 
-abbrev entries_of : {V : Type 0} → Outcome Store V → ℕ
+-- how many entries are left after an action
+abbrev pub entries_of : {V : Type 0} → Outcome Store V → ℕ
 entries_of (gives v t) = t.entries
 entries_of (stops why t) = t.entries
 entries_of (spent t) = t.entries

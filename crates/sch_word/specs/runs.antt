@@ -8,4 +8,5 @@ pub mod ProgramLayout
 pub mod Runs
 pub mod Stops
 pub mod Store
+pub mod WorkedRuns
 pub mod Activations

@@ -5,6 +5,7 @@ pub mod InOrder
 pub mod NumberSets
 pub mod Shape
 pub mod Covered
+pub mod VariableCounts
 pub mod Walk
 pub mod NodeWeights
 pub mod Assigned

@@ -35,7 +35,7 @@ pub use literal_order::literals_in_order;
 pub use made_literals::MadeLiterals;
 pub use mark::MarkKind;
 pub use mem::Mem;
-pub use numbers::{add_counts, add_numbers, insert_number, insert_numbers, is_in, number_of_count};
+pub use numbers::{insert_number, insert_numbers, is_in, larger};
 pub use place::Place;
 pub use primitive::Primitive;
 pub use program_layout::{DATA_ADDRESS, MAX_TEXT_SIZE, TEXT_ADDRESS};

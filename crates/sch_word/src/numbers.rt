@@ -1,6 +1,6 @@
-//! Numbers: whether one is in a list, finite sets of them in lists, sums that a type has, and counts in 32 bits.
+//! Numbers: whether one is in a list, finite sets of them in lists, and the larger of two.
 
-ghost use Rattle.std.specs.Prelude.{◌≡◌, ◌+◌, reverse, IfOk, OnOk};
+ghost use Rattle.std.specs.Prelude.{◌≡◌, max, reverse, OnOk};
 ghost use Rattle.sch_word.specs.trees.NumberSets.{has, insert, union};
 
 use crate::mem::Mem;
@@ -37,32 +37,9 @@ pub fn insert_numbers(more: &[u32], xs: &mut Vec<u32>) -> Result<(), Mem>
     Ok(())
 }
 
-/// The sum of two numbers. One past the numbers of 32 bits is out of memory.
-pub fn add_numbers(a: u32, b: u32) -> Result<u32, Mem>
-    ensures { IfOk result (λ n. n ≡ a + b) }
+/// The larger of two numbers.
+pub fn larger(a: u32, b: u32) -> u32
+    ensures { result ≡ max a b }
 {
-    match a.checked_add(b) {
-        Some(n) => Ok(n),
-        None => Err(Mem),
-    }
-}
-
-/// The sum of two counts. One past the counts of the machine is out of memory.
-pub fn add_counts(a: usize, b: usize) -> Result<usize, Mem>
-    ensures { IfOk result (λ n. n ≡ a + b) }
-{
-    match a.checked_add(b) {
-        Some(n) => Ok(n),
-        None => Err(Mem),
-    }
-}
-
-/// A count as a number of 32 bits. A larger one is out of memory.
-pub fn number_of_count(n: usize) -> Result<u32, Mem>
-    ensures { IfOk result (λ m. m ≡ n) }
-{
-    match u32::try_from(n) {
-        Ok(m) => Ok(m),
-        Err(_) => Err(Mem),
-    }
+    if a < b { b } else { a }
 }

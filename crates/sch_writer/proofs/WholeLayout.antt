@@ -10,7 +10,7 @@ use Rattle.sch_control.specs.Valid.{member_variables}
 use Rattle.sch_control.specs.View.{expression_with}
 use Rattle.sch_frames.specs.declared.instruction.Instruction.{Instruction}
 use Rattle.sch_frames.specs.declared.instruction.Instruction.TheVariants.{Fix}
-use Rattle.sch_frames.specs.Meaning.{is_slot}
+use Rattle.sch_word.specs.values.Places.{is_slot}
 use Rattle.sch_layout.specs.BodyLayout.{Plan, entering, labels, lay, members_at, stored}
 
 pub whole_written : (plan : Plan) (entry : Option Entry) (e : Expression) (n : ℕ) (start first second : List Instruction) → start ≡ [] → n ≡ 0

@@ -1,2 +1,3 @@
+pub mod FewOperands
 pub mod Regions
 pub mod View

@@ -1,14 +1,17 @@
 //! The layout of a body: its tree in order, as instructions.
 
-ghost use Rattle.std.specs.Prelude.{◌≡◌, ◌+◌, ◌∷◌, [], cond, filter, IfOk, OnOk, None, Some};
+ghost use Rattle.std.specs.Prelude.{◌≡◌, ◌≤◌, ◌<◌, ◌+◌, ◌^◌, ◌∷◌, [], cond, filter, IfOk, OnOk, None, Some};
 ghost use Rattle.sch_control.specs.Meaning.{no_region};
 ghost use Rattle.sch_control.specs.Tree.{save};
 ghost use Rattle.sch_control.specs.Valid.{member_variables};
 ghost use Rattle.sch_control.specs.View.{expression_with};
 ghost use Rattle.sch_word.specs.declared.mark.MarkKind.TheVariants as mark;
+ghost use Rattle.sch_word.specs.trees.Shape.{max_operands};
 ghost use Rattle.sch_frames.specs.declared.instruction.Instruction.TheVariants.{Do, Store, Fix, Return, End, Jump, Label, Mark};
-ghost use Rattle.sch_frames.specs.Meaning.{is_slot};
+ghost use Rattle.sch_word.specs.values.Places.{is_slot};
+ghost use Rattle.sch_control.specs.flow.Places.{formals_of};
 ghost use Rattle.sch_layout.specs.BodyLayout.{arrived, arrivals, entering, brought, operation_at, members_at, leave, labels, lay, spill, stored, under, Writes};
+ghost use Rattle.sch_writer.specs.FewOperands.{FewOperands};
 ghost use Rattle.sch_writer.specs.Regions.{inside};
 
 use crate::allocation::{Allocation, Around, Restores};
@@ -21,7 +24,7 @@ use crate::saves::{write_bound, write_heads, write_members};
 use crate::variable_places::VariablePlaces;
 use sch_control::{Entry, Exp, Member, Operation};
 use sch_frames::Instruction;
-use sch_word::{List, MarkKind, Mem, Place, add_numbers};
+use sch_word::{List, MarkKind, Mem, Place};
 use std::alloc::Global;
 
 // What is written between the parts of an expression stands in functions of its own, which are not put into the walk over
@@ -64,7 +67,7 @@ fn spilled_members<P: VariablePlaces>(
 {
     let mut xs = List::new(alloc);
     for m in members {
-        if let Place::Slot(_) = places.place(m.at)? {
+        if let Place::Slot(_) = places.place(m.at) {
             xs.push(m.at)?;
         }
     }
@@ -83,7 +86,7 @@ fn write_store<P: VariablePlaces, R>(
     ensures labels { OnOk result (out.new.labels ≡ out.old.labels) }
 {
     let places = &around.allocation.places;
-    let place = places.place(x)?;
+    let place = places.place(x);
     put_under(out, spilled(place, x), Instruction::Store(place))?;
     write_bound(places, &around.regions, x, out)
 }
@@ -155,6 +158,8 @@ fn lay_region<'a, C: Drop, P: VariablePlaces, R: Restores<C>>(
     test: Option<u32>,
     out: &mut Writer,
 ) -> Result<(), Mem>
+    requires few { FewOperands e.now }
+    requires room { out.old.labels + labels (expression_with (R.lists around.now.allocation.now.restores) e.now) < 2 ^ 32 }
     ensures instructions { OnOk result (Writes out.old.instructions out.new.instructions
         (lay (P.plan around.now.allocation.now.places) (save saves.now (expression_with (R.lists around.now.allocation.now.restores) e.now))
         (inside around.now.regions) out.old.labels test)) }
@@ -178,6 +183,8 @@ fn lay<'a, C: Drop, P: VariablePlaces, R: Restores<C>>(
     test: Option<u32>,
     out: &mut Writer,
 ) -> Result<(), Mem>
+    requires few { FewOperands e.now }
+    requires room { out.old.labels + labels (expression_with (R.lists around.now.allocation.now.restores) e.now) < 2 ^ 32 }
     ensures instructions { OnOk result (Writes out.old.instructions out.new.instructions
         (lay (P.plan around.now.allocation.now.places) (expression_with (R.lists around.now.allocation.now.restores) e.now)
         (inside around.now.regions) out.old.labels test)) }
@@ -195,8 +202,8 @@ fn lay<'a, C: Drop, P: VariablePlaces, R: Restores<C>>(
             lay(around, b, test, out)
         }
         Exp::If(a, b, c) => {
-            let no = new_label(out)?;
-            let end = new_label(out)?;
+            let no = new_label(out);
+            let end = new_label(out);
             lay(around, a, Some(no), out)?;
             lay(around, b, test, out)?;
             write_else(no, end, out)?;
@@ -237,7 +244,7 @@ fn bring<P: VariablePlaces>(places: &P, x: u32, out: &mut Writer) -> Result<(), 
     ensures instructions { OnOk result (Writes out.old.instructions out.new.instructions (brought (P.plan places.now) x)) }
     ensures labels { OnOk result (out.new.labels ≡ out.old.labels) }
 {
-    let to = places.place(x)?;
+    let to = places.place(x);
     let from = arrived(x);
     if same_place(to, from) {
         return Ok(());
@@ -258,20 +265,17 @@ fn arrive<P: VariablePlaces>(places: &P, count: u32, out: &mut Writer) -> Result
 
 /// A procedure brings its closure and its arguments into their places.
 fn enter<P: VariablePlaces>(places: &P, entry: Option<Entry>, out: &mut Writer) -> Result<(), Mem>
+    requires few { formals_of entry ≤ max_operands }
     ensures instructions { OnOk result (Writes out.old.instructions out.new.instructions (entering (P.plan places.now) entry)) }
     ensures labels { OnOk result (out.new.labels ≡ out.old.labels) }
 {
     match entry {
         None => Ok(()),
-        Some(e) => {
-            let count = add_numbers(e.formals, 1)?;
-            arrive(places, count, out)
-        }
+        Some(e) => arrive(places, e.formals + 1, out),
     }
 }
 
 /// The instructions of a body by its allocation: what it is entered by, and its expression, with the regions that it has.
-/// What is past the numbers of 32 bits is out of memory.
 ///
 /// Time and memory are linear in what is read and written, but that for each variable of a region the expression of this
 /// is walked once more, to see whether it is bound there, and the regions round a binding are gone through.
@@ -281,6 +285,9 @@ pub fn write_body<C: Drop, P: VariablePlaces, R: Restores<C>>(
     entry: Option<Entry>,
     e: &Exp<C>,
 ) -> Result<Writer, Mem>
+    requires formals { formals_of entry ≤ max_operands }
+    requires few { FewOperands e.now }
+    requires labels { labels (expression_with (R.lists allocation.now.restores) e.now) < 2 ^ 32 }
     ensures instructions { IfOk result (λ out. out.instructions ≡ entering (P.plan allocation.now.places) entry
         (lay (P.plan allocation.now.places) (expression_with (R.lists allocation.now.restores) e.now) no_region 0 None [])) }
     ensures labels { IfOk result (λ out. out.labels ≡ labels (expression_with (R.lists allocation.now.restores) e.now)) }
@@ -296,6 +303,9 @@ pub fn write_region_body<C: Drop, P: VariablePlaces, R: Restores<C>>(
     entry: Option<Entry>,
     e: &Exp<C>,
 ) -> Result<Writer, Mem>
+    requires formals { formals_of entry ≤ max_operands }
+    requires few { FewOperands e.now }
+    requires labels { labels (expression_with (R.lists allocation.now.restores) e.now) < 2 ^ 32 }
     ensures instructions { IfOk result (λ out. out.instructions ≡ entering (P.plan allocation.now.places) entry
         (lay (P.plan allocation.now.places) (save saves.now (expression_with (R.lists allocation.now.restores) e.now)) no_region 0 None [])) }
     ensures labels { IfOk result (λ out. out.labels ≡ labels (expression_with (R.lists allocation.now.restores) e.now)) }

@@ -1,7 +1,8 @@
 //! Calls: their moves, the call itself, and what is restored behind it.
 
-ghost use Rattle.std.specs.Prelude.{◌≡◌, ◌∷◌, suc, false, length, true, IfOk, OnOk};
+ghost use Rattle.std.specs.Prelude.{◌≡◌, ◌≤◌, ◌<◌, ◌+◌, ◌^◌, ◌∷◌, suc, false, length, true, IfOk, OnOk};
 ghost use Rattle.sch_word.specs.declared.mark.MarkKind.TheVariants as mark;
+ghost use Rattle.sch_word.specs.trees.Shape.{max_operands};
 ghost use Rattle.sch_frames.specs.Meaning.{argument_register, argument_slot};
 ghost use Rattle.sch_frames.specs.declared.instruction.Instruction.TheVariants.{Call, Mark, Tail};
 ghost use Rattle.sch_layout.specs.BodyLayout.{arrival, leave, loaded, move_all, target, Writes};
@@ -13,10 +14,7 @@ use crate::saves::write_restores;
 use crate::variable_places::VariablePlaces;
 use sch_control::Application;
 use sch_frames::Instruction;
-use sch_word::{
-    ARGUMENT_REGISTERS, CLOSURE_REGISTER, LINK_REGISTER, MarkKind, Mem, Place, add_numbers,
-    number_of_count,
-};
+use sch_word::{ARGUMENT_REGISTERS, CLOSURE_REGISTER, LINK_REGISTER, MarkKind, Mem, Place};
 use std::alloc::Global;
 
 /// Where the return address of an activation is.
@@ -50,25 +48,27 @@ pub(crate) fn arrival(k: u32) -> Place
 }
 
 /// Where an operand of a call is wanted, by the number of those before it.
-fn operand_target(tail: bool, limit: u32, k: u32) -> Result<Place, Mem>
-    ensures { IfOk result (λ p. p ≡ target tail limit (suc k)) }
+fn operand_target(tail: bool, limit: u32, k: u32) -> Place
+    requires { limit + k < 2 ^ 32 }
+    ensures { result ≡ target tail limit (suc k) }
 {
     if tail {
-        return Ok(arrival(k));
+        return arrival(k);
     }
     match argument_register(k) {
-        Some(r) => Ok(Place::Reg(r)),
-        None => Ok(Place::Slot(add_numbers(limit, argument_slot(k))?)),
+        Some(r) => Place::Reg(r),
+        None => Place::Slot(limit + argument_slot(k)),
     }
 }
 
 /// Where an argument of a call is wanted: the operator, argument 0, in R14; an operand in its register, or in a slot: in a
 /// tail call in one of the own frame, and else in one of the frame that the call opens, whose slots begin at a limit.
-pub fn target(tail: bool, limit: u32, argument: u32) -> Result<Place, Mem>
-    ensures { IfOk result (λ p. p ≡ target tail limit argument) }
+pub fn target(tail: bool, limit: u32, argument: u32) -> Place
+    requires { limit + argument < 2 ^ 32 }
+    ensures { result ≡ target tail limit argument }
 {
     if argument == 0 {
-        return Ok(CLOSURE);
+        return CLOSURE;
     }
     operand_target(tail, limit, argument - 1)
 }
@@ -81,19 +81,19 @@ fn prepare<P: VariablePlaces>(
     a: &Application<u32>,
     out: &mut Writer,
 ) -> Result<u32, Mem>
+    requires few { length a.now.operands ≤ max_operands }
     ensures instructions { OnOk result (Writes out.old.instructions out.new.instructions
         (move_all (P.plan places.now).limit ((P.plan places.now).moves tail a.now))) }
     ensures labels { OnOk result (out.new.labels ≡ out.old.labels) }
     ensures count { IfOk result (λ n. n ≡ length a.now.operands) }
 {
-    let count = number_of_count(a.operands.len())?;
     let moves = places.moves(alloc, tail, a)?;
     write_moves(places.limit(), moves, out)?;
-    Ok(count)
+    Ok(a.operands.len() as u32)
 }
 
 /// A call, whose value is left in the accumulator, or tested, and goes on behind the label where it is `#f`. Its moves come
-/// first. What the call has says what is restored behind it. 2^32 operands or more are out of memory.
+/// first. What the call has says what is restored behind it.
 #[inline(never)]
 pub(crate) fn write_call<C, P: VariablePlaces, R: Restores<C>>(
     around: &Around<'_, P, R>,
@@ -102,6 +102,7 @@ pub(crate) fn write_call<C, P: VariablePlaces, R: Restores<C>>(
     test: Option<u32>,
     out: &mut Writer,
 ) -> Result<(), Mem>
+    requires few { length a.now.operands ≤ max_operands }
     ensures instructions { OnOk result (Writes out.old.instructions out.new.instructions
         (λ rest. move_all (P.plan around.now.allocation.now.places).limit ((P.plan around.now.allocation.now.places).moves false a.now)
         (Mark (mark.Call a.now.site) ∷ (Call a.now.spread (length a.now.operands)
@@ -125,6 +126,7 @@ pub(crate) fn write_tail_call<P: VariablePlaces>(
     a: &Application<u32>,
     out: &mut Writer,
 ) -> Result<(), Mem>
+    requires few { length a.now.operands ≤ max_operands }
     ensures instructions { OnOk result (Writes out.old.instructions out.new.instructions
         (λ rest. move_all (P.plan places.now).limit ((P.plan places.now).moves true a.now)
         (Mark (mark.Tail a.now.site) ∷ (Tail a.now.spread (length a.now.operands) ∷ rest)))) }

@@ -1,10 +1,10 @@
 //! Instructions as they are written.
 
-ghost use Rattle.std.specs.Prelude.{◌≡◌, ◌++◌, ◌+◌, ◌∷◌, [], IfOk, OnOk};
+ghost use Rattle.std.specs.Prelude.{◌≡◌, ◌++◌, ◌+◌, ◌<◌, ◌^◌, ◌∷◌, [], IfOk, OnOk};
 ghost use Rattle.sch_layout.specs.BodyLayout.{leave, under, Writes};
 
 use sch_frames::Instruction;
-use sch_word::{List, MarkKind, Mem, add_numbers};
+use sch_word::{List, MarkKind, Mem};
 use std::alloc::Global;
 
 /// For how many instructions there is room at first. A form that calls a procedure with an operand has as many.
@@ -29,15 +29,16 @@ pub(crate) fn new_writer(alloc: Global) -> Result<Writer, Mem>
     })
 }
 
-/// The next label. One past the numbers of 32 bits is out of memory.
-pub(crate) fn new_label(out: &mut Writer) -> Result<u32, Mem>
-    ensures number { IfOk result (λ l. l ≡ out.old.labels) }
-    ensures labels { OnOk result (out.new.labels ≡ out.old.labels + 1) }
+/// The next label.
+pub(crate) fn new_label(out: &mut Writer) -> u32
+    requires room { out.old.labels + 1 < 2 ^ 32 }
+    ensures number { result ≡ out.old.labels }
+    ensures labels { out.new.labels ≡ out.old.labels + 1 }
     ensures instructions { out.new.instructions ≡ out.old.instructions }
 {
     let label = out.labels;
-    out.labels = add_numbers(label, 1)?;
-    Ok(label)
+    out.labels += 1;
+    label
 }
 
 /// One instruction more.

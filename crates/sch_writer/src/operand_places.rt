@@ -8,13 +8,13 @@ use sch_control::{Atom, Closure, Member, Operand, Operation, Source};
 use sch_word::{List, Mem, Place};
 use std::alloc::Global;
 
-fn atom_at<P: VariablePlaces>(places: &P, a: &Atom<u32>) -> Result<Atom<Place>, Mem>
-    ensures { IfOk result (λ b. b ≡ atom_at (P.plan places.now).place a.now) }
+fn atom_at<P: VariablePlaces>(places: &P, a: &Atom<u32>) -> Atom<Place>
+    ensures { result ≡ atom_at (P.plan places.now).place a.now }
 {
     match a {
-        Atom::Constant(c) => Ok(Atom::Constant(*c)),
-        Atom::Literal(n) => Ok(Atom::Literal(*n)),
-        Atom::Variable(x) => Ok(Atom::Variable(places.place(*x)?)),
+        Atom::Constant(c) => Atom::Constant(*c),
+        Atom::Literal(n) => Atom::Literal(*n),
+        Atom::Variable(x) => Atom::Variable(places.place(*x)),
     }
 }
 
@@ -27,7 +27,7 @@ fn atoms_at<P: VariablePlaces>(
 {
     let mut made = List::new(alloc);
     for a in atoms {
-        made.push(atom_at(places, a)?)?;
+        made.push(atom_at(places, a))?;
     }
     Ok(made)
 }
@@ -41,7 +41,7 @@ pub fn operand_at<P: VariablePlaces>(
     ensures { IfOk result (λ p. p ≡ operand_at (P.plan places.now).place o.now) }
 {
     match o {
-        Operand::Atom(a) => Ok(Operand::Atom(atom_at(places, a)?)),
+        Operand::Atom(a) => Ok(Operand::Atom(atom_at(places, a))),
         Operand::Read(site, which, atoms) => {
             let atoms = atoms_at(alloc, places, atoms.as_slice())?;
             Ok(Operand::Read(*site, *which, atoms))
@@ -63,12 +63,12 @@ fn operands_at<P: VariablePlaces>(
     Ok(made)
 }
 
-fn source_at<P: VariablePlaces>(places: &P, c: &Source<u32>) -> Result<Source<Place>, Mem>
-    ensures { IfOk result (λ d. d ≡ source_at (P.plan places.now).place c.now) }
+fn source_at<P: VariablePlaces>(places: &P, c: &Source<u32>) -> Source<Place>
+    ensures { result ≡ source_at (P.plan places.now).place c.now }
 {
     match c {
-        Source::Atom(a) => Ok(Source::Atom(atom_at(places, a)?)),
-        Source::Field(x, k) => Ok(Source::Field(places.place(*x)?, *k)),
+        Source::Atom(a) => Source::Atom(atom_at(places, a)),
+        Source::Field(x, k) => Source::Field(places.place(*x), *k),
     }
 }
 
@@ -81,7 +81,7 @@ fn sources_at<P: VariablePlaces>(
 {
     let mut made = List::new(alloc);
     for c in sources {
-        made.push(source_at(places, c)?)?;
+        made.push(source_at(places, c))?;
     }
     Ok(made)
 }
@@ -107,7 +107,7 @@ fn member_at<P: VariablePlaces>(
 ) -> Result<Member<Place>, Mem>
     ensures { IfOk result (λ n. n ≡ member_at (P.plan places.now).place m.now) }
 {
-    let at = places.place(m.at)?;
+    let at = places.place(m.at);
     let closure = closure_at(alloc, places, &m.closure)?;
     Ok(Member { at, closure })
 }
@@ -143,12 +143,12 @@ pub(crate) fn operation_at<P: VariablePlaces>(
         }
         Operation::Global(g) => Ok(Operation::Global(*g)),
         Operation::SetGlobal(g, o) => Ok(Operation::SetGlobal(*g, operand_at(alloc, places, o)?)),
-        Operation::Field(x, k) => Ok(Operation::Field(places.place(*x)?, *k)),
-        Operation::NewCell(c) => Ok(Operation::NewCell(source_at(places, c)?)),
+        Operation::Field(x, k) => Ok(Operation::Field(places.place(*x), *k)),
+        Operation::NewCell(c) => Ok(Operation::NewCell(source_at(places, c))),
         Operation::UnsetCell => Ok(Operation::UnsetCell),
-        Operation::CellGet(c) => Ok(Operation::CellGet(source_at(places, c)?)),
+        Operation::CellGet(c) => Ok(Operation::CellGet(source_at(places, c))),
         Operation::CellSet(c, o) => {
-            let c = source_at(places, c)?;
+            let c = source_at(places, c);
             Ok(Operation::CellSet(c, operand_at(alloc, places, o)?))
         }
         Operation::MakeClosure(c) => Ok(Operation::MakeClosure(closure_at(alloc, places, c)?)),

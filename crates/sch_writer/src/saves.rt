@@ -31,10 +31,10 @@ fn save<P: VariablePlaces>(places: &P, x: u32, out: &mut Writer) -> Result<(), M
     ensures instructions { OnOk result (Writes out.old.instructions out.new.instructions (stored (P.plan places.now) (x ∷ []))) }
     ensures labels { OnOk result (out.new.labels ≡ out.old.labels) }
 {
-    match places.place(x)? {
+    match places.place(x) {
         Place::Slot(_) => Ok(()),
         Place::Reg(r) => {
-            let to = places.home(x)?;
+            let to = places.home(x);
             copied(MarkKind::Save(x), to, Place::Reg(r), out)
         }
     }
@@ -45,10 +45,10 @@ fn restore<P: VariablePlaces>(places: &P, x: u32, out: &mut Writer) -> Result<()
     ensures instructions { OnOk result (Writes out.old.instructions out.new.instructions (loaded (P.plan places.now) (x ∷ []))) }
     ensures labels { OnOk result (out.new.labels ≡ out.old.labels) }
 {
-    match places.place(x)? {
+    match places.place(x) {
         Place::Slot(_) => Ok(()),
         Place::Reg(r) => {
-            let from = places.home(x)?;
+            let from = places.home(x);
             copied(MarkKind::Restore(x), Place::Reg(r), from, out)
         }
     }

@@ -13,15 +13,17 @@ use Rattle.sch_control.specs.declared.operation.Operand.TheVariants as operand
 use Rattle.sch_control.specs.declared.operation.Operation.{Operation}
 use Rattle.sch_control.specs.declared.operation.Operation.TheVariants as does
 use Rattle.sch_control.specs.declared.operation.Application.{Application}
-use Rattle.sch_control.specs.AtomsAndSites.{operand_atoms, source_atoms, member_atoms}
+use Rattle.sch_control.specs.AtomsAndSites.{source_atoms, member_atoms}
 use Rattle.sch_control.specs.Sizes.{operand_size, operands_size, operation_size}
 use Rattle.sch_control.specs.Tree as to
 use Rattle.sch_control.specs.Tree.{Expression, Code}
 use Rattle.sch_word.specs.trees.NodeWeights.{weight_of, fields_of}
 use Rattle.sch_control.specs.Work.{codes_work, expression_work, operands_work}
+use Rattle.sch_control.proofs.OperandSizes.{atoms_within}
 use Rattle.sch_anf_laws.specs.Normal.{Scope, number_of, source_of, are_atoms, init_numbers, inits_bind, is_simple, simple_operand, atoms_of, binds, operand_binds, operands_bind, operand_at, operands_at, unless_atom, ends_in_call, bound_unless, closure_of, members_of, numbers_for, cell_operation, cells_scope, finished, called, normal, normal_parts, with_operands, with_inits, with_new_cells, procedure_code, form_code, normal_bodies, normal_source}
 use Rattle.sch_flat.specs.Measures.{bodies_weight, weight}
 use Rattle.sch_anf_laws.proofs.DroppedAtoms.{dropped_as}
+use Rattle.sch_anf_laws.proofs.runs.Agree.{operands_length}
 
 abbrev size : Tree → ℕ
 size = over 0 (λ a b. a + b) weight_of
@@ -72,10 +74,6 @@ finished_size : (tail : Bool) (o : Operation ℕ) → expression_work (finished 
 finished_size true o = omega arith
 finished_size false o = omega arith
 
-operand_long : (o : Operand ℕ) → length (operand_atoms o) ≤ operand_size o
-operand_long (operand.Atom a) = omega arith
-operand_long (operand.Read site which atoms) = omega arith
-
 called_size : (tail : Bool) (a : Application ℕ) → expression_work (called tail a) ≤ operand_size a.operator + operands_work a.operands + 4
 called_size true a = omega arith
 called_size false a = omega arith
@@ -83,10 +81,6 @@ called_size false a = omega arith
 handed_size : (os : List (Operand ℕ)) → operands_work os ≡ 3 * length os + operands_size os
 handed_size [] = omega arith
 handed_size (o ∷ os) = let h = handed_size os in omega (arith, h)
-
-operands_count : (es : Trees) (scope : Scope) (n : ℕ) → length (operands_at scope es n) ≡ count es
-operands_count no_trees scope n = refl
-operands_count (and_tree e es) scope n = let h = operands_count es scope (n + operand_binds e) in omega (arith, h)
 
 -- ## Closures and cells
 
@@ -167,7 +161,7 @@ module _ (starts : List ℕ) where
         let s = part_size (is_simple f) (simple_operand scope f) m (normal starts false f scope (suc m)) (called tail a) (size f) (simple_size scope f)
         (omega (arith, normal_size false f scope (suc m))) in
         let t = operands_within es scope n last in
-        omega (arith, s, t, called_size tail a, handed_size (operands_at scope es n), operands_count es scope n)
+        omega (arith, s, t, called_size tail a, handed_size (operands_at scope es n), operands_length scope es n)
     normal_size tail (operation site which es) scope n =
         let o : Operation ℕ = does.Prim site which (operands_at scope es n) in
         let s = operands_within es scope n (finished tail (to.perform o)) in
@@ -178,7 +172,7 @@ module _ (starts : List ℕ) where
         omega (arith, s, t)
     normal_size tail (cell_get v) scope n = let f = finished_size tail (does.CellGet (source_of scope v)) in omega (arith, f)
     normal_size tail (cell_set v e) scope n =
-        let long = operand_long (operand_at scope e n) in
+        let long = atoms_within (operand_at scope e n) in
         let s = value_size tail e scope n (does.CellSet (source_of scope v) (operand_at scope e n)) 1 (omega (arith, normal_size false e scope (suc n))) (omega (arith, long)) in
         omega (arith, s)
 

@@ -1,7 +1,6 @@
 -- The variables of a flat body and those of its normal form, and the operands that are simple.
 use Rattle.std.proofs.Common.{◌≡◌, ℕ, zero, suc, ◌+◌, ◌<◌, ◌≤◌, Bool, true, false, cond, List, [], ◌∷◌, length, Some, refl, ap, ◌∙◌, arith}
 use Rattle.std.specs.Prelude.{slice_get, nat_eq, nat_lt, ◌||◌}
-use Rattle.std.proofs.lemmas.Bool.{eq-eqb, eqb-true}
 use Rattle.sch_word.specs.declared.primitive.Primitive.{Primitive}
 use Rattle.sch_word.specs.declared.primitive.Primitive.TheVariants.{Eq, Eqv, IsBoolean, IsPair, IsNull, IsSymbol, IsInteger, IsChar, IsString, IsVector, IsProcedure}
 use Rattle.sch_word.specs.values.Values.{Value, constant_value}
@@ -21,7 +20,8 @@ use Rattle.sch_control.specs.declared.operation.Operand.TheVariants as operand
 use Rattle.sch_control.specs.Operations.{field, atom_value, atom_values, operand_value, operand_values, source_value, given}
 use Rattle.sch_control.specs.Meaning as to
 use Rattle.sch_control.specs.Valid.{only_reads}
-use Rattle.sch_anf_laws.specs.Normal.{Scope, number_of, source_of, is_atom, are_atoms, is_simple, atom_of, atoms_of, simple_operand, operands_at, operand_binds, operands_bind, binds, bound_places}
+use Rattle.sch_control.proofs.Environments.{put_other}
+use Rattle.sch_anf_laws.specs.Normal.{Scope, number_of, source_of, is_atom, are_atoms, is_simple, atom_of, atoms_of, simple_operand, operands_at, operand_binds, operands_bind, binds, bound_places, init_numbers, numbers_for}
 use Rattle.sch_anf_laws.proofs.runs.Orders.{Parts, no_parts, and_simple, and_bound}
 use Rattle.sch_anf_laws.proofs.runs.Worlds.{Setting, Reached, images, state_of}
 use Rattle.sch_anf_laws.proofs.runs.Fine.{Fine, FineEach, simples, operands_rest}
@@ -36,18 +36,25 @@ below_self n environment = record { at = λ x l. refl }
 pub below_on : (n m : ℕ) (f g h : to.Environment) → n ≤ m → Below n f g → Below m g h → Below n f h
 below_on n m f g h l p q = record { at = λ x k. q.at x (omega (arith, l, k)) ∙ p.at x k }
 
-pub put_same : (environment : to.Environment) (n : ℕ) (v : Value) → to.put environment n v n ≡ Some v
-put_same environment n v = rw (eq-eqb n n refl) refl
-
-pub put_other : (environment : to.Environment) (n x : ℕ) (v : Value) → (x ≡ n → ⊥) → to.put environment n v x ≡ environment x
-put_other environment n x v h = go (nat_eq x n) refl
-  where
-    go : (b : Bool) → nat_eq x n ≡ b → cond b (Some v) (environment x) ≡ environment x
-    go true e = absurd (h (eqb-true x n e))
-    go false e = refl
-
 pub below_put : (n : ℕ) (f g : to.Environment) (v : Value) → Below n f g → Below n f (to.put g n v)
-below_put n f g v h = record { at = λ x l. put_other g n x v (λ e. omega (arith, l, e)) ∙ h.at x l }
+below_put n f g v h = record { at = λ x l. put_other g n v x (λ e. omega (arith, l, e)) ∙ h.at x l }
+
+pub atom_simple : (e : Tree) → is_atom e ≡ true → is_simple e ≡ true
+atom_simple (operation site which es) h = absurd (cc)
+atom_simple e h = h
+
+-- as many numbers and operands as trees, and as many numbers as items
+pub init_numbers_length : (es : Trees) (n : ℕ) → length (init_numbers es n) ≡ count es
+init_numbers_length no_trees n = refl
+init_numbers_length (and_tree e es) n = ap suc (init_numbers_length es (suc n + binds e))
+
+pub operands_length : (scope : Scope) (es : Trees) (n : ℕ) → length (operands_at scope es n) ≡ count es
+operands_length scope no_trees n = refl
+operands_length scope (and_tree e es) n = ap suc (operands_length scope es (n + operand_binds e))
+
+pub numbers_for_length : {A : Type 0} (xs : List A) (n : ℕ) → length (numbers_for xs n) ≡ length xs
+numbers_for_length [] n = refl
+numbers_for_length (x ∷ xs) n = ap suc (numbers_for_length xs (suc n))
 
 -- these variables have these values, and are below a number
 abbrev pub Held : (m : ℕ) → to.Environment → List ℕ → List Value → Type 0
@@ -176,19 +183,11 @@ module _ (a : Setting) (start : State Closure) (fields : ℕ) where
         let more = atoms_given n es (and_right (is_atom e) (are_atoms es) i) f.1 w s r in
         let simple : is_simple e ≡ true = atom_simple e (and_left (is_atom e) (are_atoms es) i) in
         (here.0 ∷ more.0, rw simple (and_simple here.1 more.1), rw (here.2, more.2) refl, ap suc more.3)
-      where
-        atom_simple : (e : Tree) → is_atom e ≡ true → is_simple e ≡ true
-        atom_simple (operation site which es) i = absurd (cc)
-        atom_simple _ i = i
 
     atoms_first : (es : Trees) (place : ℕ) (last : List ℕ) → are_atoms es ≡ true → bound_places place es last ≡ last
     atoms_first no_trees place last i = refl
     atoms_first (and_tree e es) place last i =
         rw (atom_simple e (and_left (is_atom e) (are_atoms es) i)) (atoms_first es (suc place) last (and_right (is_atom e) (are_atoms es) i))
-      where
-        atom_simple : (e : Tree) → is_atom e ≡ true → is_simple e ≡ true
-        atom_simple (operation site which es) i = absurd (cc)
-        atom_simple _ i = i
 
     read_done : (which : Primitive) (us : List Value) (u : Value) (s : State Closure) → primitive which us s.store ≡ gives u s.store → in_store (primitive which us) s ≡ gives u s
     read_done which us u s e = rw e refl

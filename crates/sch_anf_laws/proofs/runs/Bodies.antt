@@ -2,9 +2,9 @@
 use Rattle.std.proofs.Common.{◌≡◌, ℕ, zero, suc, ◌+◌, ◌-◌, ◌<◌, ◌≤◌, Bool, true, false, cond, List, [], ◌∷◌, ◌++◌, length, map, take, drop, Some, refl, ap, ◌∙◌, arith}
 use Rattle.std.specs.Prelude.{slice_get, nat_le}
 use Rattle.std.proofs.lemmas.Bool.{leb-true, leb-false}
-use Rattle.std.proofs.lemmas.List.{length-map}
+use Rattle.std.proofs.lemmas.List.{length-map, length-take-le}
 use Rattle.sch_word.proofs.facts.Booleans.{and_left, and_right}
-use Rattle.sch_word.proofs.facts.Lists.{left_length}
+use Rattle.sch_word.proofs.facts.Lists.{left_length, get_grown}
 use Rattle.sch_flat.specs.Tree.{Trees, Body, no_trees, and_tree, count}
 use Rattle.sch_flat.specs.Valid.{ascending}
 use Rattle.sch_anf_laws.specs.Normal.{forms_before, new_label, procedure_code, form_code, normal_bodies}
@@ -13,11 +13,6 @@ get_map : {A B : Type 0} (f : A → B) (xs : List A) (i : ℕ) (x : A) → slice
 get_map f [] i x e = absurd (cc)
 get_map f (y ∷ xs) zero x e = ap (λ o. o) (let m : y ≡ x = cc in ap (λ z. Some (f z)) m)
 get_map f (y ∷ xs) (suc i) x e = get_map f xs i x e
-
-pub get_left : {A : Type 0} (xs ys : List A) (i : ℕ) (x : A) → slice_get xs i ≡ Some x → slice_get (xs ++ ys) i ≡ Some x
-get_left [] ys i x e = absurd (cc)
-get_left (y ∷ xs) ys zero x e = e
-get_left (y ∷ xs) ys (suc i) x e = get_left xs ys i x e
 
 pub get_right : {A : Type 0} (xs ys : List A) (i j : ℕ) → i ≡ length xs + j → slice_get (xs ++ ys) i ≡ slice_get ys j
 get_right [] ys i j e = ap (λ i. slice_get ys i) (omega (arith, e))
@@ -35,11 +30,6 @@ get_drop xs zero i j e = ap (λ i. slice_get xs i) (omega (arith, e))
 get_drop [] (suc d) i j e = refl
 get_drop (x ∷ xs) (suc d) zero j e = absurd (omega (arith, e))
 get_drop (x ∷ xs) (suc d) (suc i) j e = get_drop xs d i j (omega (arith, e))
-
-take_all : {A : Type 0} (xs : List A) (d : ℕ) → d ≤ length xs → length (take d xs) ≡ d
-take_all xs zero l = refl
-take_all [] (suc d) l = absurd (omega (arith, l))
-take_all (x ∷ xs) (suc d) l = ap suc (take_all xs d (omega (arith, l)))
 
 -- the last of these is not more than the last number
 pub ascending_last : (from last : ℕ) (places : List ℕ) → ascending from last places ≡ true → from ≤ last
@@ -93,14 +83,14 @@ module _ (starts : List ℕ) where
           let m = leb-false p label t in
           let none = none_before p last label places rest (omega (arith, m)) in
           ap (λ j. slice_get (map (procedure_code starts) (take (p - before) bodies) ++ form_code starts f ∷ normal_bodies starts p (drop (p - before) bodies) forms places) j) (omega (arith, none))
-          ∙ get_left (map (procedure_code starts) (take (p - before) bodies)) _ i (procedure_code starts b)
+          ∙ get_grown (map (procedure_code starts) (take (p - before) bodies)) _ i (procedure_code starts b)
           (get_map (procedure_code starts) (take (p - before) bodies) i b (get_take bodies (p - before) i b (let n = from in omega (arith, m, l, n)) h))
       go more true t =
           let k = leb-true p label t in
           let m = from in
           let j : ℕ = i - (p - before) in
           let at : i ≡ (p - before) + j = omega (arith, k, m, l) in
-          let long = length-map (take (p - before) bodies) (procedure_code starts) ∙ take_all bodies (p - before) enough in
+          let long = length-map (take (p - before) bodies) (procedure_code starts) ∙ length-take-le (p - before) bodies enough in
           get_right (map (procedure_code starts) (take (p - before) bodies)) (form_code starts f ∷ normal_bodies starts p (drop (p - before) bodies) forms places)
           (i + (1 + forms_before places label)) (suc (j + forms_before places label)) (omega (arith, at, long))
           ∙ more j (omega (arith, k, m, l)) (get_drop bodies (p - before) i j at ∙ h)

@@ -13,6 +13,7 @@ use Rattle.sch_word.specs.runs.Orders.{is_permutation}
 use Rattle.sch_word.proofs.facts.Booleans.{and_left, and_right}
 use Rattle.sch_word.proofs.facts.NumberSets.{numbers_length}
 use Rattle.sch_word.proofs.facts.NumberTests.{below_differs}
+use Rattle.sch_word.proofs.facts.Lists.{length_none}
 use Rattle.sch_flat.specs.Tree.{Tree, Trees, constant, literal, variable, global, set_global, define, branch, sequence, bind, make_closure, fix_closures, call, operation, new_cells, cell_get, cell_set, no_trees, and_tree, count}
 use Rattle.sch_flat.specs.Valid.{is_known, is_content, is_made, cells_scope}
 use Rattle.sch_control.specs.Fits.{begins_with}
@@ -154,8 +155,4 @@ pub inits_order : (n : ℕ) (order : List ℕ) → FitsSite n (numbers 0 n) orde
 inits_order n order h =
     let found = begins (numbers 0 n) order (and_right (is_permutation n order) (begins_with (numbers 0 n) order) h) in
     let long = eqb-true (length order) n (and_left (nat_eq (length order) n) _ (and_left (is_permutation n order) (begins_with (numbers 0 n) order) h)) in
-    found.1 ∙ (ap (λ l. numbers 0 n ++ l) (none found.0 (omega (arith, long, ap length found.1, length-append (numbers 0 n) found.0, numbers_length 0 n))) ∙ append-nil (numbers 0 n))
-  where
-    none : (l : List ℕ) → length l ≡ 0 → l ≡ []
-    none [] e = refl
-    none (x ∷ l) e = absurd (omega (arith, e))
+    found.1 ∙ (ap (λ l. numbers 0 n ++ l) (length_none found.0 (omega (arith, long, ap length found.1, length-append (numbers 0 n) found.0, numbers_length 0 n))) ∙ append-nil (numbers 0 n))

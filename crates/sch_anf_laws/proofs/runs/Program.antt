@@ -1,5 +1,5 @@
 -- What normalizing makes of a valid program runs as the program does.
-use Rattle.std.proofs.Common.{◌≡◌, ℕ, zero, suc, ◌<◌, Bool, true, List, [], ◌∷◌, ◌++◌, length, map, Some, refl, sym, ap, ◌∙◌, subst, arith}
+use Rattle.std.proofs.Common.{◌≡◌, ℕ, zero, suc, Bool, true, List, [], ◌∷◌, ◌++◌, length, map, Some, refl, sym, ap, ◌∙◌, subst, arith}
 use Rattle.std.specs.Prelude.{slice_get, nat_eq, nat_lt, ◌&&◌}
 use Rattle.std.specs.List.{list_all}
 use Rattle.std.proofs.lemmas.Bool.{eqb-true, ltb-true}
@@ -14,6 +14,7 @@ use Rattle.sch_word.specs.trees.Shape.{names_known, well_formed, fits, is_width,
 use Rattle.sch_word.specs.trees.Shape as shapes
 use Rattle.sch_word.proofs.values.LiteralObjects.{literal_values_length}
 use Rattle.sch_word.proofs.facts.Booleans.{and_left, and_right}
+use Rattle.sch_word.proofs.facts.Lists.{each_at, get_there}
 use Rattle.sch_flat.specs.Tree.{Tree, Body, Source, count}
 use Rattle.sch_flat.specs.Measures.{over, over_each, over_bodies, over_source, sites_of}
 use Rattle.sch_flat.specs.Meaning.{Closure}
@@ -33,12 +34,7 @@ use Rattle.sch_anf_laws.proofs.runs.Sites.{widths, rows_found, ordered_at}
 use Rattle.sch_anf_laws.proofs.runs.Runs.{forms_same}
 
 literal_there : (ls : Literals) (k : ℕ) → nat_lt k (count_literals ls) ≡ true → (v : Value) × (slice_get (literal_values ls 0) k ≡ Some v)
-literal_there ls k h = go (literal_values ls 0) k (let m = ltb-true k (count_literals ls) h in omega (arith, m, literal_values_length ls 0))
-  where
-    go : (vs : List Value) (k : ℕ) → k < length vs → (v : Value) × (slice_get vs k ≡ Some v)
-    go [] k l = absurd (omega (arith, l))
-    go (v ∷ vs) zero l = (v, refl)
-    go (v ∷ vs) (suc k) l = go vs k (omega (arith, l))
+literal_there ls k h = get_there (literal_values ls 0) k (let m = ltb-true k (count_literals ls) h in omega (arith, m, literal_values_length ls 0))
 
 -- what stays in the runs of a program under a table
 abbrev setting : Source → List (List ℕ) → ℕ → Setting
@@ -76,11 +72,6 @@ module _ (p : Source) (closed : is_closed p ≡ true) (formed : is_formed p ≡ 
   at_body here [] label b h e = absurd (cc)
   at_body here (x ∷ bodies) zero b h e = let m : x ≡ b = cc in subst (λ (z : Body). over true (λ x y. x && y) here z.code ≡ true) m (and_left _ (over_bodies true (λ x y. x && y) here bodies) h)
   at_body here (x ∷ bodies) (suc label) b h e = at_body here bodies label b (and_right (over true (λ x y. x && y) here x.code) _ h) e
-
-  each_at : {A : Type 0} (f : A → Bool) (xs : List A) (i : ℕ) (x : A) → list_all f xs ≡ true → slice_get xs i ≡ Some x → f x ≡ true
-  each_at f [] i x h e = absurd (cc)
-  each_at f (y ∷ xs) zero x h e = let m : y ≡ x = cc in subst (λ z. f z ≡ true) m (and_left (f y) (list_all f xs) h)
-  each_at f (y ∷ xs) (suc i) x h e = each_at f xs i x (and_right (f y) (list_all f xs) h) e
 
   abbrev Width : ℕ × ℕ → Type 0
   Width at = is_width (slice_get p.sites at.0) at.1 ≡ true

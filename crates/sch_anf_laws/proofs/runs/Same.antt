@@ -18,7 +18,7 @@ use Rattle.sch_word.specs.values.PrimitiveRows.{primitive}
 use Rattle.sch_word.proofs.Lengths.{procedures_length}
 use Rattle.sch_word.proofs.Steady.{OutcomeGrows, steady_charge, steady_charge_each, steady_read_global, steady_write_global, steady_primitive}
 use Rattle.sch_word.proofs.facts.Booleans.{and_left, and_right}
-use Rattle.sch_word.proofs.facts.Lists.{get_seam}
+use Rattle.sch_word.proofs.facts.Lists.{get_seam, get_grown}
 use Rattle.sch_flat.specs.Tree.{Tree, Trees, Variable, bound, free, Made, NewCell, constant, literal, variable, global, set_global, define, branch, sequence, bind, make_closure, fix_closures, call, operation, new_cells, cell_get, cell_set, no_trees, and_tree, count}
 use Rattle.sch_flat.specs.Meaning as from
 use Rattle.sch_flat.specs.Meaning.{Closure, value_in, values_in, and_values, closure, closures, closures_bytes}
@@ -40,13 +40,13 @@ use Rattle.sch_control.specs.Sizes.{is_bare_atom}
 use Rattle.sch_control.specs.Meaning as to
 use Rattle.sch_control.specs.Meaning.{World, Result, Then, Callee, plain, no_region, marked, with_value, on_outcome, on_return, call_in, put, put_each, put_inside, mark_members}
 use Rattle.sch_control.proofs.PlainMarks.{members_unmarked, none_saved}
+use Rattle.sch_control.proofs.Environments.{put_same}
 use Rattle.sch_anf_laws.specs.Normal.{Scope, source_of, is_simple, simple_operand, operand_at, operands_at, part_binds, operands_bind, inits_bind, init_numbers, numbers_for, binds, unless_atom, ends_in_call, finished, called, bound_unless, normal, normal_parts, with_operands, with_inits, with_new_cells, cell_operation, closure_of, members_of, bound_places, operator_place}
 use Rattle.sch_anf_laws.specs.Normal as normal
-use Rattle.sch_anf_laws.proofs.runs.Bodies.{get_left}
 use Rattle.sch_anf_laws.proofs.runs.Orders.{Parts}
 use Rattle.sch_anf_laws.proofs.runs.Worlds.{Setting, Reached, Same, SameEnter, image, images, state_of, world_of, is_procedure_of, reached_self, reached_on, reached_store, same_after, same_action, same_call}
 use Rattle.sch_anf_laws.proofs.runs.Fine.{Fine, FineEach, simples, operands_rest, call_rest, inits_order}
-use Rattle.sch_anf_laws.proofs.runs.Agree.{Below, below_self, below_on, below_put, put_same, Held, filled_below, Agrees, agrees_below, agrees_push, agrees_with, push, source_given, simple_given, Filled, part_given, parts_given}
+use Rattle.sch_anf_laws.proofs.runs.Agree.{Below, below_self, below_on, below_put, Held, filled_below, Agrees, agrees_below, agrees_push, agrees_with, push, source_given, simple_given, Filled, part_given, parts_given, init_numbers_length, numbers_for_length}
 use Rattle.sch_anf_laws.proofs.DroppedAtoms.{dropped_as}
 
 found : {A : Type 0} (cs before more : List A) (c : A) (place : ℕ) → place ≡ length before → cs ≡ before ++ c ∷ more → slice_get cs place ≡ Some c
@@ -66,10 +66,6 @@ rest_after : {P V W : Type 0} (cells : List (Option Value)) (ps : List P) (o : O
 rest_after cells ps (gives v t) f = refl
 rest_after cells ps (stops why t) f = refl
 rest_after cells ps (spent t) f = refl
-
-one_more : {A : Type 0} (xs : List A) (y : A) (ys : List A) → (xs ++ y ∷ []) ++ ys ≡ xs ++ y ∷ ys
-one_more [] y ys = refl
-one_more (x ∷ xs) y ys = ap (λ l. x ∷ l) (one_more xs y ys)
 
 module _ (a : Setting) (start : State Closure) (fields : ℕ) (enter : from.Enter) (callee : Callee) (same_enter : SameEnter a enter callee) (depth : ℕ) where
   abbrev pub value : Tree → from.Environment → Bool → State Closure → Outcome (State Closure) Value
@@ -394,10 +390,6 @@ module _ (a : Setting) (start : State Closure) (fields : ℕ) (enter : from.Ente
 
   -- ## Bindings
 
-  init_numbers_length : (es : Trees) (n : ℕ) → length (init_numbers es n) ≡ count es
-  init_numbers_length no_trees n = refl
-  init_numbers_length (and_tree e es) n = ap suc (init_numbers_length es (suc n + binds e))
-
   bind_same : (es : Trees) → EachClaim es → (e : Tree) → Claim e → (site first : ℕ) → Claim (bind site first es e)
   bind_same es claims e claim site first tail names scope n h environment saved s marks k next fine w r g =
       same_after a start (all_values (a.orders site) (values es h) s) (λ vs. value e (and_values first vs h) tail) k _
@@ -431,7 +423,7 @@ module _ (a : Setting) (start : State Closure) (fields : ℕ) (enter : from.Ente
   reached_more : (s : State Closure) (cells : List (Option Value)) (t : Store) (cs : List Closure) → Reached a start s → t.constants ≡ a.constants → list_all (is_procedure_of a.bodies) cs ≡ true
       → Reached a start (record { cells = cells; store = t; procedures = s.procedures ++ cs })
   reached_more s cells t cs r e k = record {
-    kept = λ i c h. get_left s.procedures cs i c (r.kept i c h);
+    kept = λ i c h. get_grown s.procedures cs i c (r.kept i c h);
     constants = e;
     known = list_all-append (is_procedure_of a.bodies) s.procedures cs ∙ rw (r.known, k) refl;
   }
@@ -488,11 +480,6 @@ module _ (a : Setting) (start : State Closure) (fields : ℕ) (enter : from.Ente
   group_known (m ∷ ms) names h i =
       rw (made_procedure m names h (and_left (is_made a.bodies names fields m) (list_all (is_made a.bodies names fields) ms) i))
       (group_known ms names h (and_right (is_made a.bodies names fields m) (list_all (is_made a.bodies names fields) ms) i))
-
-  -- the variables of a group
-  numbers_for_length : {A : Type 0} (ms : List A) (n : ℕ) → length (numbers_for ms n) ≡ length ms
-  numbers_for_length [] n = refl
-  numbers_for_length (m ∷ ms) n = ap suc (numbers_for_length ms (suc n))
 
   put_each_below : (scope : Scope) (ms : List Made) (n : ℕ) (vs : List Value) (environment : to.Environment) → Below n environment (put_each environment (members_of a.starts scope ms n) vs)
   put_each_below scope [] n vs environment = below_self n environment
@@ -628,7 +615,7 @@ module _ (a : Setting) (start : State Closure) (fields : ℕ) (enter : from.Ente
       (agrees_below a start fields names scope n (suc n) h environment (put environment n (cell m)) (omega arith) (below_put n environment environment (cell m) (below_self n environment)) w)
       (reached_store a start s s.cells t r c')
       (λ t after marks c' b held. same_by _ _ _ (ap (λ d. result body after saved (record { state = state_with (s.cells ++ d) t s; marks = marks }) next)
-      (one_more added (from.content h c.content) (from.contents h cs)))
+      (append_assoc added (from.content h c.content ∷ []) (from.contents h cs)))
       (follows t after marks c' (below_on n (suc n) environment (put environment n (cell m)) after (omega arith) (below_put n environment environment (cell m) (below_self n environment)) b)
       (omega (arith, l), b.at n (omega arith) ∙ put_same environment n (cell m), held))))))))
     where

@@ -4,6 +4,7 @@ use Rattle.std.specs.Prelude.{nat_lt, nat_le, ◌&&◌}
 use Rattle.std.specs.List.{list_all}
 use Rattle.std.proofs.lemmas.Bool.{le-leb, lt-ltb}
 use Rattle.sch_word.specs.trees.Bindings.{numbers}
+use Rattle.sch_word.proofs.facts.NumberSets.{numbers_joined}
 use Rattle.sch_flat.specs.Tree as flat
 use Rattle.sch_flat.specs.Tree.{Tree, Trees, Made, NewCell, constant, literal, variable, global, set_global, define, branch, sequence, bind, make_closure, fix_closures, call, operation, new_cells, cell_get, cell_set, no_trees, and_tree, count}
 use Rattle.sch_flat.specs.Measures.{one_unless_simple, variables, variables_each, variables_operands, variables_parts}
@@ -18,18 +19,13 @@ use Rattle.sch_anf_laws.proofs.DroppedAtoms.{dropped_as, of_atom}
 renumber : (n n' m m' : ℕ) → n ≡ n' → m ≡ m' → numbers n m ≡ numbers n' m'
 renumber n n' m m' p q = rw (p, q) refl
 
-split : (n a b : ℕ) → numbers n (a + b) ≡ numbers n a ++ numbers (n + a) b
-split n zero b = renumber n (n + 0) (0 + b) b (omega arith) (omega arith)
-split n (suc a) b =
-    renumber n n (suc a + b) (suc (a + b)) refl (omega arith) ∙ ap (λ l. n ∷ l) (split (suc n) a b ∙ ap (λ l. numbers (suc n) a ++ l) (renumber (suc n + a) (n + suc a) b b (omega arith) refl))
-
 no_numbers : (n m : ℕ) → [] ≡ numbers n m → m ≡ 0
 no_numbers n zero h = refl
 no_numbers n (suc m) h = absurd (cc)
 
 -- two rows that follow each other
 joined : (n a b c : ℕ) (xs ys : List ℕ) → xs ≡ numbers n a → ys ≡ numbers (n + a) b → c ≡ a + b → xs ++ ys ≡ numbers n c
-joined n a b c xs ys p q e = ap (λ l. l ++ ys) p ∙ (ap (λ l. numbers n a ++ l) q ∙ (sym (split n a b) ∙ ap (λ c. numbers n c) (sym e)))
+joined n a b c xs ys p q e = ap (λ l. l ++ ys) p ∙ (ap (λ l. numbers n a ++ l) q ∙ (numbers_joined n a b ∙ ap (λ c. numbers n c) (sym e)))
 
 module _ (starts : List ℕ) where
   finished_bound : (tail : Bool) (o : _) → bound_in (finished tail (tree.perform o)) ≡ []

@@ -4,6 +4,7 @@ use Rattle.std.specs.Prelude.{slice_get, ◌&&◌}
 use Rattle.std.proofs.lemmas.Bool.{eq-eqb}
 use Rattle.std.proofs.lemmas.List.{append-nil}
 use Rattle.std.proofs.lemmas.List.Folds.{list_all-append}
+use Rattle.std.proofs.Math.Nat.{zero-add}
 use Rattle.sch_word.specs.declared.constant.Const.TheVariants.{Unspecified}
 use Rattle.sch_word.specs.trees.Bindings.{numbers, with_variables}
 use Rattle.sch_word.specs.runs.Orders.{order_at}
@@ -23,6 +24,7 @@ use Rattle.sch_control.specs.Tree.{Expression}
 use Rattle.sch_control.specs.Valid.{only_reads}
 use Rattle.sch_anf_laws.specs.Normal.{Scope, init_numbers, source_of, is_atom, are_atoms, is_simple, atoms_of, simple_operand, operand_at, operands_at, operand_binds, unless_atom, ends_in_call, binds, operands_bind, inits_bind, finished, called, bound_unless, normal, normal_parts, with_operands, with_inits, with_new_cells, cell_operation, bound_places, operator_place, bound_rows, bound_rows_each, bound_rows_bodies, procedure_code}
 use Rattle.sch_anf_laws.proofs.runs.Ready.{Every, every_left, every_right}
+use Rattle.sch_anf_laws.proofs.runs.Agree.{atom_simple}
 
 -- ## One after the other
 
@@ -102,15 +104,8 @@ operator_is scope f n operands = by (is_simple f) refl
     by true s = tt
     by false s = (ap Some (bound_operand scope f n s), tt)
 
-behind_none : (i : ℕ) → 0 + i ≡ i
-behind_none i = omega arith
-
 behind_first : (i : ℕ) → 1 + i ≡ suc i
 behind_first i = omega arith
-
-atom_simple : (e : Tree) → is_atom e ≡ true → is_simple e ≡ true
-atom_simple (operation site which es) h = absurd (cc)
-atom_simple e h = h
 
 atoms_bound : (es : Trees) (place : ℕ) → are_atoms es ≡ true → bound_places place es [] ≡ []
 atoms_bound no_trees place h = refl
@@ -232,7 +227,7 @@ module _ (bound : List (List ℕ)) where
           let xs = part_variables es n in
           let there = before ++ xs in
           let parts = operands_at scope es n in
-          let are = operands_are parts es scope n 0 [] [] (λ i. ap (slice_get parts) (behind_none i)) tt in
+          let are = operands_are parts es scope n 0 [] [] (λ i. ap (slice_get parts) (zero-add i)) tt in
           let turned : in_turn parts (bound_places 0 es []) (before ++ (xs ++ [])) ≡ true =
           behind parts (bound_places 0 es []) (xs ++ []) before (are_in_turn parts (bound_places 0 es []) (xs ++ []) are) in
           let here : in_turn parts (order_at bound site) there ≡ true =

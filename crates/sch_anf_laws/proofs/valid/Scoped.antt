@@ -1,5 +1,5 @@
 -- Each variable that a normal form reads is bound there.
-use Rattle.std.proofs.Common.{◌≡◌, ℕ, zero, suc, ◌+◌, Bool, true, false, cond, List, [], ◌∷◌, ◌++◌, length, map, Option, Some, None, refl, ap, arith}
+use Rattle.std.proofs.Common.{◌≡◌, ℕ, zero, suc, ◌+◌, Bool, true, false, cond, List, [], ◌∷◌, ◌++◌, length, map, Option, Some, None, refl, arith}
 use Rattle.std.specs.Prelude.{slice_get, nat_eq, nat_lt, ◌&&◌, ◌||◌}
 use Rattle.std.specs.List.{list_all}
 use Rattle.std.proofs.lemmas.Bool.{eq-eqb}
@@ -23,6 +23,7 @@ use Rattle.sch_control.specs.Valid.{with_variable, with_members, in_scope_atom, 
 use Rattle.sch_anf_laws.specs.Normal.{Scope, number_of, source_of, is_atom, are_atoms, is_simple, atom_of, atoms_of, simple_operand, operand_at, operands_at, operand_binds, unless_atom, ends_in_call, part_binds, binds, operands_bind, inits_bind, init_numbers, numbers_for, finished, called, bound_unless, normal, normal_parts, with_operands, with_inits, with_new_cells, cell_operation, members_of}
 use Rattle.sch_anf_laws.specs.Normal as normal
 use Rattle.sch_anf_laws.proofs.DroppedAtoms.{dropped_as}
+use Rattle.sch_anf_laws.proofs.runs.Agree.{init_numbers_length, numbers_for_length}
 
 -- one set of variables is in another
 record Wider (inner outer : ℕ → Bool) : Type 0 where
@@ -154,14 +155,6 @@ module _ (starts : List ℕ) (bodies : List Body) (fields : ℕ) where
   members_held scope [] n s = tt
   members_held scope (m ∷ ms) n s = ((members_wider scope ms (suc n) (with_variable n s)).at n (with_here n s), members_held scope ms (suc n) (with_variable n s))
 
-  for_length : {A : Type 0} (xs : List A) (n : ℕ) → length (numbers_for xs n) ≡ length xs
-  for_length [] n = refl
-  for_length (x ∷ xs) n = ap suc (for_length xs (suc n))
-
-  init_length : (es : Trees) (n : ℕ) → length (init_numbers es n) ≡ count es
-  init_length no_trees n = refl
-  init_length (and_tree e es) n = ap suc (init_length es (suc n + binds e))
-
   content_scoped : (o : Option Variable) (names : List ℕ) (scope : Scope) (s : ℕ → Bool) → is_content names fields o ≡ true → Inside names scope s
       → in_scope_atoms s (operation_atoms (cell_operation scope o)) ≡ true
   content_scoped None names scope s i h = refl
@@ -219,7 +212,7 @@ module _ (starts : List ℕ) (bodies : List Body) (fields : ℕ) where
         (and_left (scoped_each bodies es names fields) (all_new (numbers first (count es)) names && scoped bodies e (scope_with first (count es) names) fields) f) h
         (λ t w k. in_scope_all e tail (scope_with first (count es) names) (with_variables first (init_numbers es n) scope) (n + inits_bind es) t
         (and_right (all_new (numbers first (count es)) names) (scoped bodies e (scope_with first (count es) names) fields) f')
-        (inside_with names scope t first (count es) (init_numbers es n) (init_length es n) k (inside_wider names scope s t w h)))
+        (inside_with names scope t first (count es) (init_numbers es n) (init_numbers_length es n) k (inside_wider names scope s t w h)))
     in_scope_all (make_closure m) tail names scope n s f h =
         finished_scoped tail _ s (sources_scoped names scope s h m.fields (and_left (list_all (is_known names fields) m.fields) (has_fields (slice_get bodies m.label) (length m.fields)) f))
     in_scope_all (fix_closures first ms e) tail names scope n s f h =
@@ -227,7 +220,7 @@ module _ (starts : List ℕ) (bodies : List Body) (fields : ℕ) where
         let inside : Scope = with_variables first (numbers_for ms n) scope in
         let t : ℕ → Bool = with_members (members_of starts inside ms n) s in
         let f' = and_right (all_new (numbers first (length ms)) names) (list_all (is_made bodies inner fields) ms && scoped bodies e inner fields) f in
-        let k : Inside inner inside t = inside_with names scope t first (length ms) (numbers_for ms n) (for_length ms n) (members_held inside ms n s)
+        let k : Inside inner inside t = inside_with names scope t first (length ms) (numbers_for ms n) (numbers_for_length ms n) (members_held inside ms n s)
         (inside_wider names scope s t (members_wider inside ms n s) h) in
         rw (members_scoped inner inside t k ms n (and_left (list_all (is_made bodies inner fields) ms) (scoped bodies e inner fields) f'))
         (in_scope_all e tail inner inside (n + length ms) t (and_right (list_all (is_made bodies inner fields) ms) (scoped bodies e inner fields) f') k)

@@ -22,6 +22,7 @@ use Rattle.sch_word.specs.trees.Shape.{Shape}
 use Rattle.sch_word.proofs.facts.Booleans.{and_left, and_right}
 use Rattle.sch_flat.specs.Measures.{over, over_each}
 use Rattle.sch_anf_laws.proofs.DroppedAtoms.{dropped_as, of_atom}
+use Rattle.sch_anf_laws.proofs.runs.Agree.{operands_length}
 
 -- the site of a call or a primitive, with its width
 abbrev pub call_row_of : Shape → List (ℕ × ℕ)
@@ -87,10 +88,6 @@ module _ (starts : List ℕ) (f : ℕ × ℕ → ℕ) where
       let here = operand_kept (is_simple e) scope e n refl in
       let more = operands_kept scope es (n + operand_binds e) in
       omega (arith, here, more, both (operand_sites (operand_at scope e n)) (operands_sites (operands_at scope es (n + operand_binds e))), both (sites_in e) (sites_in_each es))
-
-  operands_length : (scope : Scope) (es : Trees) (n : ℕ) → length (operands_at scope es n) ≡ count es
-  operands_length scope no_trees n = refl
-  operands_length scope (and_tree e es) n = ap suc (operands_length scope es (n + operand_binds e))
 
   finished_sites : (tail : Bool) (o : Operation ℕ) → made (finished tail (tree.perform o)) ≡ total (operation_sites o)
   finished_sites true o = refl

@@ -11,7 +11,8 @@ use Rattle.sch_flat.specs.Tree.{Tree, Body}
 use Rattle.sch_flat.specs.Measures.{variables, body_variables}
 use Rattle.sch_flat.specs.Valid.{scoped, body_scoped, body_fits}
 use Rattle.sch_control.specs.Tree.{Code, Expression}
-use Rattle.sch_control.specs.Valid.{Tests, each_part, in_scope_whole, numbered, ended, shaped_whole, fields_known, first_scope, first_bound, bound_in, without_repeats, max_body_variables, procedure_end, value, operation_shaped, application_shaped, group_shaped, operation_field, group_fields, Names, operation_known, application_known, group_known, code_known, entry_shaped, positioned, is_bare}
+use Rattle.sch_word.specs.trees.NumberSets.{without_repeats}
+use Rattle.sch_control.specs.Valid.{Tests, each_part, in_scope_whole, numbered, ended, shaped_whole, fields_known, first_scope, first_bound, bound_in, max_body_variables, procedure_end, value, operation_shaped, application_shaped, group_shaped, operation_field, group_fields, Names, operation_known, application_known, group_known, code_known, entry_shaped, positioned, is_bare}
 use Rattle.sch_control.proofs.NumberLists.{once_from}
 use Rattle.sch_anf_laws.specs.Normal.{new_label, binds, normal, procedure_code, form_code}
 use Rattle.sch_anf_laws.proofs.valid.Numbered.{bound, few, within_numbers}

@@ -5,13 +5,14 @@ use Rattle.std.specs.List.{list_all, sum_by, count_by}
 use Rattle.std.proofs.lemmas.Bool.{eq-eqb, eqb-true, lt-ltb}
 use Rattle.std.proofs.lemmas.List.{length-map}
 use Rattle.std.proofs.lemmas.List.Sums.{sum_by-append, sum_by-cons}
-use Rattle.sch_word.specs.trees.NumberSets.{has}
+use Rattle.sch_word.specs.trees.NumberSets.{has, without_repeats}
 use Rattle.sch_word.specs.trees.Bindings.{Bindings, bound_to, this_or, numbers}
 use Rattle.sch_word.specs.runs.Orders.{order_or_none}
 use Rattle.sch_word.specs.runs.Runs.{statics_valid, statics_in_range}
 use Rattle.sch_word.specs.trees.Shape as shapes
-use Rattle.sch_word.specs.trees.Shape.{names_known, constant_in_range, well_formed, fits, is_width, max_variables, max_free_variables}
+use Rattle.sch_word.specs.trees.Shape.{names_known, constant_in_range, well_formed, fits, is_width, max_operands, max_variables, max_free_variables}
 use Rattle.sch_word.proofs.facts.Booleans.{and_left, and_right, and_of}
+use Rattle.sch_word.proofs.facts.Lists.{each_at}
 use Rattle.sch_flat.specs.Tree.{Tree, Trees, Body, Source, constant, literal, variable, global, set_global, define, branch, sequence, bind, make_closure, fix_closures, call, operation, new_cells, cell_get, cell_set, no_trees, and_tree, count}
 use Rattle.sch_flat.specs.Measures.{over, over_each, over_bodies, over_source, sites_of, variables}
 use Rattle.sch_flat.specs.Valid.{has_fields, body_scoped, scoped, scoped_each, is_closed, is_formed, in_order, sited, ascending, body_fits, forms_fit, statics_known, constants_in_range}
@@ -20,7 +21,7 @@ use Rattle.sch_control.specs.Tree.{Code}
 use Rattle.sch_control.specs.BoundParts as control_parts
 use Rattle.sch_control.specs.BoundParts.{parts_in_turn}
 use Rattle.sch_control.specs.Valid as to
-use Rattle.sch_control.specs.Valid.{Names, entries_of, names_of, sites_of_each, enters, without_fields, without_repeats, code_known}
+use Rattle.sch_control.specs.Valid.{Names, entries_of, names_of, sites_of_each, enters, without_fields, code_known}
 use Rattle.sch_control.proofs.NumberLists.{below_from, once_from}
 use Rattle.sch_anf_laws.specs.Normal as normal
 use Rattle.sch_anf_laws.specs.Normal.{is_simple, new_label, procedure_code, form_code, normal_bodies, normal_source, bound_places, operator_place, bound_rows, bound_rows_each, bound_rows_bodies, bound_rows_source}
@@ -75,11 +76,6 @@ entry_found : (cs : List Code) (i : ℕ) (x : Code) → slice_get cs i ≡ Some 
 entry_found [] i x e = absurd (cc)
 entry_found (y ∷ cs) zero x e = let m : y ≡ x = cc in ap (λ (z : Code). Some z.entry) m
 entry_found (y ∷ cs) (suc i) x e = entry_found cs i x e
-
-each_at : {A : Type 0} (f : A → Bool) (xs : List A) (i : ℕ) (x : A) → list_all f xs ≡ true → slice_get xs i ≡ Some x → f x ≡ true
-each_at f [] i x h e = absurd (cc)
-each_at f (y ∷ xs) zero x h e = let m : y ≡ x = cc in subst (λ z. f z ≡ true) m (and_left (f y) (list_all f xs) h)
-each_at f (y ∷ xs) (suc i) x h e = each_at f xs i x (and_right (f y) (list_all f xs) h) e
 
 -- ## Sites of all bodies
 
@@ -311,7 +307,7 @@ module _ (p : Source) (closed : is_closed p ≡ true) (formed : is_formed p ≡ 
   pub few_fields : (label : ℕ) (b : Body) → slice_get p.bodies label ≡ Some b → nat_le b.fields max_free_variables ≡ true
   few_fields label b e =
       let f = each_at body_fits p.bodies label b few e in
-      and_left (nat_le b.fields max_free_variables) _ (and_right (nat_le b.formals 200) _ (and_right (not b.rest || nat_le 1 b.formals) _ f))
+      and_left (nat_le b.fields max_free_variables) _ (and_right (nat_le b.formals max_operands) _ (and_right (not b.rest || nat_le 1 b.formals) _ f))
 
   stands : (label : ℕ) (b : Body) → slice_get p.bodies label ≡ Some b → slice_get codes (new_label p.starts label) ≡ Some (procedure_code p.starts b)
   stands label b e = stands_at p.starts p.forms p.bodies (eqb-true (length p.starts) (count p.forms)

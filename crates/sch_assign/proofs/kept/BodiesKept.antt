@@ -10,7 +10,9 @@ use Rattle.sch_word.specs.trees.Bindings.{Bindings, bound_to, with_variables, sc
 use Rattle.sch_cells.specs.declared.tree.NewCell.{NewCell}
 use Rattle.sch_cells.specs.Tree.{Tree, Trees, Lambdas, Source, constant, literal, variable, global, set_variable, set_global, define, branch, sequence, bind, fix, letrec, lambda, call, operation, new_cells, cell_get, cell_set, no_trees, and_tree, no_lambdas, and_lambda, count, count_lambdas}
 use Rattle.sch_cells.specs.Variables.{assigns, assigns_each, assigns_lambdas}
-use Rattle.sch_cells.specs.Bodies.{once_or_not, counts_nothing, one_unless, unassigned, all_same, twice_if, bound_count, three_each, with_cells, variables, variables_each, variables_operands, variables_parts, procedure, procedures, bodies, bodies_each, bodies_lambdas, bodies_forms, bodies_of}
+use Rattle.sch_word.specs.values.Options.{or_false}
+use Rattle.sch_word.specs.trees.VariableCounts.{one_unless, twice_if, three_each}
+use Rattle.sch_cells.specs.Bodies.{counts_nothing, unassigned, all_same, bound_count, with_cells, variables, variables_each, variables_operands, variables_parts, procedure, procedures, bodies, bodies_each, bodies_lambdas, bodies_forms, bodies_of}
 use Rattle.sch_assign.specs.Converted.{and_cell, cells_for, empty_cells, filling, reading, wrapped, converted, converted_each, converted_lambdas, converted_source, Agree, AllAre, Low, Right, RightEach, RightLambdas}
 use Rattle.sch_assign.proofs.Lookups.{Apart, Where, inside, outside, where_is, inside_variables, outside_variables, agree_next}
 use Rattle.sch_assign.proofs.kept.FreeMoved.{AllLow, low_with, count_same, count_lambdas_same, lambda_free}
@@ -115,8 +117,8 @@ module _ (has_cell : ℕ → Bool) (n : ℕ) where
 
   -- a variable without a cell counts as before, and one that gets a cell did not count once
   record Counts (once once' : Bindings Bool) : Type 0 where
-    plain : (y : ℕ) → y < n → has_cell y ≡ false → once_or_not (bound_to y once') ≡ once_or_not (bound_to y once)
-    celled : (y : ℕ) → y < n → has_cell y ≡ true → once_or_not (bound_to y once) ≡ false
+    plain : (y : ℕ) → y < n → has_cell y ≡ false → or_false (bound_to y once') ≡ or_false (bound_to y once)
+    celled : (y : ℕ) → y < n → has_cell y ≡ true → or_false (bound_to y once) ≡ false
 
   counts_group : (x m : ℕ) (e : Tree) (once once' : Bindings Bool) → Agree has_cell n x m e → Counts once once' →
       Counts (with_variables x (unassigned x m e) once) (with_cells (cells_for has_cell n x m) (with_variables x (all_same m true) once'))
@@ -131,17 +133,17 @@ module _ (has_cell : ℕ → Bool) (n : ℕ) where
       source : (i : ℕ) → i < m → bound_to (x + i) (with_variables x (unassigned x m e) once) ≡ Some (not (assigns e (x + i)))
       source i l = inside_variables x i (unassigned x m e) once (let k = unassigned_length x m e in omega (arith, l, k)) ∙ unassigned_get x m i e l
 
-      go : (y : ℕ) → y < n → has_cell y ≡ false → Where x m y → once_or_not (bound_to y (with_cells (cells_for has_cell n x m) (with_variables x (all_same m true) once'))) ≡ once_or_not (bound_to y (with_variables x (unassigned x m e) once))
+      go : (y : ℕ) → y < n → has_cell y ≡ false → Where x m y → or_false (bound_to y (with_cells (cells_for has_cell n x m) (with_variables x (all_same m true) once'))) ≡ or_false (bound_to y (with_variables x (unassigned x m e) once))
       go y l a (inside i k q) =
           let a' : has_cell (x + i) ≡ false = rw q at a in
           let s : assigns e (x + i) ≡ false = sym (agree.at i k) ∙ a' in
           rw (cells_high x m y (with_variables x (all_same m true) once') l, q, source i k, s)
-          (ap once_or_not (inside_variables x i (all_same m true) once' (let j = all_same_length m true in omega (arith, k, j)) ∙ all_same_get m i true k))
+          (ap or_false (inside_variables x i (all_same m true) once' (let j = all_same_length m true in omega (arith, k, j)) ∙ all_same_get m i true k))
       go y l a (outside p) =
           rw (cells_high x m y (with_variables x (all_same m true) once') l, outside_variables x y (all_same m true) once' (after y p), outside_variables x y (unassigned x m e) once (before y p))
           (h.plain y l a)
 
-      gone : (y : ℕ) → y < n → has_cell y ≡ true → Where x m y → once_or_not (bound_to y (with_variables x (unassigned x m e) once)) ≡ false
+      gone : (y : ℕ) → y < n → has_cell y ≡ true → Where x m y → or_false (bound_to y (with_variables x (unassigned x m e) once)) ≡ false
       gone y l a (inside i k q) =
           let a' : has_cell (x + i) ≡ true = rw q at a in
           let s : assigns e (x + i) ≡ true = sym (agree.at i k) ∙ a' in
@@ -159,11 +161,11 @@ module _ (has_cell : ℕ → Bool) (n : ℕ) where
       found : (i : ℕ) (d : Bool) (o : Bindings Bool) → i < m → bound_to (x + i) (with_variables x (all_same m d) o) ≡ Some d
       found i d o l = inside_variables x i (all_same m d) o (let k = all_same_length m d in omega (arith, l, k)) ∙ all_same_get m i d l
 
-      go : (y : ℕ) → y < n → has_cell y ≡ false → Where x m y → once_or_not (bound_to y (with_variables x (all_same m c) once')) ≡ once_or_not (bound_to y (with_variables x (all_same m b) once))
+      go : (y : ℕ) → y < n → has_cell y ≡ false → Where x m y → or_false (bound_to y (with_variables x (all_same m c) once')) ≡ or_false (bound_to y (with_variables x (all_same m b) once))
       go y l a (inside i k q) = let a' : has_cell (x + i) ≡ false = rw q at a in rw (q, found i c once' k, found i b once k) (f i k a')
       go y l a (outside p) = rw (outside_variables x y (all_same m c) once' (apart_from y c p), outside_variables x y (all_same m b) once (apart_from y b p)) (h.plain y l a)
 
-      gone : (y : ℕ) → y < n → has_cell y ≡ true → Where x m y → once_or_not (bound_to y (with_variables x (all_same m b) once)) ≡ false
+      gone : (y : ℕ) → y < n → has_cell y ≡ true → Where x m y → or_false (bound_to y (with_variables x (all_same m b) once)) ≡ false
       gone y l a (inside i k q) = let a' : has_cell (x + i) ≡ true = rw q at a in rw (q, found i b once k) (g i k a')
       gone y l a (outside p) = rw (outside_variables x y (all_same m b) once (apart_from y b p)) (h.celled y l a)
 
@@ -174,11 +176,11 @@ module _ (has_cell : ℕ → Bool) (n : ℕ) where
       apart_from : (y : ℕ) → Apart x m y → Apart x (length (all_same m false)) y
       apart_from y p = record { at = λ i l. p.at i (let k = all_same_length m false in omega (arith, l, k)) }
 
-      go : (y : ℕ) → y < n → has_cell y ≡ false → Where x m y → once_or_not (bound_to y (with_cells (empty_cells n x m) once')) ≡ once_or_not (bound_to y (with_variables x (all_same m false) once))
+      go : (y : ℕ) → y < n → has_cell y ≡ false → Where x m y → or_false (bound_to y (with_cells (empty_cells n x m) once')) ≡ or_false (bound_to y (with_variables x (all_same m false) once))
       go y l a (inside i k q) = absurd (let a' : has_cell (x + i) ≡ false = rw q at a in let b : has_cell (x + i) ≡ true = all.at i k in cc)
       go y l a (outside p) = rw (empty_high x m y once' l, outside_variables x y (all_same m false) once (apart_from y p)) (h.plain y l a)
 
-      gone : (y : ℕ) → y < n → has_cell y ≡ true → Where x m y → once_or_not (bound_to y (with_variables x (all_same m false) once)) ≡ false
+      gone : (y : ℕ) → y < n → has_cell y ≡ true → Where x m y → or_false (bound_to y (with_variables x (all_same m false) once)) ≡ false
       gone y l a (inside i k q) = rw (q, inside_variables x i (all_same m false) once (let j = all_same_length m false in omega (arith, k, j)), all_same_get m i false k) refl
       gone y l a (outside p) = rw (outside_variables x y (all_same m false) once (apart_from y p)) (h.celled y l a)
 
@@ -186,13 +188,13 @@ module _ (has_cell : ℕ → Bool) (n : ℕ) where
   counts_under : (x m : ℕ) (once once' : Bindings Bool) → Counts (with_variables x (all_same m false) once) once' → ((i : ℕ) → i < m → has_cell (x + i) ≡ true) → Counts (with_variables x (all_same m false) once) (with_variables x (all_same m true) once')
   counts_under x m once once' h all = record { plain = λ y l a. go y l a (where_is x m y); celled = h.celled }
     where
-      go : (y : ℕ) → y < n → has_cell y ≡ false → Where x m y → once_or_not (bound_to y (with_variables x (all_same m true) once')) ≡ once_or_not (bound_to y (with_variables x (all_same m false) once))
+      go : (y : ℕ) → y < n → has_cell y ≡ false → Where x m y → or_false (bound_to y (with_variables x (all_same m true) once')) ≡ or_false (bound_to y (with_variables x (all_same m false) once))
       go y l a (inside i k q) = absurd (let a' : has_cell (x + i) ≡ false = rw q at a in let b : has_cell (x + i) ≡ true = all i k in cc)
       go y l a (outside p) = rw (outside_variables x y (all_same m true) once' (record { at = λ i l. p.at i (let k = all_same_length m true in omega (arith, l, k)) })) (h.plain y l a)
 
   -- ## The counts
 
-  reading_counts : (b : Bool) (x : ℕ) (once once' : Bindings Bool) → has_cell x ≡ b → x < n → Counts once once' → counts_nothing (reading n b x) once' ≡ once_or_not (bound_to x once)
+  reading_counts : (b : Bool) (x : ℕ) (once once' : Bindings Bool) → has_cell x ≡ b → x < n → Counts once once' → counts_nothing (reading n b x) once' ≡ or_false (bound_to x once)
   reading_counts true x once once' a l h = sym (h.celled x l a)
   reading_counts false x once once' a l h = h.plain x l a
 

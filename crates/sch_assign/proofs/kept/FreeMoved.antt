@@ -3,10 +3,10 @@
 use Rattle.std.proofs.Common.{◌≡◌, ℕ, zero, suc, ◌+◌, ◌<◌, Bool, true, false, List, [], ◌∷◌, length, map, refl, sym, ap, ◌∙◌, arith}
 use Rattle.std.specs.Prelude.{IsTrue, nat_eq, ◌||◌}
 use Rattle.std.proofs.lemmas.Bool.{eq-eqb}
-use Rattle.sch_word.specs.trees.NumberSets.{has, unless, union}
+use Rattle.sch_word.specs.trees.NumberSets.{has, unless, union, without_repeats}
 use Rattle.sch_word.specs.trees.Bindings.{numbers, scope_with, without}
 use Rattle.sch_cells.specs.Tree.{Tree, Trees, Lambdas, constant, literal, variable, global, set_variable, set_global, define, branch, sequence, bind, fix, letrec, lambda, call, operation, new_cells, cell_get, cell_set, no_trees, and_tree, no_lambdas, and_lambda, count, count_lambdas}
-use Rattle.sch_cells.specs.Variables.{without_each, cells_bound, cells_used, free, free_each, free_lambdas, distinct}
+use Rattle.sch_cells.specs.Variables.{without_each, cells_bound, cells_used, free, free_each, free_lambdas}
 use Rattle.sch_cells.specs.Clear.{In}
 use Rattle.sch_assign.specs.Converted.{cells_for, empty_cells, wrapped, reading, filling, converted, converted_each, converted_lambdas, Low, AllAre, Right, RightEach, RightLambdas}
 use Rattle.sch_assign.proofs.Lookups.{Where, inside, outside, where_is, in_outside, low_next, low_first, all_next, all_first, no_cells}
@@ -19,11 +19,11 @@ use Rattle.sch_word.proofs.facts.Booleans.{or_right}
 
 -- ## Each free variable once
 
-without_distinct : (x m : ℕ) (xs : List ℕ) → IsTrue (distinct xs) → IsTrue (distinct (without x m xs))
+without_distinct : (x m : ℕ) (xs : List ℕ) → IsTrue (without_repeats xs) → IsTrue (without_repeats (without x m xs))
 without_distinct x m xs h = rw (without_is x m xs) (distinct_drop (λ z. has z (numbers x m)) xs h)
 
 mutual
-  free_distinct : (e : Tree) → IsTrue (distinct (free e))
+  free_distinct : (e : Tree) → IsTrue (without_repeats (free e))
   free_distinct (constant c) = refl
   free_distinct (literal k) = refl
   free_distinct (variable x) = refl
@@ -44,7 +44,7 @@ mutual
   free_distinct (cell_get x) = refl
   free_distinct (cell_set x e) = distinct_union (x ∷ []) (free e) (free_distinct e)
 
-  each_distinct : (es : Trees) → IsTrue (distinct (free_each es))
+  each_distinct : (es : Trees) → IsTrue (without_repeats (free_each es))
   each_distinct no_trees = refl
   each_distinct (and_tree e es) = distinct_union (free e) (free_each es) (each_distinct es)
 
@@ -188,7 +188,7 @@ module _ (has_cell : ℕ → Bool) (n : ℕ) where
       (λ i l. let q : x + suc i ≡ suc x + i = omega arith in rw q at (f (suc i) (omega (arith, l))))
       (λ i l. let q : x + suc i ≡ suc x + i = omega arith in rw q at (g (suc i) (omega (arith, l))))
 
-  letrec_moved : (x m : ℕ) (fs gs : List ℕ) (e : Tree) → AllAre has_cell n true x m → Low n x m → Under fs n → Under gs n → IsTrue (distinct gs) → free e ≡ map (moved has_cell n) gs →
+  letrec_moved : (x m : ℕ) (fs gs : List ℕ) (e : Tree) → AllAre has_cell n true x m → Low n x m → Under fs n → Under gs n → IsTrue (without_repeats gs) → free e ≡ map (moved has_cell n) gs →
       union (cells_used (empty_cells n x m)) (without_each (cells_bound (empty_cells n x m)) (union (map (moved has_cell n) fs) (without x m (free_each (filling n x m e)))))
       ≡ map (moved has_cell n) (without x m (union fs gs))
   letrec_moved x m fs gs e all low uf ug d h =

@@ -1,6 +1,7 @@
 -- What is counted of a program and of what is made of it.
 use Rattle.std.proofs.Common.{◌≡◌, ℕ, ◌+◌, ◌≤◌, Bool, [], ◌++◌, refl, arith}
 use Rattle.std.proofs.lemmas.List.{append-nil}
+use Rattle.std.proofs.Math.Nat.{zero-add, add-zero}
 use Rattle.sch_word.specs.trees.Shape.{Shape, call_site_of, tests_in, dropped_in}
 use Rattle.sch_word.proofs.Shaped.{Equal, equal_joins, AtMost, at_most_joins}
 use Rattle.sch_cells.specs.Tree.{Source}
@@ -30,18 +31,12 @@ dropped_turn s t set = omega arith
 dropped_turn s t bound = omega arith
 dropped_turn s t (fewer l) = l
 
-plus_first : (a : ℕ) → 0 + a ≡ a
-plus_first a = omega arith
-
-plus_last : (a : ℕ) → a + 0 ≡ a
-plus_last a = omega arith
-
 module _ (has_cell : ℕ → Bool) (n : ℕ) (p : Source) (r : IsRight has_cell n p) where
   pub calls_kept : call_sites_of (converted_source has_cell n p) ≡ call_sites_of p
   calls_kept = shapes_kept has_cell n (equal_joins [] (λ a b. a ++ b)) (λ a. refl) append-nil call_site_of call_site_of call_turn (λ k. refl) refl refl (λ k. refl) p r
 
   pub tests_kept : tests_of (converted_source has_cell n p) ≡ tests_of p
-  tests_kept = shapes_kept has_cell n (equal_joins 0 (λ a b. a + b)) plus_first plus_last tests_in tests_in test_turn (λ k. refl) refl refl (λ k. refl) p r
+  tests_kept = shapes_kept has_cell n (equal_joins 0 (λ a b. a + b)) zero-add add-zero tests_in tests_in test_turn (λ k. refl) refl refl (λ k. refl) p r
 
   pub dropped_kept : dropped_of (converted_source has_cell n p) ≤ dropped_of p
-  dropped_kept = shapes_kept has_cell n at_most_joins plus_first plus_last dropped_in dropped_in dropped_turn (λ k. refl) refl refl (λ k. refl) p r
+  dropped_kept = shapes_kept has_cell n at_most_joins zero-add add-zero dropped_in dropped_in dropped_turn (λ k. refl) refl refl (λ k. refl) p r

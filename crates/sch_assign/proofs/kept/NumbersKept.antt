@@ -3,12 +3,12 @@ use Rattle.std.proofs.Common.{◌≡◌, ℕ, zero, suc, ◌+◌, ◌-◌, ◌<�
 use Rattle.std.specs.Prelude.{IsTrue, ◌||◌, not, nat_eq, nat_lt}
 use Rattle.std.proofs.lemmas.Bool.{eqb-true, eq-eqb, lt-ltb, ltb-true}
 use Rattle.sch_word.proofs.facts.Booleans.{not_true}
-use Rattle.sch_word.specs.trees.NumberSets.{has}
+use Rattle.sch_word.specs.trees.NumberSets.{has, without_repeats}
 use Rattle.sch_word.specs.trees.Bindings.{numbers, scope_with}
 use Rattle.sch_word.proofs.Shaped.{parts, both_true}
 use Rattle.sch_cells.specs.declared.tree.NewCell.{NewCell}
 use Rattle.sch_cells.specs.Tree.{Tree, Trees, Lambdas, Source, constant, literal, variable, global, set_variable, set_global, define, branch, sequence, bind, fix, letrec, lambda, call, operation, new_cells, cell_get, cell_set, no_trees, and_tree, no_lambdas, and_lambda, count, count_lambdas}
-use Rattle.sch_cells.specs.Variables.{cells_bound, bound, bound_each, bound_lambdas, distinct, below}
+use Rattle.sch_cells.specs.Variables.{cells_bound, bound, bound_each, bound_lambdas, below}
 use Rattle.sch_cells.specs.Valid.{bound_of}
 use Rattle.sch_cells.specs.Clear.{In}
 use Rattle.sch_assign.specs.Converted.{and_cell, cells_for, empty_cells, filling, reading, wrapped, converted, converted_each, converted_lambdas, converted_source, AllAre, Low, Right, RightEach, RightLambdas}
@@ -22,10 +22,10 @@ use Rattle.sch_word.proofs.facts.Occurrences.{has_times, one, one_alike, one_oth
 times_three : (z : ℕ) (xs ys zs : List ℕ) → times z (xs ++ (ys ++ zs)) ≡ times z xs + (times z ys + times z zs)
 times_three z xs ys zs = times_append z xs (ys ++ zs) ∙ ap (λ k. times z xs + k) (times_append z ys zs)
 
-distinct_times : (z : ℕ) (xs : List ℕ) → IsTrue (distinct xs) → times z xs ≤ 1
+distinct_times : (z : ℕ) (xs : List ℕ) → IsTrue (without_repeats xs) → times z xs ≤ 1
 distinct_times z [] d = omega arith
 distinct_times z (x ∷ xs) d =
-    let p = parts (not (has x xs)) (distinct xs) d in
+    let p = parts (not (has x xs)) (without_repeats xs) d in
     go (nat_eq x z) refl (not_true (has x xs) p.0) (distinct_times z xs p.1)
   where
     go : (b : Bool) → nat_eq x z ≡ b → has x xs ≡ false → times z xs ≤ 1 → times z (x ∷ xs) ≤ 1
@@ -36,7 +36,7 @@ distinct_times z (x ∷ xs) d =
         omega (arith, n, o, one_same z, times_cons z x xs)
     go false e h k = let o : one z x ≡ 0 = rw e refl in omega (arith, k, o, times_cons z x xs)
 
-times_distinct : (xs : List ℕ) → ((z : ℕ) → times z xs ≤ 1) → IsTrue (distinct xs)
+times_distinct : (xs : List ℕ) → ((z : ℕ) → times z xs ≤ 1) → IsTrue (without_repeats xs)
 times_distinct [] h = refl
 times_distinct (x ∷ xs) h = both_true (ap not (go (has x xs) refl)) (times_distinct xs (λ z. let k = h z in omega (arith, k, times_cons z x xs)))
   where
@@ -215,7 +215,7 @@ module _ (has_cell : ℕ → Bool) (n : ℕ) where
           apart_enough l = omega (arith, l)
 
   -- each number stands once
-  pub numbers_distinct : (p : Source) → IsRight has_cell n p → IsTrue (distinct (bound_of p)) → IsTrue (distinct (bound_of (converted_source has_cell n p)))
+  pub numbers_distinct : (p : Source) → IsRight has_cell n p → IsTrue (without_repeats (bound_of p)) → IsTrue (without_repeats (bound_of (converted_source has_cell n p)))
   numbers_distinct p r d =
       times_distinct (bound_of (converted_source has_cell n p)) (λ z. let f = origin z in let k = whole_once z f.o f.is p r in let l = distinct_times f.o (bound_of p) d in omega (arith, k, l))
 

@@ -11,7 +11,8 @@ use Rattle.sch_word.specs.trees.Shape.{Shape, Procedure, names_known, constant_i
 use Rattle.sch_word.proofs.Shaped.{Implies, implies_joins, Holds, holds_joins, Equal, equal_joins, parts, both_true}
 use Rattle.sch_cells.specs.declared.tree.NewCell.{NewCell}
 use Rattle.sch_cells.specs.Tree.{Tree, Trees, Lambdas, Source, constant, literal, variable, global, set_variable, set_global, define, branch, sequence, bind, fix, letrec, lambda, call, operation, new_cells, cell_get, cell_set, no_trees, and_tree, no_lambdas, and_lambda, count, count_lambdas}
-use Rattle.sch_cells.specs.Variables.{assigns, assigns_lambdas, closed_each, closed_lambdas, distinct, below}
+use Rattle.sch_word.specs.trees.NumberSets.{without_repeats}
+use Rattle.sch_cells.specs.Variables.{assigns, assigns_lambdas, closed_each, closed_lambdas, below}
 use Rattle.sch_cells.specs.Bodies.{variables, procedure, procedures}
 use Rattle.sch_cells.specs.Measures.{over, over_each, over_lambdas, shape, every, sites_of, levels_each, levels_lambdas}
 use Rattle.sch_cells.specs.Valid.{has_form, none_assigned, fix_unassigned, scoped, formed, constants_in_range, within_limits, forms_fit, sited, statics_known, bound_of}
@@ -30,9 +31,6 @@ use Rattle.sch_word.proofs.facts.Booleans.{and_true, neither}
 
 pub true_first : (b : Bool) → (true && b) ≡ b
 true_first b = refl
-
-append_nothing : {B : Type 0} (a : List B) → a ++ [] ≡ a
-append_nothing a = append-nil a
 
 -- ## Shapes
 
@@ -241,8 +239,8 @@ module _ (has_cell : ℕ → Bool) (n : ℕ) where
   module _ (p : Source) (r : IsRight has_cell n p) where
     pub scoped_kept : (n ≡ p.variables) → IsTrue (scoped p) → IsTrue (scoped (converted_source has_cell n p))
     scoped_kept e h =
-        let a = parts (distinct (bound_of p) && below p.variables (bound_of p)) (closed_lambdas p.library [] && closed_each p.forms []) h in
-        let d = parts (distinct (bound_of p)) (below p.variables (bound_of p)) a.0 in
+        let a = parts (without_repeats (bound_of p) && below p.variables (bound_of p)) (closed_lambdas p.library [] && closed_each p.forms []) h in
+        let d = parts (without_repeats (bound_of p)) (below p.variables (bound_of p)) a.0 in
         both_true (both_true (numbers_distinct has_cell n p r d.0) (numbers_below has_cell n p r (rw e d.1))) (program_closed has_cell n p r)
 
     pub formed_kept : IsTrue (formed false p) → IsTrue (formed true (converted_source has_cell n p))
@@ -278,7 +276,7 @@ module _ (has_cell : ℕ → Bool) (n : ℕ) where
         (both_true (lambdas_fit p.library [] r.library (nothing_low has_cell n) d.0 f.0) (each_fits p.forms [] r.forms (nothing_low has_cell n) f.1)))
 
     pub sites_kept : sites_of (converted_source has_cell n p) ≡ sites_of p
-    sites_kept = shapes_kept has_cell n (equal_joins [] (λ a b. a ++ b)) (λ a. refl) append_nothing site_of site_of site_turn (λ k. refl) refl refl (λ k. refl) p r
+    sites_kept = shapes_kept has_cell n (equal_joins [] (λ a b. a ++ b)) (λ a. refl) (λ a. append-nil a) site_of site_of site_turn (λ k. refl) refl refl (λ k. refl) p r
 
     pub sited_kept : IsTrue (sited p) → IsTrue (sited (converted_source has_cell n p))
     sited_kept h = subst (λ s. IsTrue (sites_once p.sites s)) (sym sites_kept) h

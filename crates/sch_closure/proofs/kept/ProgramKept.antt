@@ -3,6 +3,7 @@ use Rattle.std.proofs.Common.{◌≡◌, ℕ, suc, ◌+◌, Bool, true, false, L
 use Rattle.std.specs.Prelude.{nat_eq}
 use Rattle.std.specs.List.{count_by}
 use Rattle.std.proofs.lemmas.List.Sums.{sum_by-append}
+use Rattle.std.proofs.lemmas.List.{map-append}
 use Rattle.sch_word.specs.trees.Shape as shapes
 use Rattle.sch_word.specs.trees.Shape.{Shape, procedures_size}
 use Rattle.sch_cells.specs.Tree.{Tree, Trees, Lambdas, Source, constant, literal, variable, global, set_variable, set_global, define, branch, sequence, bind, fix, letrec, lambda, call, operation, new_cells, cell_get, cell_set, no_trees, and_tree, no_lambdas, and_lambda}
@@ -24,7 +25,7 @@ use Rattle.sch_closure.proofs.kept.FormedKept.{own, own_lambdas}
 use Rattle.sch_closure.proofs.Same.{made_length, none_within}
 use Rattle.sch_closure.proofs.Scopes.{free_within}
 use Rattle.sch_closure.proofs.kept.ScopedKept.{counts}
-use Rattle.sch_closure.proofs.kept.ValidKept.{sites_counted, map_both}
+use Rattle.sch_closure.proofs.kept.ValidKept.{sites_counted}
 use Rattle.sch_closure.proofs.kept.VariablesKept.{body_kept, form_kept}
 use Rattle.sch_word.proofs.facts.Lists.{map_length}
 
@@ -199,7 +200,7 @@ weight_node (cell_set x e) fs n f = omega arith
 -- ## Bodies
 
 lists : (xs ys : List flat.Body) (ps qs : List shapes.Procedure) → map procedure_of xs ≡ ps → map procedure_of ys ≡ qs → map procedure_of (xs ++ ys) ≡ ps ++ qs
-lists xs ys ps qs p q = map_both procedure_of xs ys ∙ ap (λ l. l ++ map procedure_of ys) p ∙ ap (λ l. ps ++ l) q
+lists xs ys ps qs p q = map-append procedure_of xs ys ∙ ap (λ l. l ++ map procedure_of ys) p ∙ ap (λ l. ps ++ l) q
 
 one : (name : List ℕ) (x m : ℕ) (rest : Bool) (e : Tree) (n : ℕ) (fs : List ℕ) → Fresh (lambda name x m rest e) fs → procedure_of (body_of name x m rest e n) ≡ bodies.procedure name x m rest e
 one name x m rest e n fs f = rw (body_kept name x m rest e n f.0 f.1) refl

@@ -4,12 +4,12 @@ use Rattle.std.proofs.Common.{◌≡◌, ℕ, zero, suc, ◌+◌, Bool, true, fa
 use Rattle.std.specs.Prelude.{IsTrue, nat_eq, not, ◌||◌, ◌&&◌, slice_get}
 use Rattle.std.specs.List.{list_all}
 use Rattle.std.proofs.lemmas.Bool.{eqb-true, lt-ltb}
-use Rattle.sch_word.specs.trees.NumberSets.{has, union}
+use Rattle.sch_word.specs.trees.NumberSets.{has, union, without_repeats}
 use Rattle.sch_word.specs.trees.Bindings.{numbers, without, remove, scope_with}
 use Rattle.sch_word.proofs.Shaped.{parts, both_true}
 use Rattle.sch_cells.specs.declared.tree.NewCell.{NewCell}
 use Rattle.sch_cells.specs.Tree.{Tree, Trees, Lambdas, constant, literal, variable, global, set_variable, set_global, define, branch, sequence, bind, fix, letrec, lambda, call, operation, new_cells, cell_get, cell_set, no_trees, and_tree, no_lambdas, and_lambda, count, count_lambdas}
-use Rattle.sch_cells.specs.Variables.{free, free_each, free_lambdas, bound, bound_each, bound_lambdas, cells_bound, cells_used, and_some, without_each, scope_of, distinct}
+use Rattle.sch_cells.specs.Variables.{free, free_each, free_lambdas, bound, bound_each, bound_lambdas, cells_bound, cells_used, and_some, without_each, scope_of}
 use Rattle.sch_cells.specs.Clear.{In, Apart, Clear, ClearEach, ClearLambdas}
 use Rattle.sch_cells.proofs.Clearing.{distinct_left, distinct_right}
 use Rattle.sch_flat.specs.Tree as flat
@@ -86,10 +86,10 @@ contents_known fs own (c ∷ cs) k = go (λ k. contents_known fs own cs k) c.con
 record New (xs own : List ℕ) : Type 0 where
   at : (y : ℕ) → In y xs → has y own ≡ false
 
-all_are_new : (xs own : List ℕ) → IsTrue (distinct xs) → New xs own → IsTrue (all_new xs own)
+all_are_new : (xs own : List ℕ) → IsTrue (without_repeats xs) → New xs own → IsTrue (all_new xs own)
 all_are_new [] own d n = refl
 all_are_new (x ∷ xs) own d n =
-    let p = parts (not (has x xs)) (distinct xs) d in
+    let p = parts (not (has x xs)) (without_repeats xs) d in
     both_true (is_not_true (has x own) (n.at x (in_here x xs))) (all_are_new xs (x ∷ own) p.1 (record { at = λ y i. go y i (nat_eq y x) refl (not_true (has x xs) p.0) }))
   where
     go : (y : ℕ) → In y xs → (b : Bool) → nat_eq y x ≡ b → has x xs ≡ false → (nat_eq y x || has y own) ≡ false
@@ -145,7 +145,7 @@ module _ (all : List flat.Body) where
       (lambdas_known ls fs own (suc n + procedures e) (known_right (fields_of x m e) (free_lambdas ls) k) t.1)
 
   mutual
-    scoped : (e : Tree) (fs own S : List ℕ) (n : ℕ) → Known fs own (free e) → Within own S → Clear e S → Fresh e fs → IsTrue (distinct (bound e)) → Stand all e n
+    scoped : (e : Tree) (fs own S : List ℕ) (n : ℕ) → Known fs own (free e) → Within own S → Clear e S → Fresh e fs → IsTrue (without_repeats (bound e)) → Stand all e n
         → IsTrue (valid.scoped all (closed e fs n) own (length fs))
     scoped (constant c) fs own S n k w c' f d t = refl
     scoped (literal i) fs own S n k w c' f d t = refl
@@ -195,21 +195,21 @@ module _ (all : List flat.Body) where
     scoped (cell_set x e) fs own S n k w c' f d t =
         both_true (is_one_known fs own (x ∷ []) x (known_left (x ∷ []) (free e) k) (in_here x [])) (scoped e fs own S n (known_right (x ∷ []) (free e) k) w c'.1 f d t)
 
-    each_scoped : (es : Trees) (fs own S : List ℕ) (n : ℕ) → Known fs own (free_each es) → Within own S → ClearEach es S → FreshEach es fs → IsTrue (distinct (bound_each es)) → StandEach all es n
+    each_scoped : (es : Trees) (fs own S : List ℕ) (n : ℕ) → Known fs own (free_each es) → Within own S → ClearEach es S → FreshEach es fs → IsTrue (without_repeats (bound_each es)) → StandEach all es n
         → IsTrue (valid.scoped_each all (closed_each es fs n) own (length fs))
     each_scoped no_trees fs own S n k w c' f d t = refl
     each_scoped (and_tree e es) fs own S n k w c' f d t =
         both_true (scoped e fs own S n (known_left (free e) (free_each es) k) w c'.0 f.0 (distinct_left (bound e) (bound_each es) d) t.0)
         (each_scoped es fs own S (n + procedures e) (known_right (free e) (free_each es) k) w c'.1 f.1 (distinct_right (bound e) (bound_each es) d) t.1)
 
-  body_known : (name : List ℕ) (x m : ℕ) (rest : Bool) (e : Tree) (S : List ℕ) (n : ℕ) → Clear e (scope_with x m S) → Fresh e (fields_of x m e) → IsTrue (distinct (bound e)) → Stand all e (suc n)
+  body_known : (name : List ℕ) (x m : ℕ) (rest : Bool) (e : Tree) (S : List ℕ) (n : ℕ) → Clear e (scope_with x m S) → Fresh e (fields_of x m e) → IsTrue (without_repeats (bound e)) → Stand all e (suc n)
       → IsTrue (body_scoped all (body_of name x m rest e n))
   body_known name x m rest e S n c' f d t =
       scoped e (fields_of x m e) (scope_with x m []) (scope_with x m S) (suc n) (known_with x m (free e) (record { at = λ y i h. absurd (let j : has y (fields_of x m e) ≡ true = i in cc) }))
       (within_with x m [] S (λ y i. absurd (cc))) c' f d t
 
   mutual
-    bodies_known : (e : Tree) (fs S : List ℕ) (n : ℕ) → Clear e S → Fresh e fs → IsTrue (distinct (bound e)) → Stand all e n → IsTrue (list_all (body_scoped all) (all_procedures body_of e n))
+    bodies_known : (e : Tree) (fs S : List ℕ) (n : ℕ) → Clear e S → Fresh e fs → IsTrue (without_repeats (bound e)) → Stand all e n → IsTrue (list_all (body_scoped all) (all_procedures body_of e n))
     bodies_known (constant c) fs S n c' f d t = refl
     bodies_known (literal i) fs S n c' f d t = refl
     bodies_known (variable x) fs S n c' f d t = refl
@@ -243,14 +243,14 @@ module _ (all : List flat.Body) where
     bodies_known (cell_get x) fs S n c' f d t = refl
     bodies_known (cell_set x e) fs S n c' f d t = bodies_known e fs S n c'.1 f d t
 
-    pub each_bodies_known : (es : Trees) (fs S : List ℕ) (n : ℕ) → ClearEach es S → FreshEach es fs → IsTrue (distinct (bound_each es)) → StandEach all es n
+    pub each_bodies_known : (es : Trees) (fs S : List ℕ) (n : ℕ) → ClearEach es S → FreshEach es fs → IsTrue (without_repeats (bound_each es)) → StandEach all es n
         → IsTrue (list_all (body_scoped all) (all_of_each body_of es n))
     each_bodies_known no_trees fs S n c' f d t = refl
     each_bodies_known (and_tree e es) fs S n c' f d t =
         list_both _ (all_procedures body_of e n) _ (bodies_known e fs S n c'.0 f.0 (distinct_left (bound e) (bound_each es) d) t.0)
         (each_bodies_known es fs S (n + procedures e) c'.1 f.1 (distinct_right (bound e) (bound_each es) d) t.1)
 
-    pub lambdas_bodies_known : (ls : Lambdas) (S : List ℕ) (n : ℕ) → ClearLambdas ls S → FreshLambdas ls → IsTrue (distinct (bound_lambdas ls)) → StandLambdas all ls n
+    pub lambdas_bodies_known : (ls : Lambdas) (S : List ℕ) (n : ℕ) → ClearLambdas ls S → FreshLambdas ls → IsTrue (without_repeats (bound_lambdas ls)) → StandLambdas all ls n
         → IsTrue (list_all (body_scoped all) (all_of_lambdas body_of ls n))
     lambdas_bodies_known no_lambdas S n c' f d t = refl
     lambdas_bodies_known (and_lambda name x m rest e ls) S n c' f d t =
@@ -260,5 +260,5 @@ module _ (all : List flat.Body) where
         (list_both _ (all_procedures body_of e (suc n)) _ (bodies_known e (fields_of x m e) (scope_with x m S) (suc n) c'.0.1 f.0.1 d'' t.0.1)
         (lambdas_bodies_known ls S (suc n + procedures e) c'.1 f.1 (distinct_right (bound e) (bound_lambdas ls) d') t.1))
 
-  pub forms_known : (es : Trees) (n : ℕ) → ClearEach es [] → FreshEach es [] → IsTrue (distinct (bound_each es)) → StandEach all es n → IsTrue (valid.scoped_each all (closed_each es [] n) [] 0)
+  pub forms_known : (es : Trees) (n : ℕ) → ClearEach es [] → FreshEach es [] → IsTrue (without_repeats (bound_each es)) → StandEach all es n → IsTrue (valid.scoped_each all (closed_each es [] n) [] 0)
   forms_known es n c' f d t = each_scoped es [] [] [] n (record { at = λ x i h. each_within es [] c' x i }) (λ x i. i) c' f d t

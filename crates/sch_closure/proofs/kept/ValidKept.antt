@@ -4,6 +4,7 @@ use Rattle.std.specs.Prelude.{IsTrue, nat_eq, nat_le, not, ◌||◌, ◌&&◌, s
 use Rattle.std.specs.List.{list_all, count_by}
 use Rattle.std.proofs.lemmas.List.Sums.{sum_by-append}
 use Rattle.std.proofs.lemmas.Bool.{eq-eqb, leb-true, le-leb}
+use Rattle.std.proofs.lemmas.List.{map-append}
 use Rattle.sch_word.specs.trees.Bindings.{scope_with}
 use Rattle.sch_word.specs.runs.Computation.{numbers_from}
 use Rattle.sch_word.specs.values.Literals.{count_literals}
@@ -17,7 +18,8 @@ use Rattle.sch_cells.specs.BoxedMeaning as from_meaning
 use Rattle.sch_cells.specs.Measures as from
 use Rattle.sch_cells.specs.Measures.{shape, every, levels_each, levels_lambdas}
 use Rattle.sch_cells.specs.Valid as valid
-use Rattle.sch_cells.specs.Variables.{free, bound_each, bound_lambdas, distinct, below}
+use Rattle.sch_word.specs.trees.NumberSets.{without_repeats}
+use Rattle.sch_cells.specs.Variables.{free, bound_each, bound_lambdas, below}
 use Rattle.sch_cells.specs.Clear.{ClearEach, ClearLambdas}
 use Rattle.sch_cells.proofs.Clearing.{program_clear, distinct_left, distinct_right}
 use Rattle.sch_flat.specs.Tree as flat
@@ -113,15 +115,11 @@ starts_ascend (and_tree e es) from n last h k = both_true (le-leb from n h) (sta
 
 -- ## The fields of procedures are few
 
-pub map_both : {A B : Type 0} (g : A → B) (xs ys : List A) → map g (xs ++ ys) ≡ map g xs ++ map g ys
-map_both g [] ys = refl
-map_both g (x ∷ xs) ys = ap (λ l. g x ∷ l) (map_both g xs ys)
-
 abbrev body_fields : flat.Body → ℕ
 body_fields b = b.fields
 
 joined : {A B C : Type 0} (g : A → C) (h : B → C) (xs ys : List A) (xs' ys' : List B) → map g xs ≡ map h xs' → map g ys ≡ map h ys' → map g (xs ++ ys) ≡ map h (xs' ++ ys')
-joined g h xs ys xs' ys' p q = map_both g xs ys ∙ ap (λ l. l ++ map g ys) p ∙ ap (λ l. map h xs' ++ l) q ∙ sym (map_both h xs' ys')
+joined g h xs ys xs' ys' p q = map-append g xs ys ∙ ap (λ l. l ++ map g ys) p ∙ ap (λ l. map h xs' ++ l) q ∙ sym (map-append h xs' ys')
 
 mutual
   widths : (e : Tree) (n : ℕ) → map body_fields (all_procedures body_of e n) ≡ map length (all_procedures captured e n)
@@ -202,9 +200,9 @@ module _ (p : Source) (g : Given p) where
   pub fresh_forms : FreshEach p.forms []
   fresh_forms = fresh_each p.forms [] [] (λ x i. i) clears.1 boxes.1
 
-  distincts : IsTrue (distinct (bound_lambdas p.library)) × IsTrue (distinct (bound_each p.forms))
+  distincts : IsTrue (without_repeats (bound_lambdas p.library)) × IsTrue (without_repeats (bound_each p.forms))
   distincts =
-      let d = (parts (distinct (valid.bound_of p)) _ (parts (distinct (valid.bound_of p) && below p.variables (valid.bound_of p)) _ g.scoped).0).0 in
+      let d = (parts (without_repeats (valid.bound_of p)) _ (parts (without_repeats (valid.bound_of p) && below p.variables (valid.bound_of p)) _ g.scoped).0).0 in
       (distinct_left (bound_lambdas p.library) (bound_each p.forms) d, distinct_right (bound_lambdas p.library) (bound_each p.forms) d)
 
   pub same_runs : SameRuns (from_meaning.run p) (to_run.run (closed_source p))

@@ -9,7 +9,9 @@ use Rattle.sch_cells.specs.Tree.{Tree, Trees, Lambdas, constant, literal, variab
 use Rattle.sch_cells.specs.Variables.{free, free_each, free_lambdas, cells_bound, cells_used, without_each, assigns, assigns_each, assigns_lambdas}
 use Rattle.sch_cells.specs.Bodies as from
 use Rattle.sch_cells.proofs.Unassigned.{all_unassigned, bound_count_unassigned}
-use Rattle.sch_cells.specs.Bodies.{once_or_not, counts_nothing, one_unless, all_same, with_cells}
+use Rattle.sch_word.specs.values.Options.{or_false}
+use Rattle.sch_word.specs.trees.VariableCounts.{one_unless}
+use Rattle.sch_cells.specs.Bodies.{counts_nothing, all_same, with_cells}
 use Rattle.sch_cells.specs.Clear.{In, Apart}
 use Rattle.sch_flat.specs.Tree as flat
 use Rattle.sch_flat.specs.Measures as to
@@ -59,7 +61,7 @@ mutual
 
 -- each of these variables counts nothing where its body binds it, which is where it is no field
 record Counts (fs xs : List ℕ) (once : Bindings Bool) : Type 0 where
-  at : (x : ℕ) → In x xs → once_or_not (bound_to x once) ≡ not (has x fs)
+  at : (x : ℕ) → In x xs → or_false (bound_to x once) ≡ not (has x fs)
 
 counts_less : {fs : List ℕ} {once : Bindings Bool} (xs ys : List ℕ) → ((x : ℕ) → In x ys → In x xs) → Counts fs xs once → Counts fs ys once
 counts_less xs ys w k = record { at = λ x i. k.at x (w x i) }
@@ -73,7 +75,7 @@ counts_right xs ys k = counts_less (union xs ys) ys (λ x i. union_right x xs ys
 counts_push : {fs xs : List ℕ} {once : Bindings Bool} (y : ℕ) → has y fs ≡ false → Counts fs (remove y xs) once → Counts fs xs ((y, true) ∷ once)
 counts_push {fs} {xs} {once} y a k = record { at = λ x i. go x (nat_eq x y) refl i }
   where
-    go : (x : ℕ) (b : Bool) → nat_eq x y ≡ b → In x xs → once_or_not (this_or (nat_eq x y) true (bound_to x once)) ≡ not (has x fs)
+    go : (x : ℕ) (b : Bool) → nat_eq x y ≡ b → In x xs → or_false (this_or (nat_eq x y) true (bound_to x once)) ≡ not (has x fs)
     go x true e i =
         let q : x ≡ y = eqb-true x y e in
         let h : has x fs ≡ false = rw q a in
@@ -107,7 +109,7 @@ variable_counts fs x b h = go (has x fs) refl h
 simple : (e : Tree) (fs : List ℕ) (n : ℕ) {once : Bindings Bool} → Fresh e fs → Counts fs (free e) once → one_unless_simple (closed e fs n) ≡ one_unless (counts_nothing e once)
 simple (constant c) fs n f k = refl
 simple (literal i) fs n f k = refl
-simple (variable x) fs n {once} f k = variable_counts fs x (once_or_not (bound_to x once)) (k.at x (in_here x []))
+simple (variable x) fs n {once} f k = variable_counts fs x (or_false (bound_to x once)) (k.at x (in_here x []))
 simple (global g) fs n f k = refl
 simple (set_variable x e) fs n f k = absurd f
 simple (set_global g e) fs n f k = refl

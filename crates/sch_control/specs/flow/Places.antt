@@ -4,7 +4,7 @@ use Rattle.sch_word.specs.trees.NumberSets.{has}
 use Rattle.sch_word.specs.trees.Shape.{max_operands}
 use Rattle.sch_word.specs.declared.place.Place.{Place}
 use Rattle.sch_word.specs.declared.place.Place.TheVariants.{Reg, Slot}
-use Rattle.sch_word.specs.declared.registers.TheConstants.{CLOSURE_REGISTER, LINK_REGISTER}
+use Rattle.sch_word.specs.values.Places.{is_slot}
 use Rattle.sch_word.specs.values.Registers.{argument_registers}
 use Rattle.sch_control.specs.declared.body.Entry.{Entry}
 
@@ -14,23 +14,12 @@ place_of [] x = Slot 0
 place_of (p ∷ places) zero = p
 place_of (p ∷ places) (suc x) = place_of places x
 
-abbrev pub in_slot : Place → Bool
-in_slot (Reg r) = false
-in_slot (Slot k) = true
-
 -- how many of them are slots
 abbrev pub count_slots : List Place → ℕ
 count_slots [] = 0
-count_slots (p ∷ places) = cond (in_slot p) (suc (count_slots places)) (count_slots places)
+count_slots (p ∷ places) = cond (is_slot p) (suc (count_slots places)) (count_slots places)
 
 -- ## Where a body finds what it is entered with
-
--- the return address and the closure
-abbrev pub link_place : Place
-link_place = Reg LINK_REGISTER
-
-abbrev pub closure_place : Place
-closure_place = Reg CLOSURE_REGISTER
 
 -- the operand with k before it, where these registers are still free
 abbrev pub arrival_in : (registers : List ℕ) → (k : ℕ) → Place

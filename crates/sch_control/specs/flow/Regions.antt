@@ -3,7 +3,7 @@ use Rattle.std.specs.Prelude.{◌≡◌, ℕ, Bool, true, ◌&&◌, not, nat_lt}
 use Rattle.std.specs.List.{list_all}
 use Rattle.sch_control.specs.Meaning.{with_region}
 use Rattle.sch_control.specs.Tree.{Expression, bind, sequence, branch, fix, call, return, end, save}
-use Rattle.sch_control.specs.Valid.{without_repeats}
+use Rattle.sch_word.specs.trees.NumberSets.{without_repeats}
 
 -- A region saves some of the first `variables` variables, each once, and none that a region round it saves. `inside` has the
 -- variables of the regions round the expression.

@@ -1,7 +1,7 @@
 -- The drafts of a node's parts: all of them, all but the last, and the last.
 use Rattle.std.proofs.Common.{◌≡◌, ◌≤◌, ℕ, zero, suc, Bool, true, false, length, ap, subst, arith}
-use Rattle.sch_names.specs.Scope.{Scope, onto}
-use Rattle.sch_sketch.specs.Draft.{Names, Drafts, no_drafts, and_draft, count}
+use Rattle.sch_names.specs.Scope.{Scope, onto, Names}
+use Rattle.sch_sketch.specs.Draft.{Drafts, no_drafts, and_draft, count}
 use Rattle.sch_sketch.specs.Sketch.{Kind, binding, scope_in, front, last, first, but_first}
 use Rattle.sch_core.specs.SoundDrafts.{IsSound, AreSound}
 

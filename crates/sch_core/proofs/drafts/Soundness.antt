@@ -2,9 +2,9 @@
 use Rattle.std.proofs.Common.{◌≡◌, ◌+◌, ℕ, suc, Bool, true, false, length, refl, ap, subst, arith}
 use Rattle.std.proofs.lemmas.Bool.{leb-true}
 use Rattle.sch_word.proofs.facts.Booleans.{and_parts}
-use Rattle.sch_names.specs.Scope.{Scope, Globals, onto}
+use Rattle.sch_names.specs.Scope.{Scope, Globals, onto, Names}
 use Rattle.sch_sketch.specs.declared.sketch.Position.{Position}
-use Rattle.sch_sketch.specs.Draft.{Names, Draft, Drafts, constant, symbol, literal, local, global, set_local, set_global, define, branch, sequence, bind, letrec, lambda, call, operation, no_drafts, and_draft, count}
+use Rattle.sch_sketch.specs.Draft.{Draft, Drafts, constant, symbol, literal, local, global, set_local, set_global, define, branch, sequence, bind, letrec, lambda, call, operation, no_drafts, and_draft, count}
 use Rattle.sch_sketch.specs.Sketch.{Kind, choosing, sequencing, binding, recurring, abstracting, calling, operating, setting, setting_global, defining, Sketch, Sketches, how_many_parts, is_end, scope_in, position_in, front, last, but_first, but_one, assemble, width}
 use Rattle.sch_sketch.specs.Soundness.{IsAtom, HasParts, IsSoundKind, is_abstracting, is_procedure, are_procedures, but_last}
 use Rattle.sch_sketch.specs.Soundness as sketches

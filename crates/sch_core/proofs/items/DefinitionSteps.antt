@@ -1,5 +1,5 @@
 -- The steps of the loops over the definitions of a library, over plain values.
-use Rattle.std.proofs.Common.{◌≡◌, ◌≤◌, ◌⊎◌, inl, inr, true, ℕ, zero, suc, ◌+◌, ◌<◌, min, List, [], ◌∷◌, ◌++◌, length, drop, get_or, map, reverse, Option, Some, None, refl, sym, ap, subst, ◌∙◌, add-one, arith, append_assoc, append-nil, drop-cons}
+use Rattle.std.proofs.Common.{◌≡◌, ◌≤◌, ◌⊎◌, inl, inr, true, ℕ, zero, suc, ◌+◌, ◌<◌, ◌^◌, min, List, [], ◌∷◌, ◌++◌, length, drop, get_or, map, reverse, Option, Some, None, refl, sym, ap, subst, ◌∙◌, add-one, arith, append_assoc, append-nil, drop-cons}
 use Rattle.std.proofs.lemmas.List.{drop_all, reverse-append, reverse-reverse}
 use Rattle.std.proofs.lemmas.Bool.{leb-true, and_parts}
 use Rattle.std.specs.Borrow.{Bor}
@@ -10,11 +10,12 @@ use Rattle.sch_read.specs.Views.{tree_of, data_of}
 use Rattle.sch_names.specs.ScopeView.{one_name, given_names}
 use Rattle.sch_sketch.specs.declared.draft.Draft as drafts
 use Rattle.sch_sketch.specs.Draft.{Draft}
+use Rattle.sch_sketch.specs.DraftMeasures.{size}
 use Rattle.sch_sketch.specs.DraftView.{draft_of}
 use Rattle.sch_link_tables.specs.Programs.{names_of_each}
 use Rattle.sch_link_program.specs.declared.definition.Definition as code
 use Rattle.sch_link_program.specs.Definitions.{definition_of, definitions_of}
-use Rattle.sch_link_program.specs.Size.{have_few_formals}
+use Rattle.sch_link_program.specs.Size.{size_of_definitions, have_few_formals}
 use Rattle.sch_core.specs.LibraryDefinitions.{procedure_of, AreNamedProcedures}
 use Rattle.sch_core.specs.SoundDrafts.{IsProcedure}
 use Rattle.sch_toplevel.specs.Items.{item_places}
@@ -118,6 +119,12 @@ pub formals_at : (ds : List code.Definition) (i : ℕ) (d : code.Definition) →
 formals_at [] i d l e h = absurd (omega (arith, l))
 formals_at (x ∷ ds) zero d l e h = subst (λ y. y.formals ≤ max_operands) (sym e) (leb-true x.formals max_operands (and_parts _ _ h).0)
 formals_at (x ∷ ds) (suc i) d l e h = formals_at ds i d (omega (arith, l)) e (and_parts _ _ h).1
+
+-- and few enough nodes
+pub few_at : (ds : List code.Definition) (i : ℕ) (d : code.Definition) → i < length ds → d ≡ get_or ds i d → size_of_definitions (definitions_of ds) < 2 ^ 32 → size (draft_of d.body) < 2 ^ 32
+few_at [] i d l e h = absurd (omega (arith, l))
+few_at (x ∷ ds) zero d l e h = subst (λ y. size (draft_of y.body) < 2 ^ 32) (sym e) (omega (arith, h))
+few_at (x ∷ ds) (suc i) d l e h = few_at ds i d (omega (arith, l)) e (omega (arith, h))
 
 no_item : (places : List ℕ) → first_definition_excess places [] ≡ None
 no_item [] = refl

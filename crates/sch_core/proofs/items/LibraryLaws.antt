@@ -1,5 +1,6 @@
 -- Items have a library or an error, and never both.
 use Rattle.std.proofs.Common.{◌≡◌, ◌≢◌, ◌⊎◌, inl, inr, ◌≤◌, ℕ, List, [], ◌∷◌, map, Option, Some, None, refl, sym, ap, ◌∙◌, subst}
+use Rattle.std.proofs.lemmas.Option.{none-some}
 use Rattle.sch_read.specs.Grammar.{Data}
 use Rattle.sch_sketch.specs.declared.fault.Fault.{Fault}
 use Rattle.sch_sketch.specs.declared.fault.Fault.TheVariants as fault
@@ -15,13 +16,13 @@ use Rattle.sch_core.specs.declared.error.CoreError.{CoreError}
 use Rattle.sch_core.specs.declared.error.CoreError.TheVariants as errors
 use Rattle.sch_core.specs.declared.error.Kind.{Kind}
 use Rattle.sch_core.specs.declared.error.Kind.TheVariants as kinds
-use Rattle.sch_core.proofs.DataLaws.{none_some, left_is, right_is, excess_counted, place_counted, IsCounted, error_for, named_by}
+use Rattle.sch_core.proofs.DataLaws.{left_is, right_is, excess_counted, place_counted, IsCounted, error_for, named_by}
 use Rattle.sch_core.proofs.items.ItemLaws.{items_best, items_expand, items_named, items_made, items_one, items_clean, reading_one, items_read}
 use Rattle.sch_word.proofs.facts.Lists.{some_same}
 
 pub definitions_counted : (places : List ℕ) (ds : List Definition) (k : Kind) (at : ℕ) → first_definition_excess places ds ≡ Some (k, at) → IsCounted k
-definitions_counted [] ds k at e = absurd (none_some e)
-definitions_counted (p ∷ places) [] k at e = absurd (none_some e)
+definitions_counted [] ds k at e = absurd (none-some _ e)
+definitions_counted (p ∷ places) [] k at e = absurd (none-some _ e)
 definitions_counted (p ∷ places) (d ∷ ds) k at e =
     place_counted p (definition_excess d) (first_definition_excess places ds) k at e (λ j i. excess_counted _ _ j i) (λ i. definitions_counted places ds k at i)
 
@@ -31,7 +32,7 @@ module _ (items : Data) where
   library_fault f es r =
       let best = items_best [] items None (Some f) es r in
       record {
-        there = elim (best.from f refl) [ inl i ↦ absurd (none_some i) | inr h ↦ h ];
+        there = elim (best.from f refl) [ inl i ↦ absurd (none-some _ i) | inr h ↦ h ];
         least = λ g h. let m = best.below g h in subst (λ k. rank k ≤ rank g) (sym (some_same m.is)) m.below;
         drafts = es;
         first = r;
@@ -96,7 +97,7 @@ module _ (items : Data) where
 
   fits : (ds : List Definition) (kind : Kind) (at : ℕ) → IsLibraryOf items ds → LibraryExceedsAt items kind at → ⊥
   fits ds kind at a b =
-      none_some (sym (subst (λ l. first_definition_excess (item_places items) l ≡ None) (items_one [] items ds b.definitions a.expands b.expands) a.fits) ∙ b.exceeding)
+      none-some _ (sym (subst (λ l. first_definition_excess (item_places items) l ≡ None) (items_one [] items ds b.definitions a.expands b.expands) a.fits) ∙ b.exceeding)
 
   pub never_both : (ds : List Definition) (e : CoreError) → IsLibraryOf items ds → IsLibraryError items e → e ≡ errors.Memory
   never_both ds errors.Memory a b = refl

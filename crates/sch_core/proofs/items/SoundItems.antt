@@ -6,6 +6,7 @@ use Rattle.sch_word.specs.trees.Shape.{max_operands}
 use Rattle.sch_read.specs.Grammar.{Datum, Data, atom, list, dotted, vector, none, cons}
 use Rattle.sch_read.specs.Parts.{offset}
 use Rattle.sch_read.specs.Valid.{max_weight, weight, weights}
+use Rattle.sch_read.proofs.ReleaseEffort.{some_weight}
 use Rattle.sch_names.specs.NamesView.{with_name}
 use Rattle.sch_names.specs.Scope.{is_among}
 use Rattle.sch_sketch.specs.declared.sketch.Position.TheVariants.{Value}
@@ -111,17 +112,11 @@ items_size before none (x ∷ xs) h = absurd h
 items_size before (cons d items) [] h = absurd h
 items_size before (cons d items) (x ∷ xs) h = omega (arith, item_size before d x h.1, items_size (names_by before d) items xs h.2)
 
-weighs : (d : Datum) → 1 ≤ weight d
-weighs (atom at a) = omega arith
-weighs (list at xs) = omega arith
-weighs (dotted at xs x) = omega arith
-weighs (vector at xs) = omega arith
-
 items_count : (before : List (List ℕ)) (items : Data) (ds : List Definition) → ItemsExpand before items ds → length ds ≤ weights items
 items_count before none [] h = omega arith
 items_count before none (x ∷ xs) h = absurd h
 items_count before (cons d items) [] h = absurd h
-items_count before (cons d items) (x ∷ xs) h = omega (arith, weighs d, items_count (names_by before d) items xs h.2)
+items_count before (cons d items) (x ∷ xs) h = omega (arith, some_weight d, items_count (names_by before d) items xs h.2)
 
 -- a procedure has few enough formals
 pub few_formals : (ds : List Definition) → AreDefinitions ds → have_few_formals ds ≡ true
@@ -144,4 +139,5 @@ sound_library items ds h q l e = record {
   few = items_few [] items ds h e;
   small = omega (arith, items_small [] items ds h, l);
   few_definitions = omega (arith, items_count [] items ds h, l);
+  few_nodes = omega (arith, items_size [] items ds h, l);
 }

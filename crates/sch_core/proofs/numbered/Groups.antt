@@ -10,7 +10,8 @@ use Rattle.sch_lang.specs.Measures.{over, over_each, over_lambdas, levels, level
 use Rattle.sch_lang.specs.Valid.{fits_here}
 use Rattle.sch_lang.specs.InScope.{in_scope, each_in_scope, lambdas_in_scope}
 use Rattle.sch_variable_counts.specs.Within.{each_procedure, each_procedure_in, each_lambda}
-use Rattle.sch_sketch.specs.Draft.{Names, Draft, Drafts, lambda, no_drafts, and_draft}
+use Rattle.sch_names.specs.Scope.{Names}
+use Rattle.sch_sketch.specs.Draft.{Draft, Drafts, lambda, no_drafts, and_draft}
 use Rattle.sch_link_tables.specs.Assigned.{is_group}
 use Rattle.sch_link_tables.specs.Numbered.{numbered_each, procedures_of, others_of}
 use Rattle.sch_core.specs.SoundDrafts.{AreProcedures, AreProceduresIf}

@@ -3,6 +3,7 @@
 use Rattle.std.proofs.Common.{◌≡◌, ◌≤◌, ℕ, ◌+◌, ◌&&◌, ◌||◌, Bool, true, false, List, [], length, Option, None, refl, ap, sym, ◌∙◌, arith, le-leb}
 use Rattle.std.specs.Prelude.{max, not, nat_le}
 use Rattle.std.proofs.lemmas.Bool.{and_from}
+use Rattle.sch_link_program.proofs.ProgramSize.{count_numbered}
 use Rattle.sch_word.proofs.facts.Booleans.{and_parts}
 use Rattle.sch_word.specs.declared.primitive.Primitive.{Primitive}
 use Rattle.sch_word.specs.values.Primitives.{operands_of}
@@ -13,14 +14,14 @@ use Rattle.sch_lang.specs.Measures as measures
 use Rattle.sch_lang.specs.Measures.{over, over_each, procedure}
 use Rattle.sch_lang.specs.Valid.{fits_here}
 use Rattle.sch_variable_counts.specs.Within.{each_procedure, each_procedure_in, few_variables, few_free, has_few_variables, has_few_free}
-use Rattle.sch_sketch.specs.Draft.{Names, Draft, Drafts, constant, symbol, literal, local, global, set_local, set_global, define, branch, sequence, bind, letrec, lambda, call, operation, no_drafts, and_draft, count}
+use Rattle.sch_names.specs.Scope.{Names}
+use Rattle.sch_sketch.specs.Draft.{Draft, Drafts, constant, symbol, literal, local, global, set_local, set_global, define, branch, sequence, bind, letrec, lambda, call, operation, no_drafts, and_draft, count}
 use Rattle.sch_link_tables.specs.Assigned.{is_group}
 use Rattle.sch_link_tables.specs.Sites.{widths}
 use Rattle.sch_link_tables.specs.Quoted.{quotes_in}
 use Rattle.sch_link_tables.specs.Numbered.{body_name, grouped, numbered, numbered_each, others_of}
 use Rattle.sch_core.specs.SoundDrafts.{HasRest, IsSound, AreSound, levels, levels_each}
 use Rattle.sch_core.proofs.numbered.Groups.{AreLambdas, count_group, levels_group, few_group, holds_group, fit_group, group_lambdas}
-use Rattle.sch_core.proofs.numbered.Sites.{count_numbered}
 
 -- ## Few variables and few free ones
 

@@ -10,9 +10,9 @@ use Rattle.sch_word.specs.values.Literals.{constant_known}
 use Rattle.sch_lang.specs.Tree.{Expression, Expressions}
 use Rattle.sch_lang.specs.Measures.{over, over_each}
 use Rattle.sch_lang.specs.Valid.{named_here}
-use Rattle.sch_names.specs.Scope.{is_among}
+use Rattle.sch_names.specs.Scope.{is_among, Names}
 use Rattle.sch_names.specs.NamesView.{with_name, number_of}
-use Rattle.sch_sketch.specs.Draft.{Names, Draft, Drafts, constant, symbol, literal, local, global, set_local, set_global, define, branch, sequence, bind, letrec, lambda, call, operation, no_drafts, and_draft, count}
+use Rattle.sch_sketch.specs.Draft.{Draft, Drafts, constant, symbol, literal, local, global, set_local, set_global, define, branch, sequence, bind, letrec, lambda, call, operation, no_drafts, and_draft, count}
 use Rattle.sch_link_tables.specs.Named.{firsts, globals_in, globals_in_each, symbols_in, symbols_in_each}
 use Rattle.sch_link_tables.specs.Assigned.{is_group}
 use Rattle.sch_link_tables.specs.Quoted.{quotes_in, quotes_in_each}

@@ -2,16 +2,18 @@
 use Rattle.std.proofs.Common.{◌≡◌, ℕ, ◌+◌, ◌||◌, Bool, true, false, List, [], Option, refl, ap, ◌∙◌, lt-ltb}
 use Rattle.std.specs.Prelude.{nat_eq}
 use Rattle.std.proofs.lemmas.Bool.{and_from}
+use Rattle.sch_link_program.proofs.ProgramSize.{count_numbered}
+use Rattle.sch_word.proofs.facts.Booleans.{or_same}
 use Rattle.sch_lang.specs.Tree as tree
 use Rattle.sch_lang.specs.Tree.{Expression, Expressions, count_lambdas}
 use Rattle.sch_lang.specs.Variables as variables
 use Rattle.sch_lang.specs.InScope.{in_scope, each_in_scope}
-use Rattle.sch_sketch.specs.Draft.{Names, Draft, Drafts, constant, symbol, literal, local, global, set_local, set_global, define, branch, sequence, bind, letrec, lambda, call, operation, no_drafts, and_draft, count}
+use Rattle.sch_names.specs.Scope.{Names}
+use Rattle.sch_sketch.specs.Draft.{Draft, Drafts, constant, symbol, literal, local, global, set_local, set_global, define, branch, sequence, bind, letrec, lambda, call, operation, no_drafts, and_draft, count}
 use Rattle.sch_link_tables.specs.Assigned.{assigns, assigns_each, is_group}
 use Rattle.sch_link_tables.specs.Numbered.{procedures_of, grouped, numbered, numbered_each, others_of}
 use Rattle.sch_core.specs.SoundDrafts.{IsSound, AreSound}
 use Rattle.sch_core.proofs.numbered.Groups.{AreLambdas, count_group, scope_group, assigns_group, group_lambdas}
-use Rattle.sch_core.proofs.numbered.Sites.{count_numbered}
 
 scope_grouped : (g : Bool) (xs : Expressions) (x : Expression) (s n m : ℕ) → (g ≡ true → AreLambdas xs) → tree.count xs ≡ m →
     each_in_scope xs (n + m) ≡ true → in_scope x (n + m) ≡ true → in_scope (grouped g s xs x) n ≡ true
@@ -20,15 +22,12 @@ scope_grouped true xs x s n m h e p q =
     rw c (and_from _ _ (scope_group xs (n + m) (h refl) ∙ p) q)
 scope_grouped false xs x s n m h e p q = rw e (and_from _ _ p q)
 
-either : {a a' b b' : Bool} → a ≡ a' → b ≡ b' → (a || b) ≡ (a' || b')
-either e f = cc
-
 assigns_grouped : (g : Bool) (xs : Expressions) (x : Expression) (s m j : ℕ) (a b : Bool) → (g ≡ true → AreLambdas xs) → tree.count xs ≡ m →
     variables.assigns_each xs (j + m) ≡ a → variables.assigns x (j + m) ≡ b → variables.assigns (grouped g s xs x) j ≡ (a || b)
 assigns_grouped true xs x s m j a b h e p q =
     let c : count_lambdas (procedures_of xs) ≡ m = count_group xs (h refl) ∙ e in
-    rw c (either (assigns_group xs (j + m) (h refl) ∙ p) q)
-assigns_grouped false xs x s m j a b h e p q = rw e (either p q)
+    rw c (or_same (assigns_group xs (j + m) (h refl) ∙ p) q)
+assigns_grouped false xs x s m j a b h e p q = rw e (or_same p q)
 
 module _ (own globals symbols : List (List ℕ)) where
   mutual
@@ -67,18 +66,18 @@ module _ (own globals symbols : List (List ℕ)) where
     assigns_kept (set_local k e) v m s l j h = ap (λ b. nat_eq k j || b) (assigns_kept e _ m s l j h.1)
     assigns_kept (set_global x e) v m s l j h = assigns_kept e _ m s l j h
     assigns_kept (define x e) v m s l j h = assigns_kept e _ m s l j h
-    assigns_kept (branch a b c) v m s l j h = either (assigns_kept a _ m s l j h.0) (either (assigns_kept b _ m _ _ j h.1) (assigns_kept c _ m _ _ j h.2))
+    assigns_kept (branch a b c) v m s l j h = or_same (assigns_kept a _ m s l j h.0) (or_same (assigns_kept b _ m _ _ j h.1) (assigns_kept c _ m _ _ j h.2))
     assigns_kept (sequence es) v m s l j h = assigns_each_kept es [] m s l j h.1
     assigns_kept (bind vs es e) v m s l j h =
-        either (assigns_each_kept es vs m (s + 1) l j h.1)
+        or_same (assigns_each_kept es vs m (s + 1) l j h.1)
         (rw (count_numbered own globals symbols es vs (s + 1) l) (assigns_kept e _ (m + count es) _ _ (j + count es) h.2))
     assigns_kept (letrec vs p es e) v m s l j h =
         assigns_grouped (is_group p es e) _ _ s (count es) j _ _ (group_lambdas own globals symbols p es e vs _ l h.1) (count_numbered own globals symbols es vs _ l)
         (assigns_each_kept es vs (m + count es) _ l (j + count es) h.2) (assigns_kept e _ (m + count es) _ _ (j + count es) h.3)
     assigns_kept (lambda n r e) v m s l j h = assigns_kept e _ (m + n) s l (j + n) h.2
-    assigns_kept (call vs f es) v m s l j h = either (assigns_kept f _ m (s + 1) l j h.1) (assigns_each_kept es vs m _ _ j h.2)
+    assigns_kept (call vs f es) v m s l j h = or_same (assigns_kept f _ m (s + 1) l j h.1) (assigns_each_kept es vs m _ _ j h.2)
     assigns_kept (operation p es) v m s l j h = assigns_each_kept es [] m (s + 1) l j h.1
 
     pub assigns_each_kept : (es : Drafts) (vs : Names) (m s l j : ℕ) → AreSound m es → variables.assigns_each (numbered_each own globals symbols vs es s l) j ≡ assigns_each es j
     assigns_each_kept no_drafts vs m s l j h = refl
-    assigns_each_kept (and_draft e es) vs m s l j h = either (assigns_kept e _ m s l j h.0) (assigns_each_kept es (others_of vs) m _ _ j h.1)
+    assigns_each_kept (and_draft e es) vs m s l j h = or_same (assigns_kept e _ m s l j h.0) (assigns_each_kept es (others_of vs) m _ _ j h.1)

@@ -3,6 +3,7 @@ use Rattle.std.proofs.Common.{◌≡◌, ℕ, zero, suc, ◌+◌, ◌&&◌, ◌|
 use Rattle.std.specs.Prelude.{not}
 use Rattle.std.proofs.lemmas.Bool.{and_from}
 use Rattle.std.proofs.Common.{eq-eqb}
+use Rattle.sch_link_program.proofs.ProgramSize.{count_numbered}
 use Rattle.sch_word.proofs.facts.Booleans.{and_parts}
 use Rattle.sch_lang.specs.Tree as tree
 use Rattle.sch_lang.specs.Tree.{Expression, Expressions, Lambdas, count_lambdas}
@@ -10,12 +11,12 @@ use Rattle.sch_lang.specs.Variables as variables
 use Rattle.sch_lang.specs.Measures.{over, over_each}
 use Rattle.sch_lang.specs.Valid.{shaped_here}
 use Rattle.sch_lang.specs.Valid as valid
-use Rattle.sch_sketch.specs.Draft.{Names, Draft, Drafts, constant, symbol, literal, local, global, set_local, set_global, define, branch, sequence, bind, letrec, lambda, call, operation, no_drafts, and_draft, count}
+use Rattle.sch_names.specs.Scope.{Names}
+use Rattle.sch_sketch.specs.Draft.{Draft, Drafts, constant, symbol, literal, local, global, set_local, set_global, define, branch, sequence, bind, letrec, lambda, call, operation, no_drafts, and_draft, count}
 use Rattle.sch_link_tables.specs.Assigned.{assigns, assigns_each, none_assigned, is_group}
 use Rattle.sch_link_tables.specs.Numbered.{procedures_of, grouped, numbered, numbered_each, others_of}
 use Rattle.sch_core.specs.SoundDrafts.{IsSound, AreSound}
 use Rattle.sch_core.proofs.numbered.Groups.{AreLambdas, count_group, assigns_group, holds_group, group_lambdas}
-use Rattle.sch_core.proofs.numbered.Sites.{count_numbered}
 use Rattle.sch_core.proofs.numbered.Scopes.{assigns_kept, assigns_each_kept}
 
 -- ## Groups

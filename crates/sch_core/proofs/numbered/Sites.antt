@@ -1,10 +1,12 @@
 -- The sites of a numbered draft stand in the order of the text, from the first number on.
 use Rattle.std.proofs.Common.{◌≡◌, ℕ, suc, ◌+◌, Bool, true, false, List, [], ◌∷◌, ◌++◌, length, Option, refl, sym, ap, ◌∙◌, arith}
+use Rattle.sch_link_program.proofs.ProgramSize.{count_numbered}
 use Rattle.sch_lang.specs.Tree as tree
 use Rattle.sch_lang.specs.Tree.{Expression, Expressions}
 use Rattle.sch_lang.specs.Measures.{over, over_each, site_here}
 use Rattle.sch_lang.proofs.SitesInOrder as order
-use Rattle.sch_sketch.specs.Draft.{Names, Draft, Drafts, constant, symbol, literal, local, global, set_local, set_global, define, branch, sequence, bind, letrec, lambda, call, operation, no_drafts, and_draft, count}
+use Rattle.sch_names.specs.Scope.{Names}
+use Rattle.sch_sketch.specs.Draft.{Draft, Drafts, constant, symbol, literal, local, global, set_local, set_global, define, branch, sequence, bind, letrec, lambda, call, operation, no_drafts, and_draft, count}
 use Rattle.sch_link_tables.specs.Assigned.{is_group}
 use Rattle.sch_link_tables.specs.Sites.{unless_group, widths, widths_of_each}
 use Rattle.sch_link_tables.specs.Numbered.{grouped, numbered, numbered_each, others_of}
@@ -33,10 +35,6 @@ sites_grouped true c s xs x a b h e p q =
 sites_grouped false c s xs x a b h e p q = headed s _ c (a ++ b) _ e (joined (s + 1) a b _ _ p q)
 
 module _ (own globals symbols : List (List ℕ)) where
-  pub count_numbered : (es : Drafts) (vs : Names) (s l : ℕ) → tree.count (numbered_each own globals symbols vs es s l) ≡ count es
-  count_numbered no_drafts vs s l = refl
-  count_numbered (and_draft e es) vs s l = ap suc (count_numbered es (others_of vs) _ _)
-
   mutual
     sites : (e : Draft) (v : Option (List ℕ)) (m s l : ℕ) → IsSound m e → over [] (λ a b. a ++ b) site_here (numbered own globals symbols v e s l) ≡ order.numbered s (widths e)
     sites (constant c) v m s l h = refl
@@ -52,16 +50,16 @@ module _ (own globals symbols : List (List ℕ)) where
         (joined (s + length (widths a)) (widths b) (widths c) _ _ (sites b _ m _ _ h.1) (sites c _ m _ _ h.2))
     sites (sequence es) v m s l h = sites_each es [] m s l h.1
     sites (bind vs es e) v m s l h =
-        headed s _ _ (widths_of_each es ++ widths e) _ (count_numbered es vs (s + 1) l)
+        headed s _ _ (widths_of_each es ++ widths e) _ (count_numbered own globals symbols es vs (s + 1) l)
         (joined (s + 1) (widths_of_each es) (widths e) _ _ (sites_each es vs m (s + 1) l h.1) (sites e _ (m + count es) _ _ h.2))
     sites (letrec vs p es e) v m s l h =
-        sites_grouped (is_group p es e) (count es) s _ _ (widths_of_each es) (widths e) (group_lambdas own globals symbols p es e vs _ l h.1) (count_numbered es vs _ l)
+        sites_grouped (is_group p es e) (count es) s _ _ (widths_of_each es) (widths e) (group_lambdas own globals symbols p es e vs _ l h.1) (count_numbered own globals symbols es vs _ l)
         (sites_each es vs (m + count es) _ l h.2) (sites e _ (m + count es) _ _ h.3)
     sites (lambda n r e) v m s l h = sites e _ (m + n) s l h.2
     sites (call vs f es) v m s l h =
-        headed s _ _ (widths f ++ widths_of_each es) _ (ap suc (count_numbered es vs (s + 1 + length (widths f)) _))
+        headed s _ _ (widths f ++ widths_of_each es) _ (ap suc (count_numbered own globals symbols es vs (s + 1 + length (widths f)) _))
         (joined (s + 1) (widths f) (widths_of_each es) _ _ (sites f _ m (s + 1) l h.1) (sites_each es vs m _ _ h.2))
-    sites (operation p es) v m s l h = headed s _ _ (widths_of_each es) _ (count_numbered es [] (s + 1) l) (sites_each es [] m (s + 1) l h.1)
+    sites (operation p es) v m s l h = headed s _ _ (widths_of_each es) _ (count_numbered own globals symbols es [] (s + 1) l) (sites_each es [] m (s + 1) l h.1)
 
     pub sites_each : (es : Drafts) (vs : Names) (m s l : ℕ) → AreSound m es → over_each [] (λ a b. a ++ b) site_here (numbered_each own globals symbols vs es s l) ≡ order.numbered s (widths_of_each es)
     sites_each no_drafts vs m s l h = refl

@@ -14,12 +14,12 @@ use Rattle.sch_core.specs.SizesOfStatics.{statics_in}
 use Rattle.sch_core.specs.Quotable.{AllQuotable, HasWords}
 use Rattle.sch_core.proofs.drafts.Levels.{level}
 use Rattle.sch_core.proofs.notions.NamedGlobals.{naming, any_data, naming_kept, named}
-use Rattle.sch_core.proofs.sizes.NodesOfDrafts.{nodes}
 use Rattle.sch_core.proofs.notions.DataInRange.{in_range, all_good, in_range_kept, has_constants, has_words}
 use Rattle.sch_core.proofs.notions.FitDrafts.{fits}
 use Rattle.sch_core.proofs.drafts.Soundness.{sound}
 use Rattle.sch_core.proofs.programs.Starts.{among_map}
 use Rattle.sch_core.proofs.sizes.StaticsOfDrafts.{statics}
+use Rattle.sch_core.proofs.texts.TextSizes.{sized}
 
 module _ (globals : Globals) (at : ℕ) (xs : Data) (d : Definition) (h : ItemExpands globals at xs d) where
   pub item_is_definition : HasConstants (procedure_of d) → HasWords (procedure_of d) → IsDefinition d
@@ -38,4 +38,4 @@ module _ (globals : Globals) (at : ℕ) (xs : Data) (d : Definition) (h : ItemEx
   item_statics = omega (arith, statics globals h tt)
 
   pub item_nodes : size (procedure_of d) ≤ 4 + 16 * weights xs
-  item_nodes = omega (arith, nodes globals h tt, data_weigh xs)
+  item_nodes = omega (arith, sized globals h tt, data_weigh xs)

@@ -2,8 +2,7 @@
 use Rattle.std.proofs.Common.{◌≡◌, ◌≤◌, ◌+◌, ◌++◌, ℕ, suc, Bool, true, false, List, [], ◌∷◌, length, Some, None, refl, ap, arith}
 use Rattle.sch_word.specs.trees.Shape.{max_levels}
 use Rattle.sch_lang.specs.Tree.{and_lambda, count_lambdas}
-use Rattle.sch_names.specs.Scope.{is_among}
-use Rattle.sch_sketch.specs.Draft.{Names}
+use Rattle.sch_names.specs.Scope.{is_among, Names}
 use Rattle.sch_link_tables.specs.Constants.{HaveConstants}
 use Rattle.sch_link_tables.specs.Named.{library_global, globals_in, globals_in_each, symbols_in, symbols_in_each}
 use Rattle.sch_link_tables.specs.Numbered.{procedures_of, numbered, numbered_each}
@@ -15,7 +14,7 @@ use Rattle.sch_core.specs.LibraryDefinitions.{procedures_of_each, AreDefinitions
 use Rattle.sch_sketch.specs.DraftMeasures.{size_each}
 use Rattle.sch_core.specs.SizesOfStatics.{statics_in_each}
 use Rattle.sch_core.specs.Quotable.{AreQuotable, AreBytes}
-use Rattle.sch_core.proofs.sizes.StaticsOfPrograms.{bytes_append, quotable_append}
+use Rattle.sch_core.proofs.sizes.StaticsOfPrograms.{bytes_append, quotable_append, symbols_counted}
 
 abbrev pub given : List Definition → Names
 given [] = []
@@ -45,6 +44,9 @@ globals_are (d ∷ ds) = ap (λ l. globals_in [] d.body ++ l) (globals_are ds)
 pub symbols_are : (ds : List Definition) → symbols_in_each (procedures_of_each ds) ≡ symbols_of_each ds
 symbols_are [] = refl
 symbols_are (d ∷ ds) = ap (λ l. symbols_in d.body ++ l) (symbols_are ds)
+
+pub few_symbols : (ds : List Definition) → length (symbols_of_each ds) ≤ statics_in_each (procedures_of_each ds)
+few_symbols ds = let n = ap length (symbols_are ds) in omega (arith, n, symbols_counted (procedures_of_each ds))
 
 pub all_procedures : (ds : List Definition) → AreProcedures (procedures_of_each ds)
 all_procedures [] = tt

@@ -23,7 +23,7 @@ use Rattle.sch_core.specs.TextForms.{Form, expression, definition, sketch_of, Is
 use Rattle.sch_core.proofs.drafts.Parts.{all_in}
 use Rattle.sch_core.proofs.drafts.Soundness.{sound_each}
 use Rattle.sch_core.proofs.drafts.Levels.{level_each}
-use Rattle.sch_core.proofs.sizes.NodesOfDrafts.{nodes_each, form_measure}
+use Rattle.sch_core.proofs.sizes.NodesOfDrafts.{form_measure}
 use Rattle.sch_core.proofs.sizes.StaticsOfSketches.{sketches_statics}
 use Rattle.sch_core.proofs.sizes.StaticsOfRows.{define_statics}
 use Rattle.sch_core.proofs.sizes.StaticsOfDrafts.{statics_each}
@@ -35,6 +35,7 @@ use Rattle.sch_core.proofs.notions.FitRows.{define_fits}
 use Rattle.sch_core.proofs.notions.FitDrafts.{fits_each}
 use Rattle.sch_core.proofs.notions.DataInRange.{in_range, all_good, in_range_kept, have_constants, have_words}
 use Rattle.sch_core.proofs.notions.NamedGlobals.{naming, any_data, naming_kept, named_each}
+use Rattle.sch_core.proofs.texts.TextSizes.{sized_each}
 
 -- ## The sketches of forms
 
@@ -79,7 +80,7 @@ module _ (globals : Globals) where
   forms_statics fs es h = omega (arith, statics_each globals h (sound_all true fs), statics_all fs)
 
   pub forms_nodes : (fs : List Form) (es : Drafts) → SketchesExpand globals (map sketch_of fs) es → size_each es ≤ 16 * forms_weight fs
-  forms_nodes fs es h = omega (arith, nodes_each globals h (sound_all true fs), measure_all fs)
+  forms_nodes fs es h = omega (arith, sized_each globals h (sound_all true fs), measure_all fs)
 
   pub forms_constants : (fs : List Form) (es : Drafts) → SketchesExpand globals (map sketch_of fs) es → AreOfData fs → HaveConstants es × HaveWords es
   forms_constants fs es h g =

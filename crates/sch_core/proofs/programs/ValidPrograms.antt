@@ -20,6 +20,7 @@ use Rattle.sch_link_tables.specs.Numbered.{procedures_of, numbered_each}
 use Rattle.sch_link_tables.specs.Programs.{Definition, kept, held, named, globals_of_each, symbols_of_each, quotes_of_each, widths_of_definitions, program_with, program_of}
 use Rattle.sch_link_tables.specs.Quoted.{quotes_in_each}
 use Rattle.sch_link_tables.specs.Sites.{widths_of_each}
+use Rattle.sch_link_tables.proofs.FewNumbers.{firsts_length}
 use Rattle.sch_core.specs.SoundDrafts.{AreSound, levels_each}
 use Rattle.sch_core.specs.LibraryDefinitions.{procedures_of_each, AreDefinitions, AreAmong, AreOrdered, AreKnown}
 use Rattle.sch_core.specs.Excess.{HasFew}
@@ -35,7 +36,7 @@ use Rattle.sch_core.proofs.numbered.Limits.{fitting_each, levels_each_kept}
 use Rattle.sch_core.proofs.sizes.NodesOfDrafts.{nodes_group, all_nodes_kept}
 use Rattle.sch_core.proofs.numbered.Constants.{all_constants_kept}
 use Rattle.sch_core.proofs.numbered.Names.{left, right, all_among, named_each}
-use Rattle.sch_core.proofs.sizes.StaticsOfPrograms.{firsts_size, firsts_length, firsts_bytes, bytes_append, all_bytes, sizes, quotable_append, count_quotes, sizes_append, AreNamed, named_append, quotes_known, quotes_each_named, quotes_range, all_statics_below}
+use Rattle.sch_core.proofs.sizes.StaticsOfPrograms.{firsts_size, firsts_bytes, bytes_append, all_bytes, sizes, quotable_append, count_quotes, sizes_append, AreNamed, named_append, quotes_known, quotes_each_named, quotes_range, all_statics_below}
 use Rattle.sch_core.proofs.programs.KeptDefinitions.{given, procedures_are, widths_are, quotes_are, globals_are, symbols_are, all_procedures, count_definitions, sound_definitions, level_definitions, constant_definitions, quotable_definitions, bytes_definitions, kept_sound, kept_nodes, kept_statics}
 use Rattle.sch_core.proofs.programs.Starts.{AreReady, known_starts, starts_length, globals_ready}
 

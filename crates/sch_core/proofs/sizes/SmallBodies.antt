@@ -7,12 +7,14 @@ use Rattle.sch_word.specs.trees.BoundVariables.{formals_in}
 use Rattle.sch_word.specs.trees.NumberSets.{has, unless, union}
 use Rattle.sch_lang.specs.Tree.{Expression, Expressions, Lambdas, constant, literal, local, global, set_local, set_global, define, branch, sequence, bind, fix, letrec, lambda, call, operation, no_expressions, and_expression, no_lambdas, and_lambda, count, count_lambdas}
 use Rattle.sch_lang.specs.Variables.{assigns, free, free_each, free_lambdas, outside, outside_one}
-use Rattle.sch_lang.specs.Measures.{procedure, procedures, counts_nothing, one_unless, onto_assigned, onto_all, twice_if, bound_count, three_each, variables, variables_each, variables_operands, variables_parts, body_variables}
+use Rattle.sch_word.specs.trees.VariableCounts.{one_unless, twice_if, three_each}
+use Rattle.sch_lang.specs.Measures.{procedure, procedures, counts_nothing, onto_assigned, onto_all, bound_count, variables, variables_each, variables_operands, variables_parts, body_variables}
+use Rattle.sch_lang.proofs.BodyCounts.{counted as nodes, counted_each as nodes_each, counted_lambdas as nodes_in_lambdas}
 use Rattle.sch_variable_counts.specs.Within.{each_procedure, each_procedure_in, each_lambda, has_few_variables, has_few_free}
 use Rattle.sch_sketch.specs.DraftMeasures.{size}
 use Rattle.sch_link_tables.specs.Numbered.{numbered}
 use Rattle.sch_link_tables.specs.Programs.{Definition}
-use Rattle.sch_link_program.proofs.ProgramSize.{numbered_size, nodes, nodes_each, nodes_in_lambdas}
+use Rattle.sch_link_program.proofs.ProgramSize.{numbered_size}
 use Rattle.sch_core.specs.Excess.{excess, definition_excess}
 use Rattle.sch_core.specs.SmallDefinitions.{max_small, is_small}
 

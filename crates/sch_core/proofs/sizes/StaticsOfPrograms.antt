@@ -37,16 +37,9 @@ pub firsts_size : (names seen : List (List ℕ)) → names_size (firsts seen nam
 firsts_size [] seen = omega arith
 firsts_size (x ∷ names) seen = omega (arith, firsts_size names (with_name x seen), with_size x seen)
 
-with_length : (x : List ℕ) (seen : List (List ℕ)) → length (with_name x seen) ≤ length seen + 1
-with_length x seen = go (is_among x seen)
-  where
-    go : (b : Bool) → length (cond b seen (seen ++ x ∷ [])) ≤ length seen + 1
-    go true = omega arith
-    go false = omega (arith, length-append seen (x ∷ []))
-
-pub firsts_length : (names seen : List (List ℕ)) → length (firsts seen names) ≤ length seen + length names
-firsts_length [] seen = omega arith
-firsts_length (x ∷ names) seen = omega (arith, firsts_length names (with_name x seen), with_length x seen)
+names_long : (names : List (List ℕ)) → length names ≤ names_size names
+names_long [] = omega arith
+names_long (x ∷ names) = omega (arith, names_long names)
 
 pub bytes_append : (a b : List (List ℕ)) → AreBytes a → AreBytes b → AreBytes (a ++ b)
 bytes_append [] b h k = k
@@ -238,3 +231,6 @@ module _ (own symbols : List (List ℕ)) where
     all_statics_below no_drafts = omega arith
     all_statics_below (and_draft e es) =
         omega (arith, sizes_append symbols (symbols_in e) (symbols_in_each es) (quotes_in e) (quotes_in_each es) (globals_in own e) (globals_in_each own es), statics_below e, all_statics_below es)
+
+pub symbols_counted : (es : Drafts) → length (symbols_in_each es) ≤ statics_in_each es
+symbols_counted es = omega (arith, names_long (symbols_in_each es), all_statics_below [] [] es)

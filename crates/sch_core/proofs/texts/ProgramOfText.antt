@@ -16,15 +16,16 @@ use Rattle.sch_sketch.specs.Soundness.{IsSound, AreSound}
 use Rattle.sch_sketch.specs.Definitions.{is_define_word}
 use Rattle.sch_form_bodies.specs.Assignments.{row_define}
 use Rattle.sch_form_bodies.proofs.SoundDefinitions.{define_sound}
+use Rattle.sch_sketch.specs.DraftMeasures.{size_each}
+use Rattle.sch_link_tables.specs.Named.{symbols_in_each}
 use Rattle.sch_link_tables.specs.Numbered.{numbered_each}
 use Rattle.sch_link_tables.specs.Programs.{Definition, seen, program_of}
 use Rattle.sch_link_program.specs.Ranged.{IsValidOnceRanged}
 use Rattle.sch_link_program.specs.Size.{size_of_definitions}
-use Rattle.sch_link_program.proofs.ProgramSize.{program_size}
+use Rattle.sch_link_program.proofs.ProgramSize.{program_size, count_numbered}
 use Rattle.sch_core.specs.LibraryDefinitions.{AreDefinitions, AreOrdered, procedures_of_each}
 use Rattle.sch_core.specs.Quotable.{AllQuotable}
 use Rattle.sch_core.specs.SizesOfStatics.{statics_in_each}
-use Rattle.sch_core.proofs.numbered.Sites.{count_numbered}
 use Rattle.sch_toplevel.specs.Forms.{forms_in, form_sketch, own_names, text_globals, form_places}
 use Rattle.sch_toplevel.specs.Texts.{FormsExpand, IsFaultOf, IsRead, TextExpands}
 use Rattle.sch_toplevel.proofs.TextLaws.{text_made, text_fault}
@@ -33,8 +34,9 @@ use Rattle.sch_core.specs.Excess.{AreFew}
 use Rattle.sch_core.specs.Programs.{IsProgramOf, ExceedsAt}
 use Rattle.sch_core.specs.Excess.{first_excess}
 use Rattle.sch_core.proofs.ExcessWithoutNumbers.{alike_each, first_alike}
+use Rattle.sch_core.proofs.sizes.StaticsOfPrograms.{symbols_counted}
 use Rattle.sch_core.proofs.texts.TextSizes.{counted, sized_each, forms_weigh}
-use Rattle.sch_core.proofs.texts.ValidTexts.{valid_program}
+use Rattle.sch_core.proofs.texts.ValidTexts.{text_statics, valid_program}
 
 -- ## Forms are sound, and each has a place
 
@@ -91,6 +93,14 @@ module _ (ds : List Definition) (items : Data) (given own : List (List ℕ)) (o 
     expands : TextExpands (seen ds) items faultless.names es
     expands = text_made (seen ds) items faultless
 
+    pub few_nodes : size_each es ≤ 16 * weights items
+    few_nodes =
+        let f = sized_each (text_globals (seen ds) items faultless.names) expands.expands (forms_sound (forms_in items) true) in
+        omega (arith, f, forms_weigh items)
+
+    pub few_symbols : length (symbols_in_each es) ≤ 2 * weights items
+    few_symbols = omega (arith, symbols_counted es, text_statics (text_globals (seen ds) items faultless.names) items es expands.expands)
+
     abbrev program : Source
     program = program_of ds own es
 
@@ -132,8 +142,7 @@ module _ (ds : List Definition) (items : Data) (given own : List (List ℕ)) (o 
         pub small : (p : Source) → p ≡ program_of ds own es → nodes_and_bound p ≤ 16 * weights items + size_of_definitions ds
         small p q =
             let s = program_size ds own es in
-            let f = sized_each (text_globals (seen ds) items faultless.names) expands.expands (forms_sound (forms_in items) true) in
-            rw q (omega (arith, s, f, forms_weigh items))
+            rw q (omega (arith, s, few_nodes))
 
         pub places_are : (p : Source) → p ≡ program_of ds own es → length (form_places items) ≡ count p.forms
         places_are p q = as_many ds items faultless.names own es expands.expands ∙ ap (λ m. count m.forms) (sym q)

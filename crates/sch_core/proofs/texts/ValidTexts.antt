@@ -2,6 +2,7 @@
 use Rattle.std.proofs.Common.{◌≡◌, inl, inr, ◌≤◌, ℕ, ◌+◌, ◌*◌, Bool, true, false, cond, List, [], ◌∷◌, ◌++◌, length, map, Option, Some, None, refl, sym, ap, ◌∙◌, subst, arith, append_assoc}
 use Rattle.std.specs.Str.{bytes_eq}
 use Rattle.std.proofs.lemmas.Bool.{or_cases}
+use Rattle.std.proofs.lemmas.Option.{none-some}
 use Rattle.sch_word.proofs.facts.Booleans.{and_parts}
 use Rattle.sch_lang.specs.Tree.{Expressions, no_expressions, and_expression, count}
 use Rattle.sch_lang.specs.Valid.{is_valid}
@@ -30,13 +31,12 @@ use Rattle.sch_core.specs.SizesOfStatics.{statics_in_each}
 use Rattle.sch_core.proofs.numbered.Names.{left, right, all_among}
 use Rattle.sch_link_program.proofs.NameSets.{among_append}
 use Rattle.sch_core.proofs.programs.Starts.{equal, among_left, among_right, among_cons, seen_named}
-use Rattle.sch_core.proofs.programs.ValidForms.{forms_constants, valid_text}
+use Rattle.sch_core.proofs.programs.ValidForms.{forms_constants, forms_statics, valid_text}
 use Rattle.sch_toplevel.specs.Forms.{is_begin_word, forms_of, forms_in, form_sketch, defined_by, defined_by_each, defined, own_names, text_globals, form_places}
 use Rattle.sch_toplevel.specs.Texts.{FormsExpand, SketchesExpand}
 use Rattle.sch_core.specs.declared.error.Kind.{Kind}
 use Rattle.sch_core.specs.Excess.{excess, at_place, first_excess, LambdasAreFew, FormsAreFew, definition_excess, AreFew}
 use Rattle.sch_core.proofs.DataKnown.{all_quotable}
-use Rattle.sch_core.proofs.DataLaws.{none_some}
 use Rattle.sch_core.proofs.ExcessWithoutNumbers.{same_excess, alike}
 
 -- ## Names
@@ -214,6 +214,10 @@ mutual
   data_weigh none = omega arith
   data_weigh (cons d ds) = omega (arith, weigh_append (forms_of d) (forms_in ds), datum_weighs d, data_weigh ds)
 
+-- the symbols, the literals and the globals of a text
+pub text_statics : (g : Globals) (items : Data) (es : Drafts) → FormsExpand g items es → statics_in_each es ≤ 2 * weights items
+text_statics g items es p = omega (arith, forms_statics g (map form_of (forms_in items)) es (forms_expand g items es p), data_weigh items)
+
 -- data that may be quoted
 abbrev Quotable : List Datum → Type 0
 Quotable ds = AreOfData (map form_of ds)
@@ -258,7 +262,7 @@ mutual
 -- ## Limits
 
 pub place_none : (at : ℕ) (o : Option Kind) (others : Option (Kind × ℕ)) → at_place at o others ≡ None → (o ≡ None) × (others ≡ None)
-place_none at (Some k) others h = absurd (none_some (sym h))
+place_none at (Some k) others h = absurd (none-some _ (sym h))
 place_none at None others h = (refl, h)
 
 forms_few : (places : List ℕ) (es : Expressions) → length places ≡ count es → first_excess places es ≡ None → FormsAreFew es

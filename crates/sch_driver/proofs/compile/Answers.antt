@@ -16,6 +16,7 @@ use Rattle.sch_driver.proofs.Images.{bound_chain, frame_chain, kept_error, names
 use Rattle.sch_driver.proofs.PrintableListing.{printable}
 use Rattle.sch_driver.proofs.RoundSteps.{in_time}
 use Rattle.sch_driver.proofs.SmallTexts.{completed}
+use Rattle.sch_driver.proofs.labels.FewLabels.{few_labels}
 use Rattle.sch_driver.proofs.compile.Goals as goal
 
 pub read_program-requires : goal.read_program-requires
@@ -34,7 +35,12 @@ control_program-requires c =
     }
 
 pub assemble-requires : goal.assemble-requires
-assemble-requires c = record { covered = c.in_ok-control.ensures.covered }
+assemble-requires c =
+    let made = c.in_ok-control.ensures in
+    record {
+      covered = made.covered;
+      labels = few_labels (source c.in_ok-program.program) (control.source c.in_ok-control.control) c.in_ok-program.ensures.size made.calls made.tests made.names;
+    }
 
 pub returns-in_err-program-clause-refused : goal.returns-in_err-program-clause-refused
 returns-in_err-program-clause-refused c =

@@ -5,7 +5,8 @@ use Rattle.std.specs.Prelude.{codes}
 use Rattle.std.specs.Fmt.{digits}
 use Rattle.sch_word.specs.declared.answer.Answer.TheVariants.{Took, Failed}
 use Rattle.sch_word.specs.runs.Runs.{ended}
-use Rattle.sch_lang.specs.Examples.{minus, plain_run, heap_run, ends, goes_on, assigned_formals, assigned_local, call_of_number, car_of_number, counter, divide_by_zero, divisions, endless, even_odd, library_call, loop_of, nested_literal, nested_nine, pairs, past_the_end, put_next, put_number, put_texts, recursive_inits, right_then_wrong_count, rest_list, sum_line, swap_thrice, two_orders, two_orders_table, two_procedures, unset_global, unset_init, written_literal, wrong_count}
+use Rattle.sch_word.specs.runs.WorkedRuns.{ends}
+use Rattle.sch_lang.specs.Examples.{minus, plain_run, heap_run, goes_on, assigned_formals, assigned_local, call_of_number, car_of_number, counter, divide_by_zero, divisions, endless, even_odd, library_call, loop_of, nested_literal, nested_nine, pairs, past_the_end, put_next, put_number, put_texts, recursive_inits, right_then_wrong_count, rest_list, sum_line, swap_thrice, two_orders, two_orders_table, two_procedures, unset_global, unset_init, written_literal, wrong_count}
 use Rattle.sch_word.specs.runs.Answers.{TakesNothing}
 use Rattle.sch_lang.specs.Run.{run}
 use Rattle.sch_lang.specs.Valid.{is_valid}

@@ -7,7 +7,8 @@ use Rattle.sch_word.specs.declared.constant.Const.TheVariants.{Nil, Unspecified}
 use Rattle.sch_word.specs.declared.primitive.Primitive.TheVariants.{Add, Cons}
 use Rattle.sch_lang.specs.Tree.{Expression, Lambdas, Source, expressions, constant, local, global, set_local, set_global, define, branch, sequence, bind, fix, letrec, lambda, operation, no_lambdas, and_lambda}
 use Rattle.sch_lang.specs.Run.{run}
-use Rattle.sch_lang.specs.Examples.{plain_run, heap_run, ends, program, call_of_number, number, boolean, function, apply, put, two}
+use Rattle.sch_word.specs.runs.WorkedRuns.{ends}
+use Rattle.sch_lang.specs.Examples.{plain_run, heap_run, program, call_of_number, number, boolean, function, apply, put, two}
 
 -- ## Orders
 

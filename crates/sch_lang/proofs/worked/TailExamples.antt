@@ -3,7 +3,8 @@
 use Rattle.std.proofs.Common.{◌≡◌, ℕ, refl, true, false, List, [], ◌∷◌, pos}
 use Rattle.sch_word.specs.declared.primitive.Primitive.TheVariants.{Equal, Subtract, Cdr}
 use Rattle.sch_lang.specs.Tree.{Expression, Source, expressions, local, global, set_local, set_global, define, branch, sequence, bind, fix, letrec, no_lambdas, and_lambda}
-use Rattle.sch_lang.specs.Examples.{plain_run, ends, program, number, function, apply, one, two}
+use Rattle.sch_word.specs.runs.WorkedRuns.{ends}
+use Rattle.sch_lang.specs.Examples.{plain_run, program, number, function, apply, one, two}
 use Rattle.sch_lang.specs.Valid.{is_valid}
 
 -- ## Tail contexts

@@ -4,7 +4,8 @@
 use Rattle.std.proofs.Common.{◌≡◌, ◌+◌, ℕ, refl, false, List, [], ◌∷◌, pos}
 use Rattle.sch_word.specs.declared.primitive.Primitive.TheVariants.{Add, Eq}
 use Rattle.sch_lang.specs.Tree.{Expression, Source, expressions, local, set_local, set_global, define, branch, sequence, bind, fix, letrec, no_lambdas, and_lambda}
-use Rattle.sch_lang.specs.Examples.{plain_run, ends, program, number, boolean, function, apply, two}
+use Rattle.sch_word.specs.runs.WorkedRuns.{ends}
+use Rattle.sch_lang.specs.Examples.{plain_run, program, number, boolean, function, apply, two}
 
 -- ## Assigned variables
 

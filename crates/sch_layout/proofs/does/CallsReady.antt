@@ -4,6 +4,7 @@ use Rattle.std.specs.Prelude.{◌-◌, slice_get}
 use Rattle.std.specs.List.{list_all}
 use Rattle.std.specs.Bool.{MatchBool}
 use Rattle.std.proofs.lemmas.Bool.{and_from, ne_eqb, le-ltb, lt-ltb, ltb-true}
+use Rattle.std.proofs.lemmas.Option.{slice_get_within}
 use Rattle.sch_word.specs.declared.place.Place.{Place}
 use Rattle.sch_word.specs.declared.place.Place.TheVariants.{Reg, Slot}
 use Rattle.sch_word.specs.values.Values.{Value}
@@ -21,17 +22,19 @@ use Rattle.sch_control.specs.Meaning.{Environment, Callee, Result}
 use Rattle.sch_control.specs.Operations.{Procedure, and_value, operand_value, operand_values}
 use Rattle.sch_frames.specs.declared.instruction.Instruction.{Instruction}
 use Rattle.sch_frames.specs.Does.{EndsAs, Follows}
-use Rattle.sch_frames.specs.Meaning.{Cell, Frame, argument, argument_in, argument_register, argument_slot, arguments, closure_register, held, is_slot, link_register, parts, value_in}
-use Rattle.sch_word.specs.values.Places.{same_place}
+use Rattle.sch_frames.specs.Meaning.{Cell, Frame, argument, argument_in, argument_register, argument_slot, arguments, held, parts, value_in}
+use Rattle.sch_word.specs.values.Places.{same_place, closure_place, is_slot, link_place}
+use Rattle.sch_word.proofs.facts.Lists.{some_same}
 use Rattle.sch_frames.proofs.FramePlaces.{slot_of}
 use Rattle.sch_layout.specs.BodyLayout.{Plan, atoms_at, operand_at, operands_at, arguments_at, in_either, target, move_all}
 use Rattle.sch_layout.specs.Laws.{AtomsHave, Behind}
 use Rattle.sch_control.specs.flow.Live.{Mentions}
-use Rattle.sch_layout.specs.Moves.{Move, Contents, EachMove, is_own, reads_own, reads_own_atom}
+use Rattle.sch_layout.specs.Moves.{Contents, EachMove, is_own, reads_own, reads_own_atom}
 use Rattle.sch_layout.specs.SharedPlaces.{Brings, FreeInCall, FreeInTail}
 use Rattle.sch_layout.proofs.does.MovesDo.{seen, operand_seen, moves_do, run}
 use Rattle.sch_layout.proofs.does.OperationsFollow.{have_left, have_right, operand_follows}
 use Rattle.sch_layout.proofs.does.PlacesAgree.{Agrees, Lives, atoms_live, found}
+use Rattle.sch_layout.proofs.MovesHave.{each_mapped}
 
 -- ## Values of operands
 
@@ -64,11 +67,6 @@ values_length environment t (o ∷ operands) (v ∷ vs) h = ap suc (values_lengt
 follows_some : (a b : Option Value) (v : Value) → a ≡ Some v → Follows a b → b ≡ Some v
 follows_some a b v e f = subst (λ o. Follows o b → b ≡ Some v) (sym e) (λ f. f) f
 
-pub below_length : (vs : List Value) (k : ℕ) (v : Value) → slice_get vs k ≡ Some v → k < length vs
-below_length [] k v h = absurd (cc)
-below_length (x ∷ xs) zero v h = omega arith
-below_length (x ∷ xs) (suc k) v h = let i : k < length xs = below_length xs k v h in omega (arith, i)
-
 -- ## What is read where a call takes it
 
 arguments_are : (us : List Value) (places : Place → Cell) (slots : ℕ → Cell) (from : ℕ) → ((k : ℕ) (v : Value) → slice_get us k ≡ Some v → argument places slots (from + k) ≡ Some v)
@@ -78,7 +76,7 @@ arguments_are (u ∷ us) places slots from h =
     ap (λ a. and_value a (arguments places slots (suc from) (length us))) (subst (λ n. argument places slots n ≡ Some u) (omega arith) (h 0 u refl))
     ∙ ap (λ b. and_value (Some u) b) (arguments_are us places slots (suc from) (λ k v e. subst (λ n. argument places slots n ≡ Some v) (omega arith) (h (suc k) v e)))
 
-parts_are : (vs : List Value) (count : ℕ) (places : Place → Cell) (slots : ℕ → Cell) → length vs ≡ suc count → ((v : Value) → slice_get vs 0 ≡ Some v → value_in (places closure_register) ≡ Some v)
+parts_are : (vs : List Value) (count : ℕ) (places : Place → Cell) (slots : ℕ → Cell) → length vs ≡ suc count → ((v : Value) → slice_get vs 0 ≡ Some v → value_in (places closure_place) ≡ Some v)
     → ((k : ℕ) (v : Value) → slice_get vs (suc k) ≡ Some v → argument places slots k ≡ Some v) → parts places slots count ≡ Some vs
 parts_are [] count places slots l c h = absurd (omega (arith, l))
 parts_are (u ∷ us) count places slots l c h =
@@ -101,7 +99,7 @@ module _ (words : ℕ) where
       → ((k : ℕ) (v : Value) → slice_get vs k ≡ Some v → value_in (seen words g (target true words k)) ≡ Some v) → parts g.places (λ j. g.places (Slot j)) count ≡ Some vs
   tail_parts vs count g l few h =
       parts_are vs count g.places (λ j. g.places (Slot j)) l (λ v e. h 0 v e)
-      (λ k v e. let lt : suc k < length vs = below_length vs (suc k) v e in at k (omega (arith, lt, l)) (argument_register k) refl ∙ h (suc k) v e) where
+      (λ k v e. let lt : suc k < length vs = slice_get_within vs (suc k) v e in at k (omega (arith, lt, l)) (argument_register k) refl ∙ h (suc k) v e) where
         at : (k : ℕ) → k < count → (o : Option ℕ) → argument_register k ≡ o → argument_in g.places (λ j. g.places (Slot j)) o (argument_slot k) ≡ value_in (seen words g (in_either o (argument_slot k)))
         at k lt (Some r) e = refl
         at k lt None e =
@@ -120,7 +118,7 @@ module _ (words : ℕ) where
     by None = let lt : j < words = ltb-true j words own in ne_eqb j (words + argument_slot k) (λ e. omega (arith, e, lt))
 
   -- and none of a tail call is where the return address is
-  pub target_not_link : (k : ℕ) → same_place link_register (target true words k) ≡ false
+  pub target_not_link : (k : ℕ) → same_place link_place (target true words k) ≡ false
   target_not_link zero = refl
   target_not_link (suc zero) = refl
   target_not_link (suc (suc zero)) = refl
@@ -130,24 +128,20 @@ module _ (words : ℕ) where
   target_not_link (suc (suc (suc (suc (suc (suc zero)))))) = refl
   target_not_link (suc (suc (suc (suc (suc (suc (suc k))))))) = refl
 
-pub each_move : {P Q : Move → Type 0} (moves : List Move) → ((m : Move) → P m → Q m) → EachMove P moves → EachMove Q moves
-each_move [] f h = tt
-each_move (m ∷ moves) f h = (f m h.0, each_move moves f h.1)
-
 module _ (plan : Plan) where
   -- the moves of a call leave a slot that is free of them
   pub call_leaves : (live : ℕ → Type 0) (a : Application ℕ) → Brings plan false (FreeInCall plan live) a → (p : Place) → is_slot p ≡ true → is_own plan.limit p ≡ true
       → ((q : Place) → FreeInCall plan live q → same_place p q ≡ false) → EachMove (λ m. same_place p m.to ≡ false) (plan.moves false a)
-  call_leaves live a b p s own free = each_move (plan.moves false a) (λ m h. by m.temp m.to m.argument h) b.writes where
+  call_leaves live a b p s own free = each_mapped _ _ (plan.moves false a) (λ m h. by m.temp m.to m.argument h) b.writes where
     by : (t : Bool) (to : Place) (k : ℕ) → MatchBool t (FreeInCall plan live to) (to ≡ target false plan.limit k) → same_place p to ≡ false
     by true to k h = free to h
     by false to k h = ap (same_place p) h ∙ target_apart plan.limit p s own k
 
-  pub tail_leaves : (a : Application ℕ) → Brings plan true (FreeInTail plan) a → EachMove (λ m. same_place link_register m.to ≡ false) (plan.moves true a)
-  tail_leaves a b = each_move (plan.moves true a) (λ m h. by m.temp m.to m.argument h) b.writes where
-    by : (t : Bool) (to : Place) (k : ℕ) → MatchBool t (FreeInTail plan to) (to ≡ target true plan.limit k) → same_place link_register to ≡ false
+  pub tail_leaves : (a : Application ℕ) → Brings plan true (FreeInTail plan) a → EachMove (λ m. same_place link_place m.to ≡ false) (plan.moves true a)
+  tail_leaves a b = each_mapped _ _ (plan.moves true a) (λ m h. by m.temp m.to m.argument h) b.writes where
+    by : (t : Bool) (to : Place) (k : ℕ) → MatchBool t (FreeInTail plan to) (to ≡ target true plan.limit k) → same_place link_place to ≡ false
     by true to k h = h
-    by false to k h = ap (same_place link_register) h ∙ target_not_link plan.limit k
+    by false to k h = ap (same_place link_place) h ∙ target_not_link plan.limit k
 
   -- ## Arguments, by what the frame holds
 
@@ -181,12 +175,7 @@ module _ (plan : Plan) where
     all_given [] vs h u own k o e = absurd (cc)
     all_given (x ∷ operands) [] h u own k o e = absurd h
     all_given (x ∷ operands) (v ∷ vs) h u own zero o e =
-        (v, subst (λ z. operand_value start t z ≡ Some v) (the_same (operand_at plan.place x) o e) (one_given x v h.0 (have_left (Lives live) (operand_atoms x) _ u) (have_left (Lives Own) (operand_atoms x) _ own))) where
-          the_same : (y o : Operand Place) → Some y ≡ Some o → y ≡ o
-          the_same y o e = ap (λ z. by y z) e where
-            by : Operand Place → Option (Operand Place) → Operand Place
-            by y None = y
-            by y (Some z) = z
+        (v, subst (λ z. operand_value start t z ≡ Some v) (some_same e) (one_given x v h.0 (have_left (Lives live) (operand_atoms x) _ u) (have_left (Lives Own) (operand_atoms x) _ own)))
     all_given (x ∷ operands) (v ∷ vs) h u own (suc k) o e = all_given operands vs h.1 (have_right (Lives live) (operand_atoms x) _ u) (have_right (Lives Own) (operand_atoms x) _ own) k o e
 
     -- and it is the one that is wanted

@@ -2,6 +2,7 @@
 use Rattle.std.proofs.Common.{◌≡◌, ◌≢◌, ℕ, zero, suc, ◌+◌, ◌<◌, ◌≤◌, List, length, Option, Some, None, Bool, true, false, cond, refl, sym, ap, ◌∙◌, subst, arith, ◌⊎◌, inl, inr}
 use Rattle.std.specs.Prelude.{◌-◌, nat_lt, slice_get}
 use Rattle.std.proofs.lemmas.Bool.{cases_eq, le-ltb, lt-ltb, ltb-true, ltb-false}
+use Rattle.std.proofs.lemmas.Option.{slice_get_within, none-some}
 use Rattle.sch_word.specs.declared.place.Place.{Place}
 use Rattle.sch_word.specs.values.Values.{Value}
 use Rattle.sch_control.specs.declared.body.Entry.{Entry}
@@ -13,14 +14,13 @@ use Rattle.sch_word.specs.runs.Computation.{State}
 use Rattle.sch_frames.specs.declared.instruction.Instruction.{Instruction}
 use Rattle.sch_frames.specs.declared.instruction.Instruction.TheVariants.{Copy}
 use Rattle.sch_frames.specs.Does.{EndsAs, world}
-use Rattle.sch_frames.specs.Meaning.{Cell, Frame, link_register, set, with_place, cell_of, execute_each, entry_places, beginning}
-use Rattle.sch_word.specs.values.Places.{same_place}
-use Rattle.sch_frames.specs.Valid.{formals_of}
+use Rattle.sch_frames.specs.Meaning.{Cell, Frame, set, with_place, cell_of, execute_each, entry_places, beginning}
+use Rattle.sch_word.specs.values.Places.{same_place, link_place}
+use Rattle.sch_control.specs.flow.Places.{formals_of}
 use Rattle.sch_frames.proofs.FramePlaces.{set_other, set_self}
 use Rattle.sch_layout.specs.BodyLayout.{Plan, arrived, under, spill, arrivals, entering}
 use Rattle.sch_layout.specs.SharedPlaces.{place_before, Arrives, entered_with}
-use Rattle.sch_layout.proofs.does.PlacesAgree.{Agrees, meant, none_some, same_meant}
-use Rattle.sch_layout.proofs.does.CallsReady.{below_length}
+use Rattle.sch_layout.proofs.does.PlacesAgree.{Agrees, meant, same_meant}
 use Rattle.sch_layout.proofs.does.MovesDo.{under_does}
 use Rattle.sch_word.proofs.facts.Places.{places_same}
 
@@ -56,7 +56,7 @@ module _ (plan : Plan) (live : ℕ → Type 0) (count : ℕ) (come : Arrives pla
     handed : (j : ℕ) → 6 + (suc (suc (suc (suc (suc (suc j))))) - 6) ≡ suc (suc (suc (suc (suc (suc j)))))
     handed j = omega arith
 
-  first : plan.place 0 ≡ link_register → Standing 1 (entry_places self arguments)
+  first : plan.place 0 ≡ link_place → Standing 1 (entry_places self arguments)
   first link zero v l lt e = ap (entry_places self arguments) link ∙ arrives 0 v e
   first link (suc x) v l lt e = ap (entry_places self arguments) (stands_arrived plan 1 (suc x) (omega arith)) ∙ arrives (suc x) v e
 
@@ -97,22 +97,22 @@ module _ (plan : Plan) (live : ℕ → Type 0) (count : ℕ) (come : Arrives pla
 
   agrees : (e : Entry) → count ≡ 2 + e.formals → length arguments ≡ e.formals → (places : Place → Cell) → Standing count places
       → {kept : ℕ → Type 0} → Agrees plan live kept (control_run.beginning (Some e) self arguments) nothing places
-  agrees e c l places a {kept} = record { here = λ x v lx h. here x v lx h (few x v h); home = λ x v s k h. none_some v h } where
+  agrees e c l places a {kept} = record { here = λ x v lx h. here x v lx h (few x v h); home = λ x v s k h. absurd (none-some v h) } where
     few : (x : ℕ) (v : Value) → entry_environment self arguments x ≡ Some v → x < count
     few zero v h = omega (arith, c)
     few (suc zero) v h = omega (arith, c)
-    few (suc (suc k)) v h = let i : k < length arguments = below_length arguments k v h in omega (arith, c, l, i)
+    few (suc (suc k)) v h = let i : k < length arguments = slice_get_within arguments k v h in omega (arith, c, l, i)
 
     here : (x : ℕ) (v : Value) → live x → entry_environment self arguments x ≡ Some v → x < count → places (plan.place x) ≡ meant x v
     here x v lx h lt = ap places (sym (stands_placed plan count x lt)) ∙ a x v lx lt h
 
 -- What is done behind the entering code is done from the values of the live variables in their places.
-pub enters : (plan : Plan) (live kept : ℕ → Type 0) → plan.place 0 ≡ link_register → (entry : Option Entry) → Arrives plan live (entered_with entry)
+pub enters : (plan : Plan) (live kept : ℕ → Type 0) → plan.place 0 ≡ link_place → (entry : Option Entry) → Arrives plan live (entered_with entry)
     → (self : Value) (arguments : List Value) → length arguments ≡ formals_of entry → (callee : Callee) (depth : ℕ) (rest : List Instruction) (s : State Procedure) (r : Result)
     → ((f : Frame) (marks : List MarkKind) → Agrees plan live kept (control_run.beginning entry self arguments) nothing f.places → EndsAs r (execute_each callee depth rest None f (world s marks)))
     → (marks : List MarkKind) → EndsAs r (execute_each callee depth (entering plan entry rest) None (beginning entry self arguments) (world s marks))
 enters plan live kept link None come self arguments l callee depth rest s r go marks =
-    go (beginning None self arguments) marks (record { here = λ x v lx h. none_some v h; home = λ x v s k h. none_some v h })
+    go (beginning None self arguments) marks (record { here = λ x v lx h. absurd (none-some v h); home = λ x v s k h. absurd (none-some v h) })
 enters plan live kept link (Some e) come self arguments l callee depth rest s r go marks =
     arrive plan live (2 + e.formals) come self arguments callee depth (suc e.formals) 1 rest _ s r (omega arith) (first plan live (2 + e.formals) come self arguments link)
     (λ f marks a. go f marks (agrees plan live (2 + e.formals) come self arguments e refl l f.places a)) marks

@@ -15,10 +15,27 @@ use Rattle.sch_control.specs.Tree.{Expression, perform, bind, sequence, branch, 
 use Rattle.sch_control.specs.Valid.{member_variables}
 use Rattle.sch_frames.specs.declared.instruction.Instruction.{Instruction}
 use Rattle.sch_frames.specs.declared.instruction.Instruction.TheVariants.{Do, Store, Copy, Pass, Call, Tail, Label, Mark}
-use Rattle.sch_frames.specs.Meaning.{Frame, is_slot, sought, execute_each}
-use Rattle.sch_word.specs.values.Places.{same_place}
+use Rattle.sch_frames.specs.Meaning.{Frame, sought, execute_each}
+use Rattle.sch_word.specs.values.Places.{same_place, is_slot}
 use Rattle.sch_layout.specs.BodyLayout.{Plan, under, spill, move_mark, writing, is_direct, move_into, move_all, carried, stored, loaded, leave, labels, lay}
 use Rattle.sch_layout.specs.Moves.{Move}
+
+-- what writes a place is no label
+pub sought_writing : (words l : ℕ) (to : Place) → sought l (writing words to) ≡ Some l
+sought_writing words l (Reg r) = refl
+sought_writing words l (Slot j) = by (nat_lt j words) where
+  by : (t : Bool) → sought l (cond t (Store (Slot j)) (Pass (j - words))) ≡ Some l
+  by true = refl
+  by false = refl
+
+-- the label of a test, if it has one, is below a number
+abbrev pub Below : Option ℕ → ℕ → Type 0
+Below None n = Unit {0}
+Below (Some l) n = l < n
+
+pub below_up : (test : Option ℕ) (n m : ℕ) → n < suc m → Below test n → Below test m
+below_up None n m h b = tt
+below_up (Some l) n m h b = omega (arith, h, b)
 
 module _ (callee : Callee) (depth : ℕ) (plan : Plan) where
   abbrev run : List Instruction → Option ℕ → Frame → World → Result
@@ -36,13 +53,6 @@ module _ (callee : Callee) (depth : ℕ) (plan : Plan) where
   past_under (Some m) i l e rest f w = ap (λ t. run rest t f w) e
 
   -- ## Moves
-
-  sought_writing : (words l : ℕ) (to : Place) → sought l (writing words to) ≡ Some l
-  sought_writing words l (Reg r) = refl
-  sought_writing words l (Slot j) = by (nat_lt j words) where
-    by : (t : Bool) → sought l (cond t (Store (Slot j)) (Pass (j - words))) ≡ Some l
-    by true = refl
-    by false = refl
 
   past_move : (words : ℕ) (to : Place) (m : Option MarkKind) (o : Operand Place) (rest : List Instruction) (l : ℕ) (f : Frame) (w : World)
       → run (move_into words to m o rest) (Some l) f w ≡ run rest (Some l) f w

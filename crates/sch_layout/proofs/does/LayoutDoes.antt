@@ -34,7 +34,8 @@ use Rattle.sch_control.specs.Valid.{member_variables}
 use Rattle.sch_frames.specs.declared.instruction.Instruction.{Instruction}
 use Rattle.sch_frames.specs.declared.instruction.Instruction.TheVariants.{Store, Copy, Fix, Call, Tail, Return, Jump, Label, Mark}
 use Rattle.sch_frames.specs.Does.{Follows, unmarked, EndsAs, world, CalleesFollow}
-use Rattle.sch_frames.specs.Meaning.{Cell, Is, Frame, link_register, is_slot, value_in, held, with_place, with_members, parts, after_call, if_link, execute_each}
+use Rattle.sch_word.specs.values.Places.{link_place, is_slot}
+use Rattle.sch_frames.specs.Meaning.{Cell, Is, Frame, value_in, held, with_place, with_members, parts, after_call, if_link, execute_each}
 use Rattle.sch_frames.proofs.EndsAlike.{onto_end, with_value_ends, on_outcome_ends, on_return_ends, call_in_ends, with_procedures_follow, either_ends}
 use Rattle.sch_layout.specs.BodyLayout.{Plan, sources_at, members_at, operation_at, spill, unmarked_reading, stored, loaded, leave, labels, lay}
 use Rattle.sch_layout.specs.Laws.{AtomsHave, Behind, MembersUse, Uses}
@@ -47,7 +48,7 @@ use Rattle.sch_layout.proofs.does.PlacesAgree.{Lives, atoms_live, Agrees, Stored
 use Rattle.sch_layout.proofs.does.CallsReady.{Values, values_are, values_length, call_parts, tail_parts, brings_do, call_leaves, tail_leaves}
 use Rattle.sch_layout.proofs.does.MovesDo.{under_does}
 use Rattle.sch_layout.proofs.does.OperationsFollow.{operate_follows, members_follow}
-use Rattle.sch_layout.proofs.does.LabelsPassed.{past, past_label}
+use Rattle.sch_layout.proofs.does.LabelsPassed.{past, past_label, Below, below_up}
 
 -- ## Groups in their places
 
@@ -208,14 +209,6 @@ module _ (plan : Plan) (homes : Homes plan) (callee callee' : Callee) (follow : 
   Next inside L test rest next = (v : Value) (environment saved : Environment) (f : Frame) (s : State Procedure) (marks marks' : List MarkKind)
       → Agrees plan (λ x. L x (is_true v)) (Kept inside (λ x. L x (is_true v))) environment saved f.places → f.accumulator ≡ Is v → EndsAs (next v environment saved (world s marks)) (go_on test v rest f (world s marks'))
 
-  abbrev Below : Option ℕ → ℕ → Type 0
-  Below None n = Unit {0}
-  Below (Some l) n = l < n
-
-  below_up : (test : Option ℕ) (n m : ℕ) → n < suc m → Below test n → Below test m
-  below_up None n m h b = tt
-  below_up (Some l) n m h b = omega (arith, h, b)
-
   -- behind the first arm, over the other arm to the end
   joined : (c : Expression) (inside : ℕ → Bool) (n m : ℕ) (test : Option ℕ) (rest : List Instruction) (v : Value) (f : Frame) (w : World) → suc n < m → Below test n
       → go_on test v (Jump (suc n) ∷ (Label n ∷ lay plan c inside m test (Label (suc n) ∷ rest))) f w ≡ go_on test v rest f w
@@ -248,7 +241,7 @@ module _ (plan : Plan) (homes : Homes plan) (callee callee' : Callee) (follow : 
   same_return environment saved rest f s marks marks' v r e = by (environment 0) refl where
     by : (o : Option Value) → environment 0 ≡ o
         → EndsAs (with_value o (λ link. Some (gives v (marked mark.Return (world s marks)))))
-        (if_link (f.places link_register) (with_value (value_in f.accumulator) (λ v. Some (gives v (marked mark.Return (world s marks'))))))
+        (if_link (f.places link_place) (with_value (value_in f.accumulator) (λ v. Some (gives v (marked mark.Return (world s marks'))))))
     by None i = tt
     by (Some u) i =
         ap (λ c. unmarked (if_link c (with_value (value_in f.accumulator) (λ v. Some (gives v (marked mark.Return (world s marks'))))))) (ap f.places (sym homes.link) ∙ r.here 0 u refl i)
@@ -421,7 +414,7 @@ module _ (plan : Plan) (homes : Homes plan) (callee callee' : Callee) (follow : 
         (Mark (mark.Tail a.site) ∷ (Tail a.spread (length a.operands) ∷ rest)) _
         (λ g marks' there kept. onto_end _ (call_in callee' a.spread true depth vs (world s (marks' ++ mark.Tail a.site ∷ []))) _
         (ap (λ c. if_link c (with_value (parts g.places (λ j. g.places (Slot j)) (length a.operands)) (λ vs. call_in callee' a.spread true depth vs (world s (marks' ++ mark.Tail a.site ∷ [])))))
-        (kept link_register (tail_leaves plan a b) ∙ (ap f.places (sym homes.link) ∙ r.here 0 back (inl refl) eo))
+        (kept link_place (tail_leaves plan a b) ∙ (ap f.places (sym homes.link) ∙ r.here 0 back (inl refl) eo))
         ∙ ap (λ o. with_value o (λ vs. call_in callee' a.spread true depth vs (world s (marks' ++ mark.Tail a.site ∷ []))))
         (tail_parts plan.limit vs (length a.operands) g (values_length environment s.store (a.operator ∷ a.operands) vs values) few there))
         (call_in_ends callee callee' follow a.spread true depth vs s (marks ++ mark.Tail a.site ∷ []) (marks' ++ mark.Tail a.site ∷ []))) marks'

@@ -1,7 +1,8 @@
 -- What a body's places hold: the values of its live variables, and where it returns; and the same of what is saved.
-use Rattle.std.proofs.Common.{◌≡◌, ◌≢◌, ℕ, zero, suc, List, [], ◌∷◌, length, Option, Some, None, Bool, true, false, cond, refl, sym, ap, ◌∙◌, subst, arith, ◌⊎◌, inl, inr}
+use Rattle.std.proofs.Common.{◌≡◌, ℕ, zero, suc, List, [], ◌∷◌, length, Option, Some, None, Bool, true, false, cond, refl, sym, ap, ◌∙◌, subst, arith, ◌⊎◌, inl, inr}
 use Rattle.std.specs.Prelude.{nat_eq}
 use Rattle.std.proofs.lemmas.Bool.{eqb-true, eqb-false, eq-eqb, ne_eqb}
+use Rattle.std.proofs.lemmas.Option.{none-some}
 use Rattle.sch_word.specs.declared.place.Place.{Place}
 use Rattle.sch_word.specs.declared.place.Place.TheVariants.{Reg, Slot}
 use Rattle.sch_word.specs.trees.NumberSets.{has}
@@ -14,12 +15,13 @@ use Rattle.sch_control.specs.declared.operation.Member.{Member}
 use Rattle.sch_control.specs.Meaning.{Environment, put, put_each}
 use Rattle.sch_control.specs.Valid.{member_variables}
 use Rattle.sch_frames.specs.Does.{Follows}
-use Rattle.sch_frames.specs.Meaning.{Cell, Is, Link, Junk, Frame, value_in, held, is_slot, set, with_place, with_members}
-use Rattle.sch_word.specs.values.Places.{same_place}
+use Rattle.sch_frames.specs.Meaning.{Cell, Is, Link, Junk, Frame, value_in, held, set, with_place, with_members}
+use Rattle.sch_word.specs.values.Places.{same_place, is_slot}
 use Rattle.sch_frames.specs.Meaning as frames
 use Rattle.sch_frames.proofs.FramePlaces.{set_other, set_self}
 use Rattle.sch_layout.specs.BodyLayout.{Plan, members_at}
 use Rattle.sch_control.specs.flow.Live.{Mentions, Across}
+use Rattle.sch_control.proofs.Environments.{put_same, put_other}
 use Rattle.sch_layout.specs.SharedPlaces.{Homes, Alone}
 use Rattle.sch_layout.specs.Laws.{AtomsHave, Behind, MembersUse}
 
@@ -65,9 +67,6 @@ flipped (Slot a) (Slot b) e = ne_eqb b a (λ i. eqb-false a b e (sym i))
 flipped (Reg a) (Slot b) e = refl
 flipped (Slot a) (Reg b) e = refl
 
-pub none_some : {A : Type 0} (v : Value) → None ≡ Some v → A
-none_some v e = absurd (cc)
-
 -- what two equal values mean
 abbrev meant_by : ℕ → Option Value → Cell
 meant_by x None = Junk
@@ -75,12 +74,6 @@ meant_by x (Some v) = meant x v
 
 pub same_meant : (x : ℕ) (v u : Value) → Some v ≡ Some u → meant x v ≡ meant x u
 same_meant x v u e = ap (meant_by x) e
-
-pub put_self : (environment : Environment) (x : ℕ) (v : Value) → put environment x v x ≡ Some v
-put_self environment x v = ap (λ t. cond t (Some v) (environment x)) (eq-eqb x x refl)
-
-pub put_other : (environment : Environment) (x : ℕ) (v : Value) (y : ℕ) → y ≢ x → put environment x v y ≡ environment y
-put_other environment x v y n = ap (λ t. cond t (Some v) (environment y)) (ne_eqb y x n)
 
 module _ (plan : Plan) where
   -- environments that are the same at each variable agree alike
@@ -111,7 +104,7 @@ module _ (plan : Plan) (homes : Homes plan) where
     by : (y : ℕ) (u : Value) → live y → (t : Bool) → nat_eq y x ≡ t → put environment x v y ≡ Some u → set places (plan.place x) c (plan.place y) ≡ meant y u
     by y u l true i h =
         subst (λ z. put environment x v z ≡ Some u → set places (plan.place x) c (plan.place z) ≡ meant z u) (sym (eqb-true y x i))
-        (λ h. set_self places (plan.place x) c ∙ (e ∙ same_meant x v u (sym (put_self environment x v) ∙ h))) h
+        (λ h. set_self places (plan.place x) c ∙ (e ∙ same_meant x v u (sym (put_same environment x v) ∙ h))) h
     by y u l false i h =
         set_other places (plan.place x) (plan.place y) c (free y l (eqb-false y x i))
         ∙ r.here y u (eqb-false y x i, l) (sym (put_other environment x v y (eqb-false y x i)) ∙ h)
@@ -201,4 +194,4 @@ module _ (plan : Plan) (homes : Homes plan) where
 
     by : (x : ℕ) (v : Value) → live x → (t : Bool) → is_slot (plan.place x) ≡ t → cond t (environment x) None ≡ Some v → frames.kept places' (plan.place x) ≡ meant x v
     by x v l true s h = slot (plan.place x) s ∙ k x l s ∙ r.here x v l h
-    by x v l false s h = none_some v h
+    by x v l false s h = absurd (none-some v h)

@@ -16,9 +16,9 @@ use Rattle.sch_control.specs.flow.Bare.{erased}
 use Rattle.sch_control.proofs.RegisterUnits.{codes_fit}
 use Rattle.sch_frames.specs.declared.instruction.Instruction.{Instruction}
 use Rattle.sch_frames.specs.declared.instruction.Instruction.TheVariants.{Call, Copy, End, Jump, Label, Mark, Return, Store, Tail}
-use Rattle.sch_frames.specs.Meaning.{is_slot}
+use Rattle.sch_word.specs.values.Places.{is_slot}
 use Rattle.sch_frames.specs.Sizes as frames
-use Rattle.sch_frames.specs.Sizes.{closures_in, codes_size, copies_of, jumped}
+use Rattle.sch_frames.specs.Sizes.{closures_in, codes_size, copies_of}
 use Rattle.sch_frames.specs.Tree as frame_tree
 use Rattle.sch_layout.specs.BodyLayout.{Plan, arrived, carried, entering, labels, lay, leave, loaded, member_at, spill, stored, under}
 use Rattle.sch_layout.specs.FewCopies.{Few, FewCopiesFit, MayStand, body_layout, in_registers, most_saved, work_in}
@@ -166,7 +166,7 @@ module _ (plan : Plan) where
 
   -- ## Bodies
 
-  entering_done : (entry : Option Entry) (rest : List Instruction) → work_in (entering plan entry rest) + jumped entry ≤ entry_done entry + work_in rest
+  entering_done : (entry : Option Entry) (rest : List Instruction) → work_in (entering plan entry rest) + entry_done entry ≤ entry_done entry + work_in rest
   entering_done None rest = omega arith
   entering_done (Some e) rest =
       let h = entering_less plan (λ is. work_in is) 0
@@ -180,7 +180,7 @@ module _ (plan : Plan) where
       (λ x rest. spill_has (λ m. copies_of (under m (Copy (plan.place x) (arrived x)) rest) ≤ 1 + copies_of rest) plan x (omega arith) (omega arith)) (Some e) rest in
       omega (arith, h)
 
-  body_done : (entry : Option Entry) (e : Expression) → Few plan (Some (most_saved plan entry)) e → work_in (body_layout plan entry e) + jumped entry ≤ entry_done entry + expression_done e
+  body_done : (entry : Option Entry) (e : Expression) → Few plan (Some (most_saved plan entry)) e → work_in (body_layout plan entry e) + entry_done entry ≤ entry_done entry + expression_done e
   body_done entry e f =
       let h = lay_done (Some (most_saved plan entry)) e no_region 0 None [] f in
       let k = entering_done entry (lay plan e no_region 0 None []) in

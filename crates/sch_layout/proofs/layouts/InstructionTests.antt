@@ -27,17 +27,16 @@ use Rattle.sch_control.specs.Tree.{Expression, perform, bind, sequence, branch, 
 use Rattle.sch_control.specs.Valid.{member_variables, operand_shaped, operands_shaped, operation_shaped, members_shaped, group_shaped, each_part, shaped, Names, atom_known, atoms_known, closure_known, members_known, operation_known, application_known, group_known}
 use Rattle.sch_frames.specs.declared.instruction.Instruction.{Instruction}
 use Rattle.sch_frames.specs.declared.instruction.Instruction.TheVariants.{Do, Store, Copy, Pass, Fix, Call, Tail, Return, End, IfFalse, Jump, Label, Mark}
-use Rattle.sch_frames.specs.Meaning.{is_slot}
-use Rattle.sch_word.specs.values.Places.{same_place}
+use Rattle.sch_word.specs.values.Places.{same_place, is_slot}
 use Rattle.sch_frames.specs.Valid.{are_members, instruction_known, instruction_placed, instruction_shaped, is_atom, is_place}
 use Rattle.sch_layout.specs.BodyLayout.{Plan, arguments_at, source_at, sources_at, atom_at, atoms_at, operand_at, operands_at, members_at, operation_at, arrived, entering, spill, target, under, writing, move_all, stored, loaded, leave, labels, lay}
 use Rattle.sch_layout.specs.Laws.{AtomHas, AtomsHave, MembersUse, Uses}
-use Rattle.sch_layout.specs.Moves.{EachMove, Move}
+use Rattle.sch_layout.specs.Moves.{EachMove}
 use Rattle.sch_layout.specs.SharedPlaces.{entered_with}
 use Rattle.sch_layout.proofs.CarriedCopies.{carried_has}
 use Rattle.sch_layout.proofs.EachCall.{EachCall}
 use Rattle.sch_layout.proofs.EntryCopies.{entering_has, spill_has}
-use Rattle.sch_layout.proofs.MovesHave.{Fits, is_entry, is_target, moves_have, moves_valid}
+use Rattle.sch_layout.proofs.MovesHave.{Fits, is_entry, is_target, moves_have, moves_valid, each_mapped}
 use Rattle.sch_layout.proofs.does.OperationsFollow.{have_left, have_right}
 use Rattle.sch_layout.proofs.does.LayoutDoes.{length_members, length_sources}
 use Rattle.sch_layout.proofs.marks.MarksStand.{as_many}
@@ -153,10 +152,6 @@ Taken os o = ((k : ℕ) × (slice_get os k ≡ Some o)) ⊎ ((p : Place) × (o �
 abbrev pub Takes : Plan → Type 0
 Takes plan = (tail : Bool) (a : Application ℕ) → EachMove (λ m. Taken (arguments_at plan.place a) m.from) (plan.moves tail a)
 
-pub each_mapped : (P Q : Move → Type 0) → ((m : Move) → P m → Q m) → (moves : List Move) → EachMove P moves → EachMove Q moves
-each_mapped P Q f [] h = tt
-each_mapped P Q f (m ∷ moves) h = (f m h.0, each_mapped P Q f moves h.1)
-
 module _ (plan : Plan) (takes : Takes plan) (test : Instruction → Bool) (steers : Steers test) (u : Unplaced test) where
   -- what each operand gives into the accumulator passes the test
   abbrev pub Given : List (Operand ℕ) → Type 0
@@ -186,7 +181,7 @@ module _ (plan : Plan) (takes : Takes plan) (test : Instruction → Bool) (steer
       (λ p to good d m e is h. under_passes plan test steers m e (Copy to p) (u.copies to p) is h)
       (λ o to good m e is h. and_from _ _ good (under_passes plan test steers m e (writing plan.limit to) (writing_passes to) is h))
       (plan.moves tail a)
-      (each_mapped (λ m. Taken (arguments_at plan.place a) m.from) (λ m. test (Do (operation.Operand m.from)) ≡ true) (λ m h. taken_passes (a.operator ∷ a.operands) g m.from h) (plan.moves tail a) (takes tail a))
+      (each_mapped (λ m. Taken (arguments_at plan.place a) m.from) (λ m. test (Do (operation.Operand m.from)) ≡ true) (plan.moves tail a) (λ m h. taken_passes (a.operator ∷ a.operands) g m.from h) (takes tail a))
 
 -- ## Places
 
@@ -300,7 +295,7 @@ module _ (place : ℕ → Place) where
   length_atoms [] = refl
   length_atoms (a ∷ atoms) = ap suc (length_atoms atoms)
 
-  length_operands : (operands : List (Operand ℕ)) → length (operands_at place operands) ≡ length operands
+  pub length_operands : (operands : List (Operand ℕ)) → length (operands_at place operands) ≡ length operands
   length_operands [] = refl
   length_operands (o ∷ operands) = ap suc (length_operands operands)
 

@@ -5,8 +5,8 @@ use Rattle.std.proofs.lemmas.Bool.{ne_eqb, eq-eqb}
 use Rattle.sch_word.proofs.facts.Booleans.{and_left, and_right, false_true}
 use Rattle.sch_word.specs.declared.place.Place.{Place}
 use Rattle.sch_word.specs.declared.place.Place.TheVariants.{Reg, Slot}
-use Rattle.sch_word.specs.values.Values.{Value, is_true, unspecified}
-use Rattle.sch_word.specs.runs.Computation.{gives, stops, spent, State}
+use Rattle.sch_word.specs.values.Values.{Value, is_true}
+use Rattle.sch_word.specs.runs.Computation.{gives, State}
 use Rattle.sch_word.specs.declared.mark.MarkKind.{MarkKind}
 use Rattle.sch_word.specs.declared.mark.MarkKind.TheVariants as mark
 use Rattle.sch_control.specs.declared.operation.Atom.TheVariants.{Constant, Literal, Variable}
@@ -18,13 +18,14 @@ use Rattle.sch_control.specs.declared.operation.Operation.TheVariants as operati
 use Rattle.sch_control.specs.declared.operation.Member.{Member}
 use Rattle.sch_control.specs.AtomsAndSites.{operation_atoms, application_atoms, member_atoms}
 use Rattle.sch_control.specs.Meaning.{heads, no_region, with_region}
-use Rattle.sch_control.specs.Operations.{Procedure, Ending, operate}
+use Rattle.sch_control.specs.Operations.{Procedure, operate}
 use Rattle.sch_control.specs.Tree.{Expression, perform, bind, sequence, branch, fix, call, tail_call, return, end, save}
 use Rattle.sch_control.specs.Valid.{last_position, member_variables, Position, value, no_call, procedure_end, form_end, is_value, ends_procedure, ends_form, positioned}
 use Rattle.sch_frames.specs.declared.instruction.Instruction.{Instruction}
 use Rattle.sch_frames.specs.declared.instruction.Instruction.TheVariants.{Do, Store, Copy, Pass, Call, Tail, Return, Jump, Label, Mark}
-use Rattle.sch_frames.specs.Meaning.{Frame, Is, beginning, held, is_slot, sought}
-use Rattle.sch_word.specs.values.Places.{same_place}
+use Rattle.sch_frames.specs.Meaning.{Frame, Is, beginning, held, sought}
+use Rattle.sch_word.specs.values.Places.{same_place, is_slot}
+use Rattle.sch_word.proofs.facts.Lists.{some_same}
 use Rattle.sch_frames.specs.Ways.{way}
 use Rattle.sch_layout.specs.BodyLayout.{Plan, arrived, arrivals, entering, operation_at, under, spill, move_mark, writing, is_direct, move_into, move_all, carried, stored, loaded, leave, labels, lay}
 use Rattle.sch_layout.specs.Laws.{WaysArePaths}
@@ -32,19 +33,14 @@ use Rattle.sch_layout.specs.Moves.{Move}
 use Rattle.sch_control.specs.flow.Live.{named, AfterValue}
 use Rattle.sch_control.specs.flow.Paths.{Event, Binds, References, Saves, Calls, Tails, Returns, Ends, binding, grouping, IsPath}
 use Rattle.sch_control.proofs.Results.{perhaps}
+use Rattle.sch_control.proofs.Environments.{value_given}
 use Rattle.sch_layout.specs.PathMarks.{if_any, left_by, move_marks, restore_marks, marks_of, path_marks, arrival_marks, entry_marks}
+use Rattle.sch_layout.proofs.does.LabelsPassed.{Below, below_up, sought_writing}
 
 -- ## What a value is known to be
 
-value_given : Ending → Value
-value_given None = unspecified
-value_given (Some (gives v s)) = v
-value_given (Some (stops why s)) = unspecified
-value_given (Some (spent s)) = unspecified
-
 laid_value : (place : ℕ → Place) (at : Place → Option Value) (o : Operation ℕ) (s s' : State Procedure) (v : Value) → operate at (operation_at place o) s ≡ Some (gives v s')
     → (P : Bool → Type 0) → P (is_true v) → AfterValue o P
-unfolding value_given
 laid_value place at (operation.Operand (operand.Atom (Constant c))) s s' v e P p = subst (λ u. P (is_true u)) (sym (ap value_given e)) p
 laid_value place at (operation.Operand (operand.Atom (Literal n))) s s' v e P p = perhaps P (is_true v) p
 laid_value place at (operation.Operand (operand.Atom (Variable y))) s s' v e P p = perhaps P (is_true v) p
@@ -58,13 +54,6 @@ laid_value place at operation.UnsetCell s s' v e P p = perhaps P (is_true v) p
 laid_value place at (operation.CellGet c) s s' v e P p = perhaps P (is_true v) p
 laid_value place at (operation.CellSet c o) s s' v e P p = perhaps P (is_true v) p
 laid_value place at (operation.MakeClosure c) s s' v e P p = perhaps P (is_true v) p
-
-abbrev of_some : Option Value → Value
-of_some None = unspecified
-of_some (Some u) = u
-
-same_given : (v u : Value) → Some v ≡ Some u → v ≡ u
-same_given v u e = ap of_some e
 
 module _ (plan : Plan) where
   -- ## Marks of events
@@ -99,13 +88,6 @@ module _ (plan : Plan) where
       → way (under m i rest) (Some l) f s marks ≡ way rest (Some l) f s marks
   past_under None i l e rest f s marks = ap (λ t. way rest t f s marks) e
   past_under (Some m) i l e rest f s marks = ap (λ t. way rest t f s marks) e
-
-  sought_writing : (words l : ℕ) (to : Place) → sought l (writing words to) ≡ Some l
-  sought_writing words l (Reg r) = refl
-  sought_writing words l (Slot j) = by (nat_lt j words) where
-    by : (t : Bool) → sought l (cond t (Store (Slot j)) (Pass (j - words))) ≡ Some l
-    by true = refl
-    by false = refl
 
   past_move : (words : ℕ) (to : Place) (m : Option MarkKind) (o : Operand Place) (rest : List Instruction) (l : ℕ) (f : Frame) (s : State Procedure) (marks : List MarkKind)
       → way (move_into words to m o rest) (Some l) f s marks ≡ way rest (Some l) f s marks
@@ -237,19 +219,10 @@ module _ (plan : Plan) where
   goes_on None r = None
   goes_on (Some l) r = cond r None (Some l)
 
-  -- the label of a test stands behind
-  abbrev Behind : Option ℕ → ℕ → Type 0
-  Behind None n = Unit {0}
-  Behind (Some l) n = l < n
-
-  behind_more : (test : Option ℕ) (n m : ℕ) → n < suc m → Behind test n → Behind test m
-  behind_more None n m le b = tt
-  behind_more (Some l) n m le b = omega (arith, le, b)
-
   leave_known : (test : Option ℕ) (rest : List Instruction) (v : Value) (f : Frame) (s : State Procedure) (marks : List MarkKind)
       → way (leave test rest) None (record f { accumulator = Is v }) s marks → Onto rest (goes_on test (is_true v)) marks
   leave_known None rest v f s marks w = (_, (s, w))
-  leave_known (Some l) rest v f s marks w = (_, (s, subst (λ u. way rest (cond (is_true u) None (Some l)) (record f { accumulator = Is v }) s marks) (sym (same_given v w.0 w.1.0)) w.1.1))
+  leave_known (Some l) rest v f s marks w = (_, (s, subst (λ u. way rest (cond (is_true u) None (Some l)) (record f { accumulator = Is v }) s marks) (sym (some_same w.1.0)) w.1.1))
 
   leave_any : (test : Option ℕ) (rest : List Instruction) (f : Frame) (s : State Procedure) (marks : List MarkKind)
       → way (leave test rest) None f s marks → (r : Bool) × Onto rest (goes_on test r) marks
@@ -260,7 +233,7 @@ module _ (plan : Plan) where
   found_label m rest f s marks = ap (λ t. way rest (cond t None (Some m)) f s marks) (eq-eqb m m refl)
 
   -- behind the first arm of a branch the way goes on behind the second
-  over_arm : (c : Expression) (inside : ℕ → Bool) (n k : ℕ) (test : Option ℕ) (rest : List Instruction) → suc n < k → Behind test n → (r : Bool) (marks : List MarkKind)
+  over_arm : (c : Expression) (inside : ℕ → Bool) (n k : ℕ) (test : Option ℕ) (rest : List Instruction) → suc n < k → Below test n → (r : Bool) (marks : List MarkKind)
       → Onto (Jump (suc n) ∷ (Label n ∷ lay plan c inside k test (Label (suc n) ∷ rest))) (goes_on test r) marks → Onto rest (goes_on test r) marks
   over_arm c inside n k test rest lt b r marks on = by test r b on where
     jumps : (test : Option ℕ) → Onto (Jump (suc n) ∷ (Label n ∷ lay plan c inside k test (Label (suc n) ∷ rest))) None marks → Onto rest None marks
@@ -274,7 +247,7 @@ module _ (plan : Plan) where
       ),
     )
 
-    by : (test : Option ℕ) (r : Bool) → Behind test n → Onto (Jump (suc n) ∷ (Label n ∷ lay plan c inside k test (Label (suc n) ∷ rest))) (goes_on test r) marks → Onto rest (goes_on test r) marks
+    by : (test : Option ℕ) (r : Bool) → Below test n → Onto (Jump (suc n) ∷ (Label n ∷ lay plan c inside k test (Label (suc n) ∷ rest))) (goes_on test r) marks → Onto rest (goes_on test r) marks
     by None r b on = jumps None on
     by (Some l) true b on = jumps (Some l) on
     by (Some l) false b on = (
@@ -302,7 +275,7 @@ module _ (plan : Plan) where
   )
 
   -- behind the second arm
-  behind_arm : (n : ℕ) (test : Option ℕ) (rest : List Instruction) → Behind test n → (r : Bool) (marks : List MarkKind)
+  behind_arm : (n : ℕ) (test : Option ℕ) (rest : List Instruction) → Below test n → (r : Bool) (marks : List MarkKind)
       → Onto (Label (suc n) ∷ rest) (goes_on test r) marks → Onto rest (goes_on test r) marks
   behind_arm n None rest b r marks on = on
   behind_arm n (Some l) rest b true marks on = on
@@ -338,7 +311,7 @@ module _ (plan : Plan) where
       then_marks (map Binds (member_variables members)) _ marks between rest (e ∙ ap (λ l. l ++ between) (spilled_marks (member_variables members)))
       (then_marks (map References (named (member_atoms members))) _ between between rest (references_marks (named (member_atoms members)) between) f)
 
-  pub through : (e : Expression) (at : Position) → positioned e at ≡ true → is_value at ≡ true → (inside : ℕ → Bool) (n : ℕ) (test : Option ℕ) (rest : List Instruction) → Behind test n
+  pub through : (e : Expression) (at : Position) → positioned e at ≡ true → is_value at ≡ true → (inside : ℕ → Bool) (n : ℕ) (test : Option ℕ) (rest : List Instruction) → Below test n
       → (f : Frame) (s : State Procedure) (marks : List MarkKind) → way (lay plan e inside n test rest) None f s marks → Through e inside test rest marks
   through (perform o) at p v inside n test rest b f s marks w =
       let r : AfterValue o (λ t. t ≡ is_true w.0) = laid_value plan.place (held f) o s w.1.0 w.0 w.1.1.0 (λ t. t ≡ is_true w.0) refl in
@@ -348,7 +321,7 @@ module _ (plan : Plan) where
       let on = first.1.1.1.1.1 in
       let kept = bound_done x inside _ on.0 on.1.0 first.1.1.1.0 on.1.1 in
       let next = kept.1.1 in
-      let second = through b at (and_right (positioned a value) _ p) v inside (n + labels a) test rest (behind_more test n (n + labels a) (omega arith) h) next.0 next.1.0 kept.0 next.1.1 in (
+      let second = through b at (and_right (positioned a value) _ p) v inside (n + labels a) test rest (below_up test n (n + labels a) (omega arith) h) next.0 next.1.0 kept.0 next.1.1 in (
         _,
         (
           second.1.0,
@@ -368,7 +341,7 @@ module _ (plan : Plan) where
   through (sequence a b) at p v inside n test rest h f s marks w =
       let first = through a no_call (and_left (positioned a no_call) _ p) refl inside n None _ tt f s marks w in
       let on = first.1.1.1.1.1 in
-      let second = through b at (and_right (positioned a no_call) _ p) v inside (n + labels a) test rest (behind_more test n (n + labels a) (omega arith) h) on.0 on.1.0 first.1.1.1.0 on.1.1 in (
+      let second = through b at (and_right (positioned a no_call) _ p) v inside (n + labels a) test rest (below_up test n (n + labels a) (omega arith) h) on.0 on.1.0 first.1.1.1.0 on.1.1 in (
         _,
         (
           second.1.0,
@@ -388,7 +361,7 @@ module _ (plan : Plan) where
       → Onto (lay plan b inside (suc (suc (n + labels a))) test (Jump (suc n) ∷ (Label n ∷ lay plan c inside (suc (suc (n + labels a + labels b))) test (Label (suc n) ∷ rest))))
       (goes_on (Some n) t) first.1.1.1.0 → Through (branch a b c) inside test rest marks) [
         | true ↦ λ path on.
-            let second = through b at (and_left (positioned b at) _ arms) v inside (suc (suc (n + labels a))) test _ (behind_more test n _ (omega arith) h) on.0 on.1.0 first.1.1.1.0 on.1.1 in (
+            let second = through b at (and_left (positioned b at) _ arms) v inside (suc (suc (n + labels a))) test _ (below_up test n _ (omega arith) h) on.0 on.1.0 first.1.1.1.0 on.1.1 in (
               _,
               (
                 second.1.0,
@@ -406,7 +379,7 @@ module _ (plan : Plan) where
             )
         | false ↦ λ path on.
             let there = to_arm b c inside n _ _ test rest (omega arith) first.1.1.1.0 on in
-            let second = through c at (and_right (positioned b at) _ arms) v inside (suc (suc (n + labels a + labels b))) test _ (behind_more test n _ (omega arith) h) there.0 there.1.0 first.1.1.1.0 there.1.1 in (
+            let second = through c at (and_right (positioned b at) _ arms) v inside (suc (suc (n + labels a + labels b))) test _ (below_up test n _ (omega arith) h) there.0 there.1.0 first.1.1.1.0 there.1.1 in (
               _,
               (
                 second.1.0,

@@ -16,8 +16,7 @@ use Rattle.sch_control.specs.Tree.{Expression, perform, bind, sequence, branch, 
 use Rattle.sch_control.specs.Valid.{member_variables}
 use Rattle.sch_frames.specs.declared.instruction.Instruction.{Instruction}
 use Rattle.sch_frames.specs.declared.instruction.Instruction.TheVariants.{Do, Store, Copy, Pass, Mark}
-use Rattle.sch_frames.specs.Meaning.{is_slot}
-use Rattle.sch_word.specs.values.Places.{same_place}
+use Rattle.sch_word.specs.values.Places.{same_place, is_slot}
 use Rattle.sch_frames.specs.Valid.{in_slots}
 use Rattle.sch_layout.specs.BodyLayout.{Plan, arrived, arrivals, entering, under, spill, members_at, writing, is_direct, move_into, move_all, stored, loaded, leave, labels, lay}
 use Rattle.sch_layout.specs.Laws.{EntersSlots, LaidMarksStand}

@@ -10,11 +10,11 @@ use Rattle.sch_word.specs.declared.mark.MarkKind.TheVariants as mark
 use Rattle.sch_control.specs.declared.operation.Atom.TheVariants.{Constant, Literal, Variable}
 use Rattle.sch_control.specs.declared.operation.Operand.{Operand}
 use Rattle.sch_control.specs.declared.operation.Operand.TheVariants as operand
-use Rattle.sch_frames.specs.Meaning.{is_slot}
-use Rattle.sch_word.specs.values.Places.{same_place}
+use Rattle.sch_word.specs.values.Places.{same_place, is_slot}
 use Rattle.sch_layout.specs.BodyLayout.{Plan, arrived, move_mark, spill}
 use Rattle.sch_layout.specs.Moves.{Move}
-use Rattle.sch_layout.specs.OwnMarks.{is_call, has_call, SavesThenCalls, RestoresAfterCalls, OwnMarksStand}
+use Rattle.sch_word.specs.runs.Activations.{is_call}
+use Rattle.sch_layout.specs.OwnMarks.{has_call, SavesThenCalls, RestoresAfterCalls, OwnMarksStand}
 use Rattle.sch_control.specs.flow.Paths.{Event, Binds, References, Saves, Calls, Tails, Returns, Ends, SavesCalled, some_call}
 use Rattle.sch_layout.specs.PathMarks.{if_any, left_by, move_marks, restore_marks, path_marks, arrival_marks, entry_marks}
 use Rattle.sch_layout.proofs.marks.LaidWays.{ways_are_paths}

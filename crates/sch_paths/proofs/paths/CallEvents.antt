@@ -5,6 +5,7 @@ use Rattle.std.proofs.lemmas.Bool.{eqb-true}
 use Rattle.std.specs.Bool.{MatchBool}
 use Rattle.sch_word.specs.trees.NumberSets.{has}
 use Rattle.sch_word.proofs.facts.Booleans.{or_right, or_or, neither, false_true}
+use Rattle.sch_word.proofs.facts.Lists.{append_behind}
 use Rattle.sch_control.specs.declared.operation.Application.{Application}
 use Rattle.sch_control.specs.declared.operation.Member.{Member}
 use Rattle.sch_control.specs.AtomsAndSites.{operation_atoms, application_atoms, member_atoms}
@@ -90,10 +91,6 @@ module _ (a : Application ℕ) (l : List ℕ) where
         | inr w ↦ absurd (no_call ys w.0 after q w.1)
       ]
 
-  -- a row in front
-  in_front : (xs before middle zs : List Event) → before ≡ xs ++ middle → before ++ zs ≡ xs ++ (middle ++ zs)
-  in_front xs before middle zs e = ap (λ l. l ++ zs) e ∙ append_assoc xs middle zs
-
   -- a row behind
   behind : (before middle zs : List Event) → before ++ Calls a l ∷ (middle ++ zs) ≡ (before ++ Calls a l ∷ middle) ++ zs
   behind before middle zs = sym (append_assoc before (Calls a l ∷ middle) zs)
@@ -140,7 +137,7 @@ module _ (a : Application ℕ) (l : List ℕ) where
         | inr w ↦
             let v = behind_quiet mid path.1 w.0 after (quiet_binding inside y) w.1 in
             let at = listed_met x inside q Met L sets.1 path.1 r path.4 v.0 after v.1 h in
-            (at.0, at.1, (path.0, v.0 ++ Calls a l ∷ at.0, path.2, path.3, at.2, in_front path.0 before w.0 _ w.2 ∙ ap (λ z. path.0 ++ z) (in_front mid w.0 v.0 _ v.2)), at.3)
+            (at.0, at.1, (path.0, v.0 ++ Calls a l ∷ at.0, path.2, path.3, at.2, append_behind before path.0 w.0 _ w.2 ∙ ap (λ z. path.0 ++ z) (append_behind w.0 mid v.0 _ v.2)), at.3)
       ]
   listed_met x inside (sequence p q) Met L sets es r path before after e h =
       elim (in_either path.0 path.1 before after (sym path.5 ∙ e)) [
@@ -151,7 +148,7 @@ module _ (a : Application ℕ) (l : List ℕ) where
             (meets-map (live x) at.0 _ _ (λ v. (live_is x inside q (L x)).1 v) at.3)
         | inr w ↦
             let at = listed_met x inside q Met L sets.1 path.1 r path.4 w.0 after w.1 h in
-            (at.0, at.1, (path.0, w.0 ++ Calls a l ∷ at.0, path.2, path.3, at.2, in_front path.0 before w.0 _ w.2), at.3)
+            (at.0, at.1, (path.0, w.0 ++ Calls a l ∷ at.0, path.2, path.3, at.2, append_behind before path.0 w.0 _ w.2), at.3)
       ]
   listed_met x inside (branch p q s) Met L sets es r path before after e h =
       elim (in_either path.0 path.1 before after (sym path.5 ∙ e)) [
@@ -171,22 +168,22 @@ module _ (a : Application ℕ) (l : List ℕ) where
             elim path.2 as (λ t. IsPath inside p path.0 t → MatchBool t (IsPath inside q path.1 r) (IsPath inside s path.1 r) → MeetsAfter x inside (branch p q s) (L x) before a l) [
               | true ↦ λ first second.
                   let at = listed_met x inside q _ L sets.1.0 path.1 r second w.0 after w.1 h in
-                  (at.0, at.1, (path.0, w.0 ++ Calls a l ∷ at.0, true, first, at.2, in_front path.0 before w.0 _ w.2), at.3)
+                  (at.0, at.1, (path.0, w.0 ++ Calls a l ∷ at.0, true, first, at.2, append_behind before path.0 w.0 _ w.2), at.3)
               | false ↦ λ first second.
                   let at = listed_met x inside s _ L sets.1.1 path.1 r second w.0 after w.1 h in
-                  (at.0, at.1, (path.0, w.0 ++ Calls a l ∷ at.0, false, first, at.2, in_front path.0 before w.0 _ w.2), at.3)
+                  (at.0, at.1, (path.0, w.0 ++ Calls a l ∷ at.0, false, first, at.2, append_behind before path.0 w.0 _ w.2), at.3)
             ] path.3 path.4
       ]
   listed_met x inside (fix members p) Met L sets es r path before after e h =
       let v = behind_quiet (grouping inside members) path.0 before after (quiet_grouping inside members) (sym path.2 ∙ e) in
       let at = listed_met x inside p Met L sets path.0 r path.1 v.0 after v.1 h in
-      (at.0, at.1, (v.0 ++ Calls a l ∷ at.0, at.2, in_front (grouping inside members) before v.0 _ v.2), at.3)
+      (at.0, at.1, (v.0 ++ Calls a l ∷ at.0, at.2, append_behind before (grouping inside members) v.0 _ v.2), at.3)
   listed_met x inside (call b k) Met L sets es r path before after e h =
       let row : List Event = map References (named (application_atoms b)) in
       let v = behind_quiet row (Calls b k ∷ []) before after (quiet_references (named (application_atoms b))) (sym path ∙ e) in
       let one = only b k v.0 after v.1 in
       let some = some_of (L x) ((sets x).0 (ap (has x) one.1.1 ∙ h)).1 in
-      ([], some.0, in_front row before v.0 (Calls a l ∷ []) v.2 ∙ ap (λ z. row ++ z) (rw (one.0, one.1.0, one.1.1) refl), some.1) where
+      ([], some.0, append_behind before row v.0 (Calls a l ∷ []) v.2 ∙ ap (λ z. row ++ z) (rw (one.0, one.1.0, one.1.1) refl), some.1) where
         only : (b : Application ℕ) (k : List ℕ) (middle after : List Event) → Calls b k ∷ [] ≡ middle ++ Calls a l ∷ after → (middle ≡ []) × ((b ≡ a) × (k ≡ l))
         only b k [] after e = (refl, (cc, cc))
         only b k (m ∷ middle) after e = absurd (no_call [] middle after refl (let rest : [] ≡ middle ++ Calls a l ∷ after = cc in rest))
@@ -212,7 +209,7 @@ module _ (a : Application ℕ) (l : List ℕ) where
       let row : List Event = map Saves (heads p saves) in
       let v = behind_quiet row path.0 before after (quiet_saves (heads p saves)) (sym path.2 ∙ e) in
       let at = listed_met x (with_region saves inside) p Met L sets path.0 r path.1 v.0 after v.1 h in
-      (at.0, at.1, (v.0 ++ Calls a l ∷ at.0, at.2, in_front row before v.0 _ v.2), at.3)
+      (at.0, at.1, (v.0 ++ Calls a l ∷ at.0, at.2, append_behind before row v.0 _ v.2), at.3)
 
   -- ## What is met after a call is listed
 

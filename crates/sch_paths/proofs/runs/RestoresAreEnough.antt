@@ -2,12 +2,12 @@
 use Rattle.std.proofs.Common.{◌≡◌, ℕ, ◌+◌, Bool, true, [], Option, Some, None, refl, ap, sym, ◌∙◌, subst, inl, inr, arith}
 use Rattle.std.specs.Prelude.{nat_le, nat_lt}
 use Rattle.std.proofs.lemmas.Bool.Decides.{nat_tests}
-use Rattle.sch_word.specs.trees.NumberSets.{has}
+use Rattle.sch_word.specs.trees.NumberSets.{has, without_repeats}
 use Rattle.sch_word.proofs.facts.Booleans.{and_left, and_right}
 use Rattle.sch_control.specs.declared.body.Entry.{Entry}
 use Rattle.sch_control.specs.Meaning.{World, Environment, Callee, Reading, plain, no_region, do_body}
 use Rattle.sch_control.specs.Tree.{Expression, perform, bind, sequence, branch, fix, call, tail_call, return, end, save, Code}
-use Rattle.sch_control.specs.Valid.{first_scope, first_bound, bound_in, in_scope, in_scope_whole, numbered, without_repeats, with_variable, with_members}
+use Rattle.sch_control.specs.Valid.{first_scope, first_bound, bound_in, in_scope, in_scope_whole, numbered, with_variable, with_members}
 use Rattle.sch_control.specs.flow.Live.{nothing_later}
 use Rattle.sch_control.specs.flow.Bare.{erased, unlisted}
 use Rattle.sch_control.specs.flow.Middle.{silent}

@@ -1,11 +1,11 @@
 -- Operations that read the same values do the same.
-use Rattle.std.proofs.Common.{◌≡◌, ℕ, List, [], ◌∷◌, ◌++◌, Option, Some, None, Bool, true, false, refl, ap, sym, subst}
+use Rattle.std.proofs.Common.{◌≡◌, ℕ, List, [], ◌∷◌, ◌++◌, Option, Some, Bool, true, false, refl, ap, sym, subst}
 use Rattle.std.specs.Prelude.{nat_eq, ◌||◌}
 use Rattle.std.proofs.lemmas.Bool.{eq-eqb}
 use Rattle.sch_word.specs.trees.NumberSets.{has}
-use Rattle.sch_word.specs.values.Values.{Value, is_true, unspecified}
+use Rattle.sch_word.specs.values.Values.{Value, is_true}
 use Rattle.sch_word.specs.runs.Store.{Store}
-use Rattle.sch_word.specs.runs.Computation.{State, gives, stops, spent}
+use Rattle.sch_word.specs.runs.Computation.{State, gives}
 use Rattle.sch_word.proofs.facts.Booleans.{or_left, or_right}
 use Rattle.sch_control.specs.declared.operation.Atom.{Atom}
 use Rattle.sch_control.specs.declared.operation.Atom.TheVariants.{Constant, Literal, Variable}
@@ -17,10 +17,11 @@ use Rattle.sch_control.specs.declared.operation.Member.{Member}
 use Rattle.sch_control.specs.declared.operation.Operation.{Operation}
 use Rattle.sch_control.specs.declared.operation.Operation.TheVariants as operation
 use Rattle.sch_control.specs.declared.operation.Application.{Application}
-use Rattle.sch_control.specs.Operations.{Procedure, Ending, read, atom_value, atom_values, operand_value, operand_values, part_values, field, source_value, source_values, operate, members_made}
+use Rattle.sch_control.specs.Operations.{Procedure, read, atom_value, atom_values, operand_value, operand_values, part_values, field, source_value, source_values, operate, members_made}
 use Rattle.sch_control.specs.AtomsAndSites.{operand_atoms, operands_atoms, source_atom, source_atoms, operation_atoms, application_atoms, member_atoms}
 use Rattle.sch_control.specs.flow.Live.{named, Mentions, AfterValue}
 use Rattle.sch_control.proofs.Results.{perhaps}
+use Rattle.sch_control.proofs.Environments.{value_given}
 
 -- ## Atoms that are mentioned
 
@@ -126,12 +127,6 @@ module _ (at at' : ℕ → Option Value) where
   operate_same (operation.MakeClosure c) s h = rw (sources_same s c.fields h) refl
 
 -- ## What a value is known to be
-
-abbrev value_given : Ending → Value
-value_given None = unspecified
-value_given (Some (gives v s)) = v
-value_given (Some (stops why s)) = unspecified
-value_given (Some (spent s)) = unspecified
 
 -- what holds by the value that an operation gives
 pub after_value : (at : ℕ → Option Value) (o : Operation ℕ) (s s' : State Procedure) (v : Value) → operate at o s ≡ Some (gives v s')

@@ -3,14 +3,14 @@ use Rattle.std.proofs.Common.{◌≡◌, ◌≢◌, ℕ, Bool, true, false, List
 use Rattle.std.specs.Prelude.{nat_eq, filter, ◌||◌, not}
 use Rattle.std.specs.Bool.{MatchBool}
 use Rattle.std.proofs.lemmas.Bool.{eqb-true, eqb-false, eq-eqb, ne_eqb}
-use Rattle.sch_word.specs.trees.NumberSets.{has}
+use Rattle.sch_word.specs.trees.NumberSets.{has, without_repeats}
 use Rattle.sch_word.proofs.facts.Booleans.{and_left, and_right, or_left, or_right, neither, not_left, not_right, not_true, never_true}
 use Rattle.sch_word.proofs.facts.NumberSets.{has_append}
 use Rattle.sch_control.specs.declared.operation.Member.{Member}
 use Rattle.sch_control.specs.AtomsAndSites.{operation_atoms, application_atoms, member_atoms}
 use Rattle.sch_control.specs.Meaning.{binds, heads, with_region, no_region}
 use Rattle.sch_control.specs.Tree.{Expression, perform, bind, sequence, branch, fix, call, tail_call, return, end, save}
-use Rattle.sch_control.specs.Valid.{with_variable, with_members, in_scope_atoms, in_scope, member_variables, bound_in, without_repeats}
+use Rattle.sch_control.specs.Valid.{with_variable, with_members, in_scope_atoms, in_scope, member_variables, bound_in}
 use Rattle.sch_control.specs.flow.Live.{named, Across, Live, Later, nothing_later}
 use Rattle.sch_control.specs.flow.Paths.{Event, Binds, References, Saves, Calls, Tails, Returns, Ends, binding, grouping, IsPath, calls, SavesFollowed}
 use Rattle.sch_control.specs.flow.LiveSets.{LiveSets}

@@ -5,14 +5,14 @@ use Rattle.std.specs.Bool.{MatchBool}
 use Rattle.std.specs.List.{list_all}
 use Rattle.std.proofs.lemmas.Bool.{eqb-true, ne_eqb}
 use Rattle.std.proofs.lemmas.Bool.Decides.{nat_tests}
-use Rattle.sch_word.specs.trees.NumberSets.{has}
+use Rattle.sch_word.specs.trees.NumberSets.{has, without_repeats}
 use Rattle.sch_word.proofs.facts.Booleans.{and_left, and_right, or_left, or_right}
 use Rattle.sch_word.proofs.facts.NumberSets.{has_append}
 use Rattle.sch_control.specs.declared.body.Entry.{Entry}
 use Rattle.sch_control.specs.declared.operation.Member.{Member}
 use Rattle.sch_control.specs.AtomsAndSites.{member_atoms}
 use Rattle.sch_control.specs.Tree.{Expression, perform, bind, sequence, branch, fix, call, tail_call, return, end, save, Code}
-use Rattle.sch_control.specs.Valid.{first_scope, first_bound, in_scope, in_scope_whole, in_scope_atoms, numbered, bound_in, member_variables, with_variable, with_members, max_body_variables, without_repeats}
+use Rattle.sch_control.specs.Valid.{first_scope, first_bound, in_scope, in_scope_whole, in_scope_atoms, numbered, bound_in, member_variables, with_variable, with_members, max_body_variables}
 use Rattle.sch_control.specs.flow.Bare.{erased}
 use Rattle.sch_control.specs.flow.Live.{Live, Later, nothing_later}
 use Rattle.sch_control.specs.flow.LiveSets.{LiveSets, HasLiveSets}

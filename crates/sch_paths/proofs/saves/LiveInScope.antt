@@ -3,7 +3,7 @@ use Rattle.std.proofs.Common.{◌≡◌, ℕ, Bool, true, false, List, [], ◌�
 use Rattle.std.specs.Prelude.{nat_eq, ◌||◌, ◌&&◌, not}
 use Rattle.std.specs.Bool.{MatchBool}
 use Rattle.std.proofs.lemmas.Bool.{eqb-true, ne_eqb}
-use Rattle.sch_word.specs.trees.NumberSets.{has}
+use Rattle.sch_word.specs.trees.NumberSets.{has, without_repeats}
 use Rattle.sch_word.proofs.facts.Booleans.{and_left, and_right, or_left, or_right, not_left, not_right, false_true, not_true, never_true}
 use Rattle.sch_word.proofs.facts.NumberSets.{has_append}
 use Rattle.sch_control.specs.declared.operation.Atom.{Atom}
@@ -12,7 +12,7 @@ use Rattle.sch_control.specs.declared.operation.Member.{Member}
 use Rattle.sch_control.specs.AtomsAndSites.{operation_atoms, application_atoms, member_atoms}
 use Rattle.sch_control.specs.Meaning.{binds}
 use Rattle.sch_control.specs.Tree.{Expression, perform, bind, sequence, branch, fix, call, tail_call, return, end, save}
-use Rattle.sch_control.specs.Valid.{with_variable, with_members, in_scope_atoms, in_scope, member_variables, bound_in, without_repeats}
+use Rattle.sch_control.specs.Valid.{with_variable, with_members, in_scope_atoms, in_scope, member_variables, bound_in}
 use Rattle.sch_control.specs.flow.Live.{named, Mentions, known, Across, Live, Later, nothing_later}
 use Rattle.sch_control.proofs.Results.{after_result}
 use Rattle.sch_control.proofs.VariableLists.{among_is}

@@ -1,11 +1,11 @@
 -- What holds of the trees of valid bodies: calls follow saves, heads of regions are live, and so is where to return.
 use Rattle.std.proofs.Common.{◌≡◌, Bool, true, List, Some, refl, ap, sym, ◌∙◌, inl}
-use Rattle.sch_word.specs.trees.NumberSets.{has}
+use Rattle.sch_word.specs.trees.NumberSets.{has, without_repeats}
 use Rattle.sch_word.proofs.facts.Booleans.{and_right, never_true}
 use Rattle.sch_control.specs.declared.body.Entry.{Entry}
 use Rattle.sch_control.specs.Meaning.{no_region}
 use Rattle.sch_control.specs.Tree.{Expression, Code}
-use Rattle.sch_control.specs.Valid.{first_scope, bound_in, in_scope, numbered, ended, positioned, last_position, without_repeats}
+use Rattle.sch_control.specs.Valid.{first_scope, bound_in, in_scope, numbered, ended, positioned, last_position}
 use Rattle.sch_control.specs.flow.Live.{nothing_later}
 use Rattle.sch_control.specs.flow.Paths.{Event, IsPath, SavesFollowed}
 use Rattle.sch_paths.specs.Exact.{LiveAfterCalls}

@@ -3,14 +3,14 @@ use Rattle.std.proofs.Common.{◌≡◌, ℕ, ◌≤◌, ◌<◌, Bool, true, Li
 use Rattle.std.specs.Prelude.{◌&&◌, nat_le, nat_lt, nat_eq}
 use Rattle.std.specs.List.{list_all}
 use Rattle.std.proofs.lemmas.Bool.Decides.{nat_tests}
-use Rattle.sch_word.specs.trees.NumberSets.{has}
+use Rattle.sch_word.specs.trees.NumberSets.{has, without_repeats}
 use Rattle.sch_word.proofs.facts.Booleans.{and_left, and_right, and_of, or_left, or_right}
 use Rattle.sch_word.proofs.facts.NumberSets.{has_append}
 use Rattle.sch_control.specs.declared.operation.Atom.{Atom}
 use Rattle.sch_control.specs.declared.operation.Atom.TheVariants.{Constant, Literal, Variable}
 use Rattle.sch_control.specs.AtomsAndSites.{operation_atoms, application_atoms, member_atoms}
 use Rattle.sch_control.specs.Tree.{Expression, perform, bind, sequence, branch, fix, call, tail_call, return, end, save, Code}
-use Rattle.sch_control.specs.Valid.{first_scope, first_bound, in_scope, in_scope_whole, in_scope_atoms, numbered, bound_in, member_variables, with_variable, with_members, max_body_variables, without_repeats}
+use Rattle.sch_control.specs.Valid.{first_scope, first_bound, in_scope, in_scope_whole, in_scope_atoms, numbered, bound_in, member_variables, with_variable, with_members, max_body_variables}
 use Rattle.sch_control.specs.flow.Bare.{erased}
 use Rattle.sch_control.specs.flow.Reads.{AtomsBelow, VariablesBelow}
 use Rattle.sch_paths.proofs.runs.RestoresAreEnough.{scope_erased, bound_erased}

@@ -1,10 +1,11 @@
 -- The text of an atom is one lexeme, and the token of it is the atom.
-use Rattle.std.proofs.Common.{◌≡◌, ◌⊎◌, inl, inr, ℕ, List, [], ◌∷◌, ◌++◌, refl, sym, ◌∙◌, ap, arith, Bool, true, false, append_assoc, eqb-true}
+use Rattle.std.proofs.Common.{◌≡◌, ◌⊎◌, inl, inr, ℕ, List, [], ◌∷◌, ◌++◌, refl, ◌∙◌, ap, arith, Bool, true, false, append_assoc, eqb-true}
 use Rattle.std.specs.Prelude.{◌==◌, ◌||◌, ◌&&◌, not, if◌then◌else◌, codes}
 use Rattle.std.specs.List.{list_all}
 use Rattle.std.proofs.lemmas.Bool.Decides.{nat_tests}
 use Rattle.std.specs.Char.{is_ascii_alphabetic, is_ascii_digit}
-use Rattle.sch_read.specs.Lexer.Letters.{is_one_of, is_white, is_delimiter, is_word_byte, is_initial, is_subsequent}
+use Rattle.sch_word.specs.trees.NumberSets.{has}
+use Rattle.sch_read.specs.Lexer.Letters.{is_white, is_delimiter, is_word_byte, is_initial, is_subsequent}
 use Rattle.sch_read.specs.Lexer.Lexeme.{is_lexeme, IsLongest}
 use Rattle.sch_read.specs.Grammar.{Plain, Atom}
 use Rattle.sch_read.specs.Lexer.Token.{token_at, word_at}
@@ -23,12 +24,12 @@ pub record IsAtomText (a : Atom) (bytes : List ℕ) : Type 0 where
   pub token : (at : ℕ) → token_at at bytes ≡ Plain at a ∷ []
 
 -- what holds of each byte of a list holds of one of them
-one-of-all : (P : ℕ → Bool) (bytes : List ℕ) (b : ℕ) → is_one_of bytes b ≡ true → list_all P bytes ≡ true → P b ≡ true
+one-of-all : (P : ℕ → Bool) (bytes : List ℕ) (b : ℕ) → has b bytes ≡ true → list_all P bytes ≡ true → P b ≡ true
 one-of-all P [] b h k = cc
-one-of-all P (c ∷ cs) b h k = go (or-parts (c == b) (is_one_of cs b) h) (λ e. one-of-all P cs b e (and_parts (P c) (list_all P cs) k).1)
+one-of-all P (c ∷ cs) b h k = go (or-parts (b == c) (has b cs) h) (λ e. one-of-all P cs b e (and_parts (P c) (list_all P cs) k).1)
   where
-    go : (c == b ≡ true) ⊎ (is_one_of cs b ≡ true) → (is_one_of cs b ≡ true → P b ≡ true) → P b ≡ true
-    go (inl e) f = ap P (sym (eqb-true c b e)) ∙ (and_parts (P c) (list_all P cs) k).0
+    go : (b == c ≡ true) ⊎ (has b cs ≡ true) → (has b cs ≡ true → P b ≡ true) → P b ≡ true
+    go (inl e) f = ap P (eqb-true b c e) ∙ (and_parts (P c) (list_all P cs) k).0
     go (inr e) f = f e
 
 -- a byte that may begin a word: no delimiter, quote mark or `#`
@@ -37,7 +38,7 @@ is_plain b = is_word_byte b && (not (b == 39) && not (b == 35))
 
 -- a byte that begins a name: neither a number nor a sign
 abbrev pub begins_name : ℕ → Bool
-begins_name b = is_plain b && (not (is_ascii_digit b) && not (is_one_of (codes "+-.") b))
+begins_name b = is_plain b && (not (is_ascii_digit b) && not (has b (codes "+-.")))
 
 plain-letter : (b : ℕ) → is_ascii_alphabetic b ≡ true → begins_name b ≡ true
 plain-letter b h = grind (arith, nat_tests)
@@ -48,18 +49,18 @@ plain-digit b h = grind (arith, nat_tests)
 pub name-initial : (b : ℕ) → is_initial b ≡ true → begins_name b ≡ true
 name-initial b h = go (or-parts (is_ascii_alphabetic b) _ h)
   where
-    go : (is_ascii_alphabetic b ≡ true) ⊎ (is_one_of (codes "!$%&*/:<=>?^_~") b ≡ true) → begins_name b ≡ true
+    go : (is_ascii_alphabetic b ≡ true) ⊎ (has b (codes "!$%&*/:<=>?^_~") ≡ true) → begins_name b ≡ true
     go (inl e) = plain-letter b e
     go (inr e) = one-of-all begins_name (codes "!$%&*/:<=>?^_~") b e refl
 
 pub word-subsequent : (b : ℕ) → is_subsequent b ≡ true → is_word_byte b ≡ true
 word-subsequent b h = go (or-parts (is_initial b) _ h)
   where
-    last : (is_ascii_digit b ≡ true) ⊎ (is_one_of (codes "+-.@") b ≡ true) → is_word_byte b ≡ true
+    last : (is_ascii_digit b ≡ true) ⊎ (has b (codes "+-.@") ≡ true) → is_word_byte b ≡ true
     last (inl e) = (and_parts (is_word_byte b) _ (plain-digit b e)).0
     last (inr e) = one-of-all is_word_byte (codes "+-.@") b e refl
 
-    go : (is_initial b ≡ true) ⊎ (is_ascii_digit b || is_one_of (codes "+-.@") b ≡ true) → is_word_byte b ≡ true
+    go : (is_initial b ≡ true) ⊎ (is_ascii_digit b || has b (codes "+-.@") ≡ true) → is_word_byte b ≡ true
     go (inl e) = (and_parts (is_word_byte b) _ (and_parts (is_plain b) _ (name-initial b e)).0).0
     go (inr e) = last (or-parts (is_ascii_digit b) _ e)
 

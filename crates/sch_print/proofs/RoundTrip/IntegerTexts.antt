@@ -7,7 +7,8 @@ use Rattle.std.specs.Str.{bytes_eq}
 use Rattle.std.specs.Str.Parse.{AllDigits, digits_value, without_leading_sign, signed_digits_value}
 use Rattle.std.proofs.lemmas.Fmt.{decimal_is_IsNumeral}
 use Rattle.std.proofs.lemmas.Bool.Decides.{nat_tests}
-use Rattle.sch_read.specs.Lexer.Letters.{is_one_of, is_word_byte}
+use Rattle.sch_word.specs.trees.NumberSets.{has}
+use Rattle.sch_read.specs.Lexer.Letters.{is_word_byte}
 use Rattle.sch_read.specs.Grammar.{integer}
 use Rattle.sch_read.specs.Lexer.Numerals.{are_digits, numeral_of, is_number_like, has_base}
 use Rattle.sch_read.specs.Lexer.Token.{word_at, number_at, integer_at, is_character}
@@ -41,7 +42,7 @@ negative-small : (n : ℕ) → is_fixnum (negsuc n) ≡ true → suc n < 2 ^ 64
 negative-small n h = grind (arith, nat_tests)
 
 no-base : (d : ℕ) (ds : List ℕ) → (d == 35) ≡ false → has_base (d ∷ ds) ≡ false
-no-base d ds h = ap (λ t. t && is_one_of (codes "bodx") (to_ascii_lowercase (slice_index (d ∷ ds) 1))) h
+no-base d ds h = ap (λ t. t && has (to_ascii_lowercase (slice_index (d ∷ ds) 1)) (codes "bodx")) h
 
 unsigned : (d : ℕ) (ds : List ℕ) → digit_value d < 10 → without_leading_sign (d ∷ ds) ≡ d ∷ ds
 unsigned d ds h =
@@ -59,7 +60,7 @@ digits-number at d ds h =
     let base = no-base d ds m.hash in
     skip (bytes_eq w (codes "#(")) _ _ (other-start d 35 ds (40 ∷ []) m.hash)
     ∙ skip (is_character w) _ _ (ap (λ t. t && slice_index w 1 == 92) m.hash)
-    ∙ taken (is_number_like w) _ _ (ap (λ t. t || (is_ascii_digit d || (is_one_of (codes "+-.") d && is_ascii_digit (slice_index w 1)))) base ∙ or_left (is_ascii_digit d) _ digit)
+    ∙ taken (is_number_like w) _ _ (ap (λ t. t || (is_ascii_digit d || (has d (codes "+-.") && is_ascii_digit (slice_index w 1)))) base ∙ or_left (is_ascii_digit d) _ digit)
     ∙ ap (λ n. number_at at n (numeral_of w)) (skip (has_base w) _ _ base)
     ∙ ap (number_at at 10) (skip (has_base w) _ _ base)
     ∙ taken (are_digits 10 (without_leading_sign w)) _ _ (ap (are_digits 10) (unsigned d ds h.0) ∙ digits-test w h)

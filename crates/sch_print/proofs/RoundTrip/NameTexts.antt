@@ -4,7 +4,8 @@ use Rattle.std.specs.Prelude.{◌==◌, ◌||◌, ◌&&◌, not, if◌then◌els
 use Rattle.std.specs.List.{list_all}
 use Rattle.std.specs.Char.{is_ascii_digit, to_ascii_lowercase}
 use Rattle.std.specs.Str.{bytes_eq}
-use Rattle.sch_read.specs.Lexer.Letters.{folded, is_one_of, is_word_byte, is_initial, is_subsequent}
+use Rattle.sch_word.specs.trees.NumberSets.{has}
+use Rattle.sch_read.specs.Lexer.Letters.{folded, is_word_byte, is_initial, is_subsequent}
 use Rattle.sch_read.specs.Lexer.Lexeme.{is_string_rest, is_lexeme}
 use Rattle.sch_read.specs.Grammar.{Plain, boolean, character, text, symbol}
 use Rattle.sch_read.specs.Lexer.Numerals.{is_number_like, has_base}
@@ -60,16 +61,16 @@ pub taken : {A : Type 0} (t : Bool) (x y : A) → t ≡ true → (if t then x el
 taken true x y h = refl
 taken false x y h = cc
 
-no-dot : (b : ℕ) (bs : List ℕ) → is_one_of (codes "+-.") b ≡ false → bytes_eq (b ∷ bs) (codes ".") ≡ false
+no-dot : (b : ℕ) (bs : List ℕ) → has b (codes "+-.") ≡ false → bytes_eq (b ∷ bs) (codes ".") ≡ false
 no-dot b bs h = never_true (bytes_eq (b ∷ bs) (codes ".")) (λ e.
     let same = (bytes_eq-Decides (b ∷ bs) (codes ".")).0 e in
     let first : b ≡ 46 = cc in
-    let P : ℕ → Type 0 = λ v. is_one_of (codes "+-.") v ≡ false in
+    let P : ℕ → Type 0 = λ v. has v (codes "+-.") ≡ false in
     let none : true ≡ false = subst P first h in cc)
 
-no-number : (b : ℕ) (bs : List ℕ) → (b == 35) ≡ false → is_ascii_digit b ≡ false → is_one_of (codes "+-.") b ≡ false → is_number_like (b ∷ bs) ≡ false
+no-number : (b : ℕ) (bs : List ℕ) → (b == 35) ≡ false → is_ascii_digit b ≡ false → has b (codes "+-.") ≡ false → is_number_like (b ∷ bs) ≡ false
 no-number b bs hash digit sign =
-    neither (has_base (b ∷ bs)) _ (ap (λ t. t && is_one_of (codes "bodx") (to_ascii_lowercase (slice_index (b ∷ bs) 1))) hash)
+    neither (has_base (b ∷ bs)) _ (ap (λ t. t && has (to_ascii_lowercase (slice_index (b ∷ bs) 1)) (codes "bodx")) hash)
     (neither (is_ascii_digit b) _ digit (ap (λ t. t && is_ascii_digit (slice_index (b ∷ bs) 1)) sign))
 
 start-name : (at b : ℕ) (bs : List ℕ) → begins_name b ≡ true → is_identifier (b ∷ bs) ≡ true → folded (b ∷ bs) ≡ b ∷ bs → word_at at (b ∷ bs) ≡ Plain at (symbol (b ∷ bs))
@@ -77,9 +78,9 @@ start-name at b bs h is low =
     let w = b ∷ bs in
     let p = and_parts (is_plain b) _ h in
     let m = no-mark b p.0 in
-    let q = and_parts (not (is_ascii_digit b)) (not (is_one_of (codes "+-.") b)) p.1 in
+    let q = and_parts (not (is_ascii_digit b)) (not (has b (codes "+-."))) p.1 in
     let digit = not_true (is_ascii_digit b) q.0 in
-    let sign = not_true (is_one_of (codes "+-.") b) q.1 in
+    let sign = not_true (has b (codes "+-.")) q.1 in
     skip (bytes_eq w (codes "#(")) _ _ (other-start b 35 bs (40 ∷ []) m.hash)
     ∙ skip (is_character w) _ _ (ap (λ t. t && slice_index w 1 == 92) m.hash)
     ∙ skip (is_number_like w) _ _ (no-number b bs m.hash digit sign)

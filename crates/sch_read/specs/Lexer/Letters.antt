@@ -1,11 +1,8 @@
 -- The bytes of a text by their use (R5RS 2.1 and 7.1.1). Letters are those of ASCII, and their case
 -- counts only inside strings and in characters of one letter.
 use Rattle.std.specs.Prelude.{◌==◌, ◌||◌, ℕ, Bool, List, codes, map, not, if◌then◌else◌}
-use Rattle.std.specs.List.{list_any}
 use Rattle.std.specs.Char.{is_ascii_digit, is_ascii_alphabetic, to_ascii_lowercase}
-
-abbrev pub is_one_of : List ℕ → ℕ → Bool
-is_one_of bytes b = list_any (λ c. c == b) bytes
+use Rattle.sch_word.specs.trees.NumberSets.{has}
 
 -- space, tab, line feed, carriage return or form feed
 abbrev pub is_white : ℕ → Bool
@@ -25,15 +22,15 @@ folded bytes = map to_ascii_lowercase bytes
 
 -- what an identifier may begin with
 abbrev pub is_initial : ℕ → Bool
-is_initial b = is_ascii_alphabetic b || is_one_of (codes "!$%&*/:<=>?^_~") b
+is_initial b = is_ascii_alphabetic b || has b (codes "!$%&*/:<=>?^_~")
 
 -- what may follow in it
 abbrev pub is_subsequent : ℕ → Bool
-is_subsequent b = is_initial b || (is_ascii_digit b || is_one_of (codes "+-.@") b)
+is_subsequent b = is_initial b || (is_ascii_digit b || has b (codes "+-.@"))
 
 -- R5RS has `\"` and `\\`; `\n` and `\t` are this project's own
 abbrev pub is_escape : ℕ → Bool
-is_escape b = is_one_of (codes "\"\\nt") b
+is_escape b = has b (codes "\"\\nt")
 
 abbrev pub escaped : ℕ → ℕ
 escaped b = if b == 110 then 10 else (if b == 116 then 9 else b)

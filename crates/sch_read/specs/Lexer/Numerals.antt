@@ -2,12 +2,12 @@
 use Rattle.std.specs.Prelude.{◌==◌, ◌||◌, ◌&&◌, ℕ, Bool, List, if◌then◌else◌, codes, drop, nat_lt, not, slice_index}
 use Rattle.std.specs.List.{list_all}
 use Rattle.std.specs.Char.{digit_value, is_ascii_digit, to_ascii_lowercase}
-use Rattle.sch_read.specs.Lexer.Letters.{is_one_of}
+use Rattle.sch_word.specs.trees.NumberSets.{has}
 use Rattle.sch_read.specs.Lexer.Lexeme.{is_empty}
 
 -- the first byte is `#`, and the second names a base: binary, octal, decimal or hexadecimal
 abbrev pub has_base : List ℕ → Bool
-has_base word = slice_index word 0 == 35 && is_one_of (codes "bodx") (to_ascii_lowercase (slice_index word 1))
+has_base word = slice_index word 0 == 35 && has (to_ascii_lowercase (slice_index word 1)) (codes "bodx")
 
 -- the base that a letter names
 abbrev pub base_named : ℕ → ℕ
@@ -24,7 +24,7 @@ numeral_of word = if has_base word then drop 2 word else word
 -- a point and then a digit
 abbrev pub is_number_like : List ℕ → Bool
 is_number_like word = has_base word || (is_ascii_digit (slice_index word 0)
-    || (is_one_of (codes "+-.") (slice_index word 0) && is_ascii_digit (slice_index word 1)))
+    || (has (slice_index word 0) (codes "+-.") && is_ascii_digit (slice_index word 1)))
 
 -- at least one digit, and each of the base
 abbrev pub are_digits : ℕ → List ℕ → Bool

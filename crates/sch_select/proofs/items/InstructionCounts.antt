@@ -23,16 +23,18 @@ use Rattle.sch_control.specs.declared.operation.Source.TheVariants as source
 use Rattle.sch_control.specs.declared.operation.Member.{Member}
 use Rattle.sch_control.specs.declared.operation.Operation.{Operation}
 use Rattle.sch_control.specs.declared.operation.Operation.TheVariants as operation
-use Rattle.sch_control.specs.AtomsAndSites.{operand_atoms, source_atoms, member_atoms}
+use Rattle.sch_control.specs.AtomsAndSites.{source_atoms, member_atoms}
 use Rattle.sch_control.specs.Sizes.{operand_size, operands_size, operation_size}
 use Rattle.sch_control.specs.Valid.{only_reads}
 use Rattle.sch_frames.specs.declared.instruction.Instruction.{Instruction}
 use Rattle.sch_frames.specs.declared.instruction.Instruction.TheVariants as instruction
 use Rattle.sch_frames.specs.Covered.{marks_settled}
-use Rattle.sch_frames.specs.Sizes.{closures_in, codes_copies, codes_size, copies_of, grouped, instructions_size, jumped}
+use Rattle.sch_control.specs.RegisterWork.{entry_done}
+use Rattle.sch_frames.specs.Sizes.{closures_in, codes_copies, codes_size, copies_of, grouped, instructions_size}
 use Rattle.sch_frames.specs.Tree.{Code}
 use Rattle.sch_frames.specs.Tree as tree
-use Rattle.sch_frames.specs.Valid.{formals_of}
+use Rattle.sch_control.specs.flow.Places.{formals_of}
+use Rattle.sch_control.proofs.OperandSizes.{atoms_within}
 use Rattle.sch_insn.specs.declared.condition.TheConstants.{E}
 use Rattle.sch_insn.specs.declared.insn.Arg.TheVariants.{Reg}
 use Rattle.sch_insn.specs.declared.insn.Insn.TheVariants.{AddNumber, CmpNumber, MovFrom, MovNumber, MovTo}
@@ -196,11 +198,6 @@ module _ (words globals symbols literals : ℕ) where
   index_adds (operand.Read site which (a ∷ (b ∷ []))) e rest = omega arith
   index_adds (operand.Read site which (a ∷ (b ∷ (c ∷ atoms)))) e rest = impossible e
 
-  -- an operand has no more atoms than it counts
-  operand_counts : (o : Operand Place) → length (operand_atoms o) ≤ operand_size o
-  operand_counts (operand.Atom a) = omega arith
-  operand_counts (operand.Read site which atoms) = omega arith
-
   -- ## Operations
 
   primitive_adds : (heap_end n : ℕ) (which : Primitive) (operands : List (Operand Place))
@@ -257,7 +254,7 @@ module _ (words globals symbols literals : ℕ) where
       (item.Plain (MovNumber (Reg 0) (pos 30)) ∷ rest)) in
       let h = operand_adds n o p.1 (source_code 1 x written) in
       let k = source_keeps 1 x written in
-      let c = operand_counts o in
+      let c = atoms_within o in
       omega (arith, h, k, c)
   operation_adds heap_end n (operation.MakeClosure c) e rest =
       let k = fields_add 8 c.fields (part_code 4 (closure_bytes c) rest) in
@@ -311,7 +308,7 @@ module _ (words globals symbols literals : ℕ) where
       by (instruction.Mark j) e m rec = let w = one_or_none b in let k = rec true m in omega (arith, w, k)
 
   passed_adds : (o : Option Entry) (out : ℕ) (rest : List Item)
-      → jumped o + instructions_in rest ≤ instructions_in (passed_code o out rest)
+      → entry_done o + instructions_in rest ≤ instructions_in (passed_code o out rest)
   passed_adds None out rest = omega arith
   passed_adds (Some e) out rest = omega arith
 

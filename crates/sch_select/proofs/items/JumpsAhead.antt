@@ -17,8 +17,8 @@ use Rattle.sch_word.specs.declared.primitive.Primitive.TheVariants.{SetCdr, Stri
 use Rattle.sch_word.specs.declared.primitive.Primitive.TheVariants.{VectorLength, VectorRef, VectorSet, SymbolLength}
 use Rattle.sch_word.specs.declared.primitive.Primitive.TheVariants.{SymbolRef, MakeString, MakeVector}
 use Rattle.sch_word.specs.values.Literals.{count_literals}
-use Rattle.sch_word.specs.trees.NumberSets.{has}
-use Rattle.sch_control.specs.Valid.{without_repeats}
+use Rattle.sch_word.specs.trees.NumberSets.{has, without_repeats}
+use Rattle.sch_word.proofs.facts.NumberSets.{in_here, in_more}
 use Rattle.sch_control.specs.declared.body.Entry.{Entry}
 use Rattle.sch_control.specs.declared.operation.Atom.{Atom}
 use Rattle.sch_control.specs.declared.operation.Atom.TheVariants.{Constant, Literal, Variable}
@@ -39,9 +39,10 @@ use Rattle.sch_frames.specs.Valid.{forward}
 use Rattle.sch_asm.specs.declared.item.Item.{Item}
 use Rattle.sch_asm.specs.declared.item.Item.TheVariants as item
 use Rattle.sch_word.specs.declared.mark.MarkKind.TheVariants.{Enter}
-use Rattle.sch_asm.specs.Items.{is_among, labels_in}
+use Rattle.sch_asm.specs.declared.routine.TheConstants.{FIRST_LABEL}
+use Rattle.sch_asm.specs.Items.{labels_in}
 use Rattle.sch_select.proofs.items.RestItems.{count_behind, count_ahead}
-use Rattle.sch_select_memory.specs.Addresses.{first_label, body_label, put_label, string_label, vector_label}
+use Rattle.sch_select_memory.specs.Addresses.{body_label, put_label, string_label, vector_label}
 use Rattle.sch_select_operations.specs.OperandCode.{atom_code, unary_code, binary_code, read_code, operand_code, second_code}
 use Rattle.sch_select_operations.specs.CellCode.{source_code}
 use Rattle.sch_select_operations.specs.ClosureCode.{fields_code, closure_bytes, places_code, record_code, records_code, spills_behind}
@@ -54,7 +55,7 @@ use Rattle.sch_select_data.specs.Data.{heap_of}
 use Rattle.sch_select.specs.Jumps.{goes_ahead, jumps_ahead}
 use Rattle.sch_select_operations.proofs.simulation.SelectedPrograms.{members_few, operation_few, labels_few}
 use Rattle.sch_select.proofs.items.ProgramLabels.{body_labels, body_labelled}
-use Rattle.sch_select.proofs.items.ProgramKnown.{first_in, later_in, left_in, right_in, label_in}
+use Rattle.sch_select.proofs.items.ProgramKnown.{left_in, right_in, label_in}
 use Rattle.sch_select_memory.proofs.Sound.{in_front}
 
 module _ (count : ℕ) where
@@ -66,27 +67,27 @@ module _ (count : ℕ) where
   Ahead f = (rest : List Item) → jumps_ahead own (f rest) ≡ jumps_ahead own rest
 
   -- a label that is no body's own
-  away : (l : ℕ) → l < 25 → (t b : Bool) → ((nat_lt l first_label || t) && b) ≡ b
-  away l lt t b = ap (λ a. (a || t) && b) (lt-ltb l first_label (omega (arith, lt)))
+  away : (l : ℕ) → l < 25 → (t b : Bool) → ((nat_lt l FIRST_LABEL || t) && b) ≡ b
+  away l lt t b = ap (λ a. (a || t) && b) (lt-ltb l FIRST_LABEL (omega (arith, lt)))
 
   -- a label that stands behind
   near_to : (first l : ℕ) (t b : Bool) → t ≡ true → ((nat_lt l first || t) && b) ≡ b
   near_to first l t b e = in_front (nat_lt l first || t) b (ap (λ t. nat_lt l first || t) e ∙ or-true (nat_lt l first))
 
-  near : (l : ℕ) (t b : Bool) → t ≡ true → ((nat_lt l first_label || t) && b) ≡ b
-  near = near_to first_label
+  near : (l : ℕ) (t b : Bool) → t ≡ true → ((nat_lt l FIRST_LABEL || t) && b) ≡ b
+  near = near_to FIRST_LABEL
 
   -- a label at which a body begins
   begins : (l : ℕ) → nat_lt l count ≡ true → (t b : Bool) → ((nat_lt (body_label l) own || t) && b) ≡ b
   begins l e t b = let lt = ltb-true l count e in ap (λ a. (a || t) && b)
       (lt-ltb (body_label l) own (omega (arith, lt)))
 
-  stop : (l : ℕ) → l < 25 → (is : List Item) → (goes_ahead first_label l is && jumps_ahead own is) ≡ jumps_ahead own
+  stop : (l : ℕ) → l < 25 → (is : List Item) → (goes_ahead FIRST_LABEL l is && jumps_ahead own is) ≡ jumps_ahead own
       is
-  stop l lt is = away l lt (is_among (labels_in is) l) (jumps_ahead own is)
+  stop l lt is = away l lt (has l (labels_in is)) (jumps_ahead own is)
 
-  here : (n : ℕ) (ls : List ℕ) (b : Bool) → ((nat_lt n first_label || is_among (n ∷ ls) n) && b) ≡ b
-  here n ls b = near n (is_among (n ∷ ls) n) b (first_in n ls)
+  here : (n : ℕ) (ls : List ℕ) (b : Bool) → ((nat_lt n FIRST_LABEL || has n (n ∷ ls)) && b) ≡ b
+  here n ls b = near n (has n (n ∷ ls)) b (in_here n ls)
 
   unary_ahead : (n : ℕ) (which : Primitive) → Ahead (unary_code n which)
   unary_ahead n IsBoolean rest = here n (labels_in rest) (jumps_ahead own rest)
@@ -99,11 +100,11 @@ module _ (count : ℕ) where
   unary_ahead n IsVector rest = here n (labels_in rest) (jumps_ahead own rest)
   unary_ahead n IsProcedure rest = here n (labels_in rest) (jumps_ahead own rest)
   unary_ahead n CharToInteger rest = stop 1 (omega arith) rest
-  unary_ahead n IntegerToChar rest = away 1 (omega arith) (is_among (labels_in rest) 1)
-      ((nat_lt 2 first_label || is_among (labels_in rest) 2) && jumps_ahead own rest) ∙ stop 2 (omega arith) rest
+  unary_ahead n IntegerToChar rest = away 1 (omega arith) (has 1 (labels_in rest))
+      ((nat_lt 2 FIRST_LABEL || has 2 (labels_in rest)) && jumps_ahead own rest) ∙ stop 2 (omega arith) rest
   unary_ahead n Put rest =
-      near_to own n (is_among (n ∷ labels_in rest) n) _ (first_in n (labels_in rest))
-      ∙ away put_label (omega arith) (is_among (n ∷ labels_in rest) put_label) (jumps_ahead own rest)
+      near_to own n (has n (n ∷ labels_in rest)) _ (in_here n (labels_in rest))
+      ∙ away put_label (omega arith) (has put_label (n ∷ labels_in rest)) (jumps_ahead own rest)
   unary_ahead n Car rest = stop 1 (omega arith) rest
   unary_ahead n Cdr rest = stop 1 (omega arith) rest
   unary_ahead n StringLength rest = stop 1 (omega arith) rest
@@ -112,50 +113,50 @@ module _ (count : ℕ) where
   unary_ahead n _ rest = refl
 
   -- a comparison of two fixnums
-  two : (n : ℕ) (ls : List ℕ) (b : Bool) → ((nat_lt 1 first_label || is_among (n ∷ ls) 1) &&
-      ((nat_lt 1 first_label || is_among (n ∷ ls) 1) && ((nat_lt n first_label || is_among (n ∷ ls) n) && b))) ≡ b
-  two n ls b = away 1 (omega arith) (is_among (n ∷ ls) 1) _ ∙ away 1 (omega arith) (is_among (n ∷ ls) 1) _ ∙ here n ls b
+  two : (n : ℕ) (ls : List ℕ) (b : Bool) → ((nat_lt 1 FIRST_LABEL || has 1 (n ∷ ls)) &&
+      ((nat_lt 1 FIRST_LABEL || has 1 (n ∷ ls)) && ((nat_lt n FIRST_LABEL || has n (n ∷ ls)) && b))) ≡ b
+  two n ls b = away 1 (omega arith) (has 1 (n ∷ ls)) _ ∙ away 1 (omega arith) (has 1 (n ∷ ls)) _ ∙ here n ls b
 
   -- what computes a fixnum
-  three : (a t u v b : Bool) (l : ℕ) → l < 25 → ((nat_lt 1 first_label || t) &&
-      ((nat_lt 1 first_label || u) && ((nat_lt l first_label || v) && b))) ≡ b
+  three : (a t u v b : Bool) (l : ℕ) → l < 25 → ((nat_lt 1 FIRST_LABEL || t) &&
+      ((nat_lt 1 FIRST_LABEL || u) && ((nat_lt l FIRST_LABEL || v) && b))) ≡ b
   three a t u v b l lt = away 1 (omega arith) t _ ∙ away 1 (omega arith) u _ ∙ away l lt v b
 
   -- an element at an index
-  indexed : (is : List Item) → (goes_ahead first_label 1 is && (goes_ahead first_label 1 is &&
-      (goes_ahead first_label 2 is && jumps_ahead own is))) ≡ jumps_ahead own is
-  indexed is = let ls = labels_in is in three true (is_among ls 1) (is_among ls 1) (is_among ls 2)
+  indexed : (is : List Item) → (goes_ahead FIRST_LABEL 1 is && (goes_ahead FIRST_LABEL 1 is &&
+      (goes_ahead FIRST_LABEL 2 is && jumps_ahead own is))) ≡ jumps_ahead own is
+  indexed is = let ls = labels_in is in three true (has 1 ls) (has 1 ls) (has 2 ls)
       (jumps_ahead own is) 2 (omega arith)
 
   -- what a routine makes
-  filled : (n l : ℕ) → l < 25 → (is : List Item) → ((nat_lt n own || is_among (n ∷ labels_in is) n) &&
-      ((nat_lt l first_label || is_among (n ∷ labels_in is) l) && jumps_ahead own is)) ≡ jumps_ahead own is
-  filled n l lt is = near_to own n (is_among (n ∷ labels_in is) n) _ (first_in n (labels_in is))
-      ∙ away l lt (is_among (n ∷ labels_in is) l) (jumps_ahead own is)
+  filled : (n l : ℕ) → l < 25 → (is : List Item) → ((nat_lt n own || has n (n ∷ labels_in is)) &&
+      ((nat_lt l FIRST_LABEL || has l (n ∷ labels_in is)) && jumps_ahead own is)) ≡ jumps_ahead own is
+  filled n l lt is = near_to own n (has n (n ∷ labels_in is)) _ (in_here n (labels_in is))
+      ∙ away l lt (has l (n ∷ labels_in is)) (jumps_ahead own is)
 
   binary_ahead : (n : ℕ) (which : Primitive) → Ahead (binary_code n which)
   binary_ahead n Eq rest = here n (labels_in rest) (jumps_ahead own rest)
   binary_ahead n Eqv rest = here n (labels_in rest) (jumps_ahead own rest)
-  binary_ahead n Add rest = three true (is_among (labels_in rest) 1) (is_among (labels_in rest) 1)
-      (is_among (labels_in rest) 6) (jumps_ahead own rest) 6 (omega arith)
-  binary_ahead n Subtract rest = three true (is_among (labels_in rest) 1) (is_among (labels_in rest) 1)
-      (is_among (labels_in rest) 6) (jumps_ahead own rest) 6 (omega arith)
-  binary_ahead n Multiply rest = three true (is_among (labels_in rest) 1) (is_among (labels_in rest) 1)
-      (is_among (labels_in rest) 6) (jumps_ahead own rest) 6 (omega arith)
-  binary_ahead n Quotient rest = three true (is_among (labels_in rest) 1) (is_among (labels_in rest) 1)
-      (is_among (labels_in rest) 5) _ 5 (omega arith) ∙ stop 6 (omega arith) rest
-  binary_ahead n Remainder rest = three true (is_among (labels_in rest) 1) (is_among (labels_in rest) 1)
-      (is_among (labels_in rest) 5) (jumps_ahead own rest) 5 (omega arith)
+  binary_ahead n Add rest = three true (has 1 (labels_in rest)) (has 1 (labels_in rest))
+      (has 6 (labels_in rest)) (jumps_ahead own rest) 6 (omega arith)
+  binary_ahead n Subtract rest = three true (has 1 (labels_in rest)) (has 1 (labels_in rest))
+      (has 6 (labels_in rest)) (jumps_ahead own rest) 6 (omega arith)
+  binary_ahead n Multiply rest = three true (has 1 (labels_in rest)) (has 1 (labels_in rest))
+      (has 6 (labels_in rest)) (jumps_ahead own rest) 6 (omega arith)
+  binary_ahead n Quotient rest = three true (has 1 (labels_in rest)) (has 1 (labels_in rest))
+      (has 5 (labels_in rest)) _ 5 (omega arith) ∙ stop 6 (omega arith) rest
+  binary_ahead n Remainder rest = three true (has 1 (labels_in rest)) (has 1 (labels_in rest))
+      (has 5 (labels_in rest)) (jumps_ahead own rest) 5 (omega arith)
   binary_ahead n Modulo rest =
       let ls = labels_in rest in
       let all : List ℕ = (n + 1) ∷ ((n + 2) ∷ (n ∷ ls)) in
       let last : List ℕ = (n + 2) ∷ (n ∷ ls) in
-      let in_all : is_among all n ≡ true = later_in (n + 1) n last (later_in (n + 2) n (n ∷ ls) (first_in n ls)) in
-      three true (is_among all 1) (is_among all 1) (is_among all 5) _ 5 (omega arith)
-      ∙ near n (is_among all n) _ in_all ∙ near (n + 1) (is_among all (n + 1)) _ (first_in (n + 1) last)
-      ∙ near n (is_among all n) _ in_all ∙ near (n + 2) (is_among all (n + 2)) _
-      (later_in (n + 1) (n + 2) last (first_in (n + 2) (n ∷ ls)))
-      ∙ near n (is_among last n) (jumps_ahead own rest) (later_in (n + 2) n (n ∷ ls) (first_in n ls))
+      let in_all : has n all ≡ true = in_more n (n + 1) last (in_more n (n + 2) (n ∷ ls) (in_here n ls)) in
+      three true (has 1 all) (has 1 all) (has 5 all) _ 5 (omega arith)
+      ∙ near n (has n all) _ in_all ∙ near (n + 1) (has (n + 1) all) _ (in_here (n + 1) last)
+      ∙ near n (has n all) _ in_all ∙ near (n + 2) (has (n + 2) all) _
+      (in_more (n + 2) (n + 1) last (in_here (n + 2) (n ∷ ls)))
+      ∙ near n (has n last) (jumps_ahead own rest) (in_more n (n + 2) (n ∷ ls) (in_here n ls))
   binary_ahead n Equal rest = two n (labels_in rest) (jumps_ahead own rest)
   binary_ahead n Less rest = two n (labels_in rest) (jumps_ahead own rest)
   binary_ahead n Greater rest = two n (labels_in rest) (jumps_ahead own rest)
@@ -175,7 +176,7 @@ module _ (count : ℕ) where
   pair_ahead heap_end n which rest = binary_ahead n which rest
 
   ternary_ahead : (which : Primitive) → Ahead (ternary_code which)
-  ternary_ahead StringSet rest = away 1 (omega arith) (is_among (labels_in rest) 1) _ ∙ indexed rest
+  ternary_ahead StringSet rest = away 1 (omega arith) (has 1 (labels_in rest)) _ ∙ indexed rest
   ternary_ahead VectorSet rest = indexed rest
   ternary_ahead _ rest = refl
 
@@ -252,19 +253,18 @@ module _ (count : ℕ) where
 
   -- a label behind a body
   behind_body : (base out words heap_end literals n l : ℕ) (is : List Instruction) (rest : List Item)
-      → is_among (labels_in rest) l ≡ true → is_among (labels_in (body_code base out words heap_end literals n is rest)) l ≡ true
-  behind_body base out words heap_end literals n l is rest e = ap (λ ls. is_among ls l)
+      → has l (labels_in rest) ≡ true → has l (labels_in (body_code base out words heap_end literals n is rest)) ≡ true
+  behind_body base out words heap_end literals n l is rest e = ap (has l)
       (body_labelled base out words heap_end literals n is rest) ∙ right_in (body_labels base n is) (labels_in rest) l e
 
   within_body : (base out words heap_end literals n l : ℕ) (is : List Instruction) (rest : List Item)
-      → has l (frames.labels_in is) ≡ true → is_among (labels_in (body_code base out words heap_end literals n is rest))
-      (base + l) ≡ true
-  within_body base out words heap_end literals n l is rest e = ap (λ ls. is_among ls (base + l))
+      → has l (frames.labels_in is) ≡ true → has (base + l) (labels_in (body_code base out words heap_end literals n is rest)) ≡ true
+  within_body base out words heap_end literals n l is rest e = ap (has (base + l))
       (body_labelled base out words heap_end literals n is rest) ∙ left_in (body_labels base n is) (labels_in rest) (base + l)
       (label_in base n l is e)
 
   body_ahead : (base out words heap_end literals n : ℕ) (is : List Instruction) (rest : List Item)
-      → frames.jumps_ahead is ≡ true → list_all (labels_few count) is ≡ true → is_among (labels_in rest) out ≡ true
+      → frames.jumps_ahead is ≡ true → list_all (labels_few count) is ≡ true → has out (labels_in rest) ≡ true
       → jumps_ahead own (body_code base out words heap_end literals n is rest) ≡ jumps_ahead own rest
   body_ahead base out words heap_end literals n [] rest e f o = refl
   body_ahead base out words heap_end literals n (instruction.IfFalse l ∷ is) rest e f o =
@@ -296,7 +296,7 @@ module _ (count : ℕ) where
   body_ahead base out words heap_end literals n (instruction.Pass j ∷ is) rest e f o =
       body_ahead base out words heap_end literals (n + labels_needed (instruction.Pass j)) is rest e f o
   body_ahead base out words heap_end literals n (instruction.Call spread count ∷ is) rest e f o =
-      near_to own n _ _ (first_in n (labels_in (body_code base out words heap_end literals
+      near_to own n _ _ (in_here n (labels_in (body_code base out words heap_end literals
       (n + labels_needed (instruction.Call spread count)) is rest)))
       ∙ body_ahead base out words heap_end literals (n + labels_needed (instruction.Call spread count)) is rest e f o
   body_ahead base out words heap_end literals n (instruction.Tail spread count ∷ is) rest e f o =
@@ -308,13 +308,13 @@ module _ (count : ℕ) where
   body_ahead base out words heap_end literals n (instruction.Mark m ∷ is) rest e f o =
       body_ahead base out words heap_end literals (n + labels_needed (instruction.Mark m)) is rest e f o
 
-  passed_ahead : (q : Option Entry) (out : ℕ) (rest : List Item) → is_among (labels_in rest) out ≡ true
+  passed_ahead : (q : Option Entry) (out : ℕ) (rest : List Item) → has out (labels_in rest) ≡ true
       → jumps_ahead own (passed_code q out rest) ≡ jumps_ahead own rest
   passed_ahead None out rest e = refl
-  passed_ahead (Some q) out rest e = near out (is_among (labels_in rest) out) (jumps_ahead own rest) e
+  passed_ahead (Some q) out rest e = near out (has out (labels_in rest)) (jumps_ahead own rest) e
 
-  entry_behind : (q : Option Entry) (n : ℕ) (rest : List Item) (l : ℕ) → is_among (labels_in rest) l ≡ true
-      → is_among (labels_in (entry_code q n rest)) l ≡ true
+  entry_behind : (q : Option Entry) (n : ℕ) (rest : List Item) (l : ℕ) → has l (labels_in rest) ≡ true
+      → has l (labels_in (entry_code q n rest)) ≡ true
   entry_behind None n rest l e = e
   entry_behind (Some q) n rest l e = count_behind q.rest q.formals n rest l e
 
@@ -337,11 +337,11 @@ module _ (count : ℕ) where
       let out = n + c.labels in
       let others = forms_code words heap_end literals (suc label) (labels_end n c) cs rest in
       let last = item.Label out ∷ others in
-      let there : is_among (labels_in last) out ≡ true = first_in out (labels_in others) in
+      let there : has out (labels_in last) ≡ true = in_here out (labels_in others) in
       let body = item.Mark (Enter label) ∷ body_code n out words heap_end literals (n + c.labels + 2) c.instructions last in
-      let in_body : is_among (labels_in body) out ≡ true = behind_body n out words heap_end literals (n + c.labels + 2) out
+      let in_body : has out (labels_in body) ≡ true = behind_body n out words heap_end literals (n + c.labels + 2) out
       c.instructions last there in
-      passed_ahead c.entry out _ (later_in (body_label label) out (labels_in (entry_code c.entry (n + c.labels + 1) body))
+      passed_ahead c.entry out _ (in_more out (body_label label) (labels_in (entry_code c.entry (n + c.labels + 1) body))
       (entry_behind c.entry (n + c.labels + 1) body out in_body))
       ∙ entry_ahead c.entry (n + c.labels + 1) body ∙ body_ahead n out words heap_end literals (n + c.labels + 2) c.instructions last r.1 g.0
       there ∙ forms_ahead words heap_end literals (suc label) (labels_end n c) cs rest p.1 g.1

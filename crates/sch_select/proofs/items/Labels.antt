@@ -1,9 +1,8 @@
 -- No label stands twice in a program's items.
-use Rattle.std.proofs.Common.{◌≡◌, ℕ, ◌+◌, ◌<◌, ◌≤◌, List, [], ◌∷◌, ◌++◌, Bool, true, false, cond, refl, sym, ap}
-use Rattle.std.proofs.Common.{◌∙◌, arith, append_assoc, ◌==◌, ◌||◌, eq-eqb}
-use Rattle.std.specs.Prelude.{nat_lt}
-use Rattle.std.proofs.lemmas.Bool.{ne_eqb, ltb-true, ltb-false, or_parts}
-use Rattle.std.proofs.Math.Bool.{or-true}
+use Rattle.std.proofs.Common.{◌≡◌, ◌≢◌, ℕ, ◌+◌, ◌<◌, ◌≤◌, List, [], ◌∷◌, ◌++◌, Bool, true, false, cond, refl, sym, ap}
+use Rattle.std.proofs.Common.{◌∙◌, arith, append_assoc, ◌==◌}
+use Rattle.std.specs.Prelude.{nat_lt, not}
+use Rattle.std.proofs.lemmas.Bool.{and_from, and_parts, ne_eqb, ltb-true, ltb-false}
 use Rattle.sch_word.specs.declared.place.Place.{Place}
 use Rattle.sch_word.specs.declared.primitive.Primitive.{Primitive}
 use Rattle.sch_word.specs.declared.primitive.Primitive.TheVariants.{Eq, Eqv, IsBoolean, IsPair, IsNull, IsSymbol}
@@ -11,7 +10,9 @@ use Rattle.sch_word.specs.declared.primitive.Primitive.TheVariants.{IsInteger, I
 use Rattle.sch_word.specs.declared.primitive.Primitive.TheVariants.{IsProcedure, Modulo, Equal, Less, Greater}
 use Rattle.sch_word.specs.declared.primitive.Primitive.TheVariants.{LessEqual, GreaterEqual, Put, Cons}
 use Rattle.sch_word.specs.declared.primitive.Primitive.TheVariants.{MakeString, MakeVector, StringSet}
-use Rattle.sch_word.proofs.facts.Booleans.{neither}
+use Rattle.sch_word.specs.trees.NumberSets.{has, without_repeats}
+use Rattle.sch_word.proofs.facts.Booleans.{is_not_true, neither, not_true}
+use Rattle.sch_word.proofs.facts.NumberSets.{has_append, in_here, in_more}
 use Rattle.sch_control.specs.declared.operation.Atom.{Atom}
 use Rattle.sch_control.specs.declared.operation.Atom.TheVariants.{Constant, Literal, Variable}
 use Rattle.sch_control.specs.declared.operation.Operand.{Operand}
@@ -22,8 +23,7 @@ use Rattle.sch_control.specs.declared.operation.Member.{Member}
 use Rattle.sch_control.specs.declared.operation.Operation.{Operation}
 use Rattle.sch_control.specs.declared.operation.Operation.TheVariants as operation
 use Rattle.sch_asm.specs.declared.item.Item.{Item}
-use Rattle.sch_asm.specs.Items.{is_among, labels_in}
-use Rattle.sch_asm.proofs.Tables.{repeats}
+use Rattle.sch_asm.specs.Items.{labels_in}
 use Rattle.sch_select.specs.Select.{operand_needs, operation_needs}
 use Rattle.sch_select_operations.specs.OperandCode.{atom_code, unary_code, binary_code, read_code, operand_code, second_code}
 use Rattle.sch_select_operations.specs.CellCode.{source_code}
@@ -35,29 +35,34 @@ use Rattle.sch_select_operations.specs.PrimitiveCode.{pair_or_binary, ternary_co
 -- ---- lists whose elements are all different, in a range
 
 pub record Block (low high : ℕ) (ls : List ℕ) : Type 0 where
-  pub distinct : repeats ls ≡ false
-  pub below : (y : ℕ) → y < low → is_among ls y ≡ false
-  pub above : (y : ℕ) → high ≤ y → is_among ls y ≡ false
+  pub distinct : without_repeats ls ≡ true
+  pub below : (y : ℕ) → y < low → has y ls ≡ false
+  pub above : (y : ℕ) → high ≤ y → has y ls ≡ false
 
-pub among_append : (xs ys : List ℕ) (y : ℕ) → is_among xs y ≡ false → is_among ys y ≡ false
-    → is_among (xs ++ ys) y ≡ false
-among_append [] ys y e f = f
-among_append (x ∷ xs) ys y e f = let p = or_parts (x == y) (is_among xs y) e in neither (x == y)
-    (is_among (xs ++ ys) y) p.0 (among_append xs ys y p.1 f)
+-- what is neither the first nor behind it
+pub absent_more : (y x : ℕ) (xs : List ℕ) → y ≢ x → has y xs ≡ false → has y (x ∷ xs) ≡ false
+absent_more y x xs d e = neither (y == x) (has y xs) (ne_eqb y x d) e
+
+pub absent_append : (xs ys : List ℕ) (y : ℕ) → has y xs ≡ false → has y ys ≡ false → has y (xs ++ ys) ≡ false
+absent_append xs ys y e f = has_append y xs ys ∙ neither (has y xs) (has y ys) e f
+
+pub distinct_more : (x : ℕ) (xs : List ℕ) → has x xs ≡ false → without_repeats xs ≡ true → without_repeats (x ∷ xs) ≡ true
+distinct_more x xs e f = and_from (not (has x xs)) (without_repeats xs) (is_not_true (has x xs) e) f
 
 -- elements of the first are in none of the second
 abbrev pub Apart : List ℕ → List ℕ → Type 0
 Apart [] ys = Unit {0}
-Apart (x ∷ xs) ys = (is_among ys x ≡ false) × Apart xs ys
+Apart (x ∷ xs) ys = (has x ys ≡ false) × Apart xs ys
 
-pub distinct_append : (xs ys : List ℕ) → repeats xs ≡ false → repeats ys ≡ false → Apart xs ys
-    → repeats (xs ++ ys) ≡ false
+pub distinct_append : (xs ys : List ℕ) → without_repeats xs ≡ true → without_repeats ys ≡ true → Apart xs ys
+    → without_repeats (xs ++ ys) ≡ true
 distinct_append [] ys e f a = f
-distinct_append (x ∷ xs) ys e f a = let p = or_parts (is_among xs x) (repeats xs) e in neither
-    (is_among (xs ++ ys) x) (repeats (xs ++ ys)) (among_append xs ys x p.0 a.0) (distinct_append xs ys p.1 f a.1)
+distinct_append (x ∷ xs) ys e f a =
+    let p = and_parts (not (has x xs)) (without_repeats xs) e in
+    distinct_more x (xs ++ ys) (absent_append xs ys x (not_true (has x xs) p.0) a.0) (distinct_append xs ys p.1 f a.1)
 
 -- an element of a block is below its end
-inside : (low high : ℕ) (ls : List ℕ) → ((y : ℕ) → high ≤ y → is_among ls y ≡ false) → (y : ℕ) → is_among ls y ≡ true
+inside : (low high : ℕ) (ls : List ℕ) → ((y : ℕ) → high ≤ y → has y ls ≡ false) → (y : ℕ) → has y ls ≡ true
     → y < high
 inside low high ls above y e = by (nat_lt y high) refl
   where
@@ -65,24 +70,20 @@ inside low high ls above y e = by (nat_lt y high) refl
     by true f = ltb-true y high f
     by false f = absurd (let bad : true ≡ false = sym e ∙ above y (ltb-false y high f) in cc)
 
-apart_blocks : (xs all ys : List ℕ) (middle : ℕ) → ((y : ℕ) → is_among xs y ≡ true → is_among all y ≡ true)
-    → ((y : ℕ) → middle ≤ y → is_among all y ≡ false) → ((y : ℕ) → y < middle → is_among ys y ≡ false) → Apart xs ys
+apart_blocks : (xs all ys : List ℕ) (middle : ℕ) → ((y : ℕ) → has y xs ≡ true → has y all ≡ true)
+    → ((y : ℕ) → middle ≤ y → has y all ≡ false) → ((y : ℕ) → y < middle → has y ys ≡ false) → Apart xs ys
 apart_blocks [] all ys middle sub above below = tt
 apart_blocks (x ∷ xs) all ys middle sub above below = (
-  below x (inside 0 middle all above x (sub x (ap (λ b. b || is_among xs x) (same x)))),
-  apart_blocks xs all ys
-      middle (λ y e. sub y (ap (λ b. (x == y) || b) e ∙ or-true (x == y))) above below,
+  below x (inside 0 middle all above x (sub x (in_here x xs))),
+  apart_blocks xs all ys middle (λ y e. sub y (in_more y x xs e)) above below,
 )
-  where
-    same : (x : ℕ) → (x == x) ≡ true
-    same x = eq-eqb x x refl
 
 pub blocks : (a b c d : ℕ) (xs ys : List ℕ) → b ≤ c → a ≤ c → b ≤ d → Block a b xs → Block c d ys → Block a d (xs ++ ys)
 blocks a b c d xs ys le le' le'' p q = record {
   distinct = distinct_append xs ys p.distinct q.distinct
       (apart_blocks xs xs ys c (λ y e. e) (λ y h. p.above y (omega (arith, h, le))) q.below);
-  below = λ y h. among_append xs ys y (p.below y h) (q.below y (omega (arith, h, le')));
-  above = λ y h. among_append xs ys y (p.above y (omega (arith, h, le''))) (q.above y h);
+  below = λ y h. absent_append xs ys y (p.below y h) (q.below y (omega (arith, h, le')));
+  above = λ y h. absent_append xs ys y (p.above y (omega (arith, h, le''))) (q.above y h);
 }
 
 pub no_labels : (a b : ℕ) → Block a b []
@@ -98,8 +99,8 @@ wider a b c d ls low high p = record {
 pub one_label : (n : ℕ) → Block n (n + 1) (n ∷ [])
 one_label n = record {
   distinct = refl;
-  below = λ y h. neither (n == y) false (ne_eqb n y (λ e. omega (arith, e, h))) refl;
-  above = λ y h. neither (n == y) false (ne_eqb n y (λ e. omega (arith, e, h))) refl;
+  below = λ y h. absent_more y n [] (λ e. omega (arith, e, h)) refl;
+  above = λ y h. absent_more y n [] (λ e. omega (arith, e, h)) refl;
 }
 
 one_of_four : (n : ℕ) → Block n (n + 4) (n ∷ [])
@@ -107,15 +108,13 @@ one_of_four n = wider n (n + 4) n (n + 1) _ (omega arith) (omega arith) (one_lab
 
 modulo_block : (n : ℕ) → Block n (n + 4) ((n + 1) ∷ ((n + 2) ∷ (n ∷ [])))
 modulo_block n = record {
-  distinct = neither _ _ (neither (n + 2 == n + 1) _ (ne_eqb (n + 2) (n + 1) (λ e. omega (arith, e)))
-      (neither (n == n + 1) false (ne_eqb n (n + 1) (λ e. omega (arith, e))) refl))
-      (neither _ _ (neither (n == n + 2) false (ne_eqb n (n + 2) (λ e. omega (arith, e))) refl) refl);
-  below = λ y h. neither (n + 1 == y) _ (ne_eqb (n + 1) y (λ e. omega (arith, e, h)))
-      (neither (n + 2 == y) _ (ne_eqb (n + 2) y (λ e. omega (arith, e, h)))
-      (neither (n == y) false (ne_eqb n y (λ e. omega (arith, e, h))) refl));
-  above = λ y h. neither (n + 1 == y) _ (ne_eqb (n + 1) y (λ e. omega (arith, e, h)))
-      (neither (n + 2 == y) _ (ne_eqb (n + 2) y (λ e. omega (arith, e, h)))
-      (neither (n == y) false (ne_eqb n y (λ e. omega (arith, e, h))) refl));
+  distinct = distinct_more (n + 1) ((n + 2) ∷ (n ∷ []))
+      (absent_more (n + 1) (n + 2) (n ∷ []) (λ e. omega (arith, e)) (absent_more (n + 1) n [] (λ e. omega (arith, e)) refl))
+      (distinct_more (n + 2) (n ∷ []) (absent_more (n + 2) n [] (λ e. omega (arith, e)) refl) refl);
+  below = λ y h. absent_more y (n + 1) ((n + 2) ∷ (n ∷ [])) (λ e. omega (arith, e, h))
+      (absent_more y (n + 2) (n ∷ []) (λ e. omega (arith, e, h)) (absent_more y n [] (λ e. omega (arith, e, h)) refl));
+  above = λ y h. absent_more y (n + 1) ((n + 2) ∷ (n ∷ [])) (λ e. omega (arith, e, h))
+      (absent_more y (n + 2) (n ∷ []) (λ e. omega (arith, e, h)) (absent_more y n [] (λ e. omega (arith, e, h)) refl));
 }
 
 -- ---- the labels of each piece

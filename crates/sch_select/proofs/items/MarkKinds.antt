@@ -16,8 +16,9 @@ use Rattle.sch_asm.specs.declared.item.Item.{Item}
 use Rattle.sch_asm.specs.declared.item.Item.TheVariants as item
 use Rattle.sch_word.specs.declared.mark.MarkKind.TheVariants.{Enter, Spill}
 use Rattle.sch_frames.specs.Covered.{marks_settled}
-use Rattle.sch_frames.specs.Meaning.{is_slot}
-use Rattle.sch_frames.specs.Valid.{formals_of, in_slots}
+use Rattle.sch_word.specs.values.Places.{is_slot}
+use Rattle.sch_control.specs.flow.Places.{formals_of}
+use Rattle.sch_frames.specs.Valid.{in_slots}
 use Rattle.sch_insn.specs.declared.insn.Insn.TheVariants.{MovTo}
 use Rattle.sch_select_memory.specs.Addresses.{place_operand}
 use Rattle.sch_select_operations.proofs.simulation.SelectedPrograms.{form_selected, instruction_selected, members_selected, selects}

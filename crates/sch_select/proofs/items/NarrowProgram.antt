@@ -1,6 +1,7 @@
 -- What holds of selected items holds of their shortest forms.
 use Rattle.std.proofs.Common.{◌≡◌, ℕ, suc, List, [], ◌∷◌, ◌++◌, All, Bool, Option, Some, None, refl, sym, ap, ◌∙◌, subst}
 use Rattle.std.specs.Prelude.{ℤ, IsTrue, not, ◌&&◌, ◌||◌, ◌≤◌, nat_lt}
+use Rattle.sch_word.specs.trees.NumberSets.{has}
 use Rattle.sch_word.specs.declared.mark.MarkKind.{MarkKind}
 use Rattle.sch_word.specs.declared.mark.MarkKind.TheVariants as mark
 use Rattle.sch_insn.specs.declared.insn.Arg.TheVariants.{Base8, Base32}
@@ -9,10 +10,10 @@ use Rattle.sch_insn.specs.declared.insn.Insn.TheVariants.{MovTo, AddNumber}
 use Rattle.sch_asm.specs.declared.assembly.Word.{Word}
 use Rattle.sch_asm.specs.declared.item.Item.{Item}
 use Rattle.sch_asm.specs.declared.item.Item.TheVariants as item
-use Rattle.sch_asm.specs.Items.{AreKnown, AreOwn, IsEachOnce, is_among, is_routine, labels_in, uses_in, word_uses}
+use Rattle.sch_asm.specs.declared.routine.TheConstants.{FIRST_LABEL}
+use Rattle.sch_asm.specs.Items.{AreKnown, AreOwn, IsEachOnce, is_routine, labels_in, uses_in, word_uses}
 use Rattle.sch_asm.specs.Narrow.{narrow_item, narrowed, short_number, with_operand}
 use Rattle.sch_asm.proofs.NarrowItems.{item_same, narrowed_labels, narrowed_uses}
-use Rattle.sch_select_memory.specs.Addresses.{first_label}
 use Rattle.sch_select.specs.Jumps.{goes_ahead, jumps_ahead}
 use Rattle.sch_select.specs.MarkedStores.{checks_operator, loads_frame, moves_word, returns, stands_before, stores_marked, waiting_mark, writes_frame}
 use Rattle.sch_asm.specs.Codes.{instructions_in}
@@ -21,26 +22,26 @@ use Rattle.sch_select.specs.Sizes.{kinds_in}
 -- ---- labels
 
 pub narrowed_own : (is : List Item) → AreOwn is → AreOwn (narrowed is)
-narrowed_own is h = subst (All (λ l. 1024 ≤ l)) (sym (narrowed_labels is)) h
+narrowed_own is h = subst (All (λ l. FIRST_LABEL ≤ l)) (sym (narrowed_labels is)) h
 
 pub narrowed_once : (is : List Item) → IsEachOnce (labels_in is) → IsEachOnce (labels_in (narrowed is))
 narrowed_once is h = subst IsEachOnce (sym (narrowed_labels is)) h
 
 pub narrowed_known : (is : List Item) (ws : List Word) → AreKnown is ws → AreKnown (narrowed is) ws
 narrowed_known is ws h =
-    subst (λ ls. All (λ l. IsTrue (is_routine l || is_among ls l)) (uses_in (narrowed is) ++ word_uses ws)) (sym (narrowed_labels is))
-    (subst (λ us. All (λ l. IsTrue (is_routine l || is_among (labels_in is) l)) (us ++ word_uses ws)) (sym (narrowed_uses is)) h)
+    subst (λ ls. All (λ l. IsTrue (is_routine l || has l ls)) (uses_in (narrowed is) ++ word_uses ws)) (sym (narrowed_labels is))
+    (subst (λ us. All (λ l. IsTrue (is_routine l || has l (labels_in is))) (us ++ word_uses ws)) (sym (narrowed_uses is)) h)
 
 both : (a b c d : Bool) → a ≡ b → c ≡ d → (a && c) ≡ (b && d)
 both a b c d e f = ap (λ t. t && c) e ∙ ap (λ t. b && t) f
 
 goes_same : (first label : ℕ) (is : List Item) → goes_ahead first label (narrowed is) ≡ goes_ahead first label is
-goes_same first label is = ap (λ ls. nat_lt label first || is_among ls label) (narrowed_labels is)
+goes_same first label is = ap (λ ls. nat_lt label first || has label ls) (narrowed_labels is)
 
 pub narrowed_ahead : (own : ℕ) (is : List Item) → jumps_ahead own (narrowed is) ≡ jumps_ahead own is
 narrowed_ahead own [] = refl
-narrowed_ahead own (item.Jump l ∷ is) = both _ (goes_ahead first_label l is) _ (jumps_ahead own is) (goes_same first_label l is) (narrowed_ahead own is)
-narrowed_ahead own (item.JumpIf c l ∷ is) = both _ (goes_ahead first_label l is) _ (jumps_ahead own is) (goes_same first_label l is) (narrowed_ahead own is)
+narrowed_ahead own (item.Jump l ∷ is) = both _ (goes_ahead FIRST_LABEL l is) _ (jumps_ahead own is) (goes_same FIRST_LABEL l is) (narrowed_ahead own is)
+narrowed_ahead own (item.JumpIf c l ∷ is) = both _ (goes_ahead FIRST_LABEL l is) _ (jumps_ahead own is) (goes_same FIRST_LABEL l is) (narrowed_ahead own is)
 narrowed_ahead own (item.LoadLabel r l ∷ is) = both _ (goes_ahead own l is) _ (jumps_ahead own is) (goes_same own l is) (narrowed_ahead own is)
 narrowed_ahead own (_ ∷ is) = narrowed_ahead own is
 

@@ -1,26 +1,36 @@
 -- What the type of frame programs keeps, as select needs it, and that a program's labels are its own.
 use Rattle.std.proofs.Common.{◌≡◌, ℕ, suc, ◌+◌, ◌*◌, ◌≤◌, List, [], ◌∷◌, ◌++◌, length, true, refl}
-use Rattle.std.proofs.Common.{sym, ap, ◌∙◌, subst, arith, ◌==◌, ◌&&◌, ◌||◌, eq-eqb}
+use Rattle.std.proofs.Common.{sym, ap, ◌∙◌, subst, arith, ◌&&◌}
 use Rattle.std.specs.Prelude.{nat_le}
 use Rattle.std.specs.List.{list_all, AllByRecursion}
 use Rattle.std.proofs.lemmas.Bool.{and_parts, and_from, leb-true}
 use Rattle.std.proofs.lemmas.List.Elements.{All-from_recursion}
-use Rattle.std.proofs.Math.Bool.{or-true}
+use Rattle.sch_word.specs.trees.NumberSets.{has}
+use Rattle.sch_word.proofs.facts.NumberSets.{in_here, in_more}
 use Rattle.sch_word.specs.values.Literals.{count_literals, literals_known}
 use Rattle.sch_word.specs.runs.Runs.{max_statics, statics_size, statics_valid, statics_in_range, library_known}
+use Rattle.sch_word.specs.declared.place.Place.{Place}
+use Rattle.sch_control.specs.declared.operation.Operand.{Operand}
+use Rattle.sch_control.specs.declared.operation.Operand.TheVariants as operand
+use Rattle.sch_control.specs.declared.operation.Operation.{Operation}
+use Rattle.sch_control.specs.declared.operation.Operation.TheVariants as operation
 use Rattle.sch_frames.specs.declared.frame_body.FrameBody.{FrameBody}
 use Rattle.sch_frames.specs.declared.frame_program.FrameProgram.{FrameProgram}
+use Rattle.sch_frames.specs.declared.instruction.Instruction.{Instruction}
+use Rattle.sch_frames.specs.declared.instruction.Instruction.TheVariants.{Do, Store, Copy, Pass, Fix, Call, Tail, Return, End, IfFalse, Jump, Label, Mark}
 use Rattle.sch_frames.specs.ProgramView.{source}
 use Rattle.sch_frames.specs.SourceView.{codes_of}
 use Rattle.sch_frames.specs.Tree.{Source}
 use Rattle.sch_frames.specs.Valid.{forward, max_words}
 use Rattle.sch_asm.specs.declared.item.Item.{Item}
-use Rattle.sch_asm.specs.Items.{AreOwn, is_among, labels_in}
+use Rattle.sch_asm.specs.declared.routine.TheConstants.{FIRST_LABEL}
+use Rattle.sch_asm.specs.Items.{AreOwn, labels_in}
 use Rattle.sch_asm.specs.Narrow.{narrowed}
 use Rattle.sch_select_data.specs.Data.{heap_of, max_heap_address}
 use Rattle.sch_select_data.proofs.StaticSizes.{literals_few, names_few}
 use Rattle.sch_select.specs.Program.{laid_code, program_code, selected_code, program_zeros, max_data, max_stack, own_label}
 use Rattle.sch_select.specs.Program.{stack_bytes}
+use Rattle.sch_select.specs.Select.{all_labels_needed, operand_needs, operation_needs}
 use Rattle.sch_select.proofs.items.ProgramLabels.{labels_low, forms_labels, forms_labelled, last_code}
 
 pub words_few : (p : FrameProgram) → p.words ≤ 2048
@@ -53,15 +63,45 @@ all_forward [] = refl
 all_forward (b ∷ bodies) = and_from (forward b.labels b.instructions)
     (list_all (λ c. forward c.labels c.instructions) (codes_of bodies)) b.forward (all_forward bodies)
 
--- ---- labels from 1,024 on
+-- ---- an instruction needs twelve labels at most
 
-each : (ls : List ℕ) (low : ℕ) → ((y : ℕ) → is_among ls y ≡ true → low ≤ y) → AllByRecursion (λ l. low ≤ l) ls
+operand_few : (o : Operand Place) → operand_needs o ≤ 4
+operand_few (operand.Atom a) = omega arith
+operand_few (operand.Read site which atoms) = omega arith
+
+operation_few : (o : Operation Place) → operation_needs o ≤ 12
+operation_few (operation.Operand o) = let h = operand_few o in omega (arith, h)
+operation_few (operation.Prim site which operands) = omega arith
+operation_few (operation.Global g) = omega arith
+operation_few (operation.SetGlobal g o) = let h = operand_few o in omega (arith, h)
+operation_few (operation.Field p k) = omega arith
+operation_few (operation.NewCell x) = omega arith
+operation_few operation.UnsetCell = omega arith
+operation_few (operation.CellGet x) = omega arith
+operation_few (operation.CellSet x o) = let h = operand_few o in omega (arith, h)
+operation_few (operation.MakeClosure c) = omega arith
+
+pub needed_few : (is : List Instruction) → all_labels_needed is ≤ 12 * length is
+needed_few [] = omega arith
+needed_few (Do o ∷ is) = let h = operation_few o in let more = needed_few is in omega (arith, h, more)
+needed_few (Call spread count ∷ is) = let more = needed_few is in omega (arith, more)
+needed_few (Store p ∷ is) = let more = needed_few is in omega (arith, more)
+needed_few (Copy to from ∷ is) = let more = needed_few is in omega (arith, more)
+needed_few (Pass k ∷ is) = let more = needed_few is in omega (arith, more)
+needed_few (Fix members spills ∷ is) = let more = needed_few is in omega (arith, more)
+needed_few (Tail spread count ∷ is) = let more = needed_few is in omega (arith, more)
+needed_few (Return ∷ is) = let more = needed_few is in omega (arith, more)
+needed_few (End ∷ is) = let more = needed_few is in omega (arith, more)
+needed_few (IfFalse l ∷ is) = let more = needed_few is in omega (arith, more)
+needed_few (Jump l ∷ is) = let more = needed_few is in omega (arith, more)
+needed_few (Label l ∷ is) = let more = needed_few is in omega (arith, more)
+needed_few (Mark m ∷ is) = let more = needed_few is in omega (arith, more)
+
+-- ---- a program's labels are its own
+
+each : (ls : List ℕ) (low : ℕ) → ((y : ℕ) → has y ls ≡ true → low ≤ y) → AllByRecursion (λ l. low ≤ l) ls
 each [] low h = tt
-each (l ∷ ls) low h = (
-  h l (ap (λ b. b || is_among ls l) (eq-eqb l l refl)),
-  each ls low
-      (λ y e. h y (ap (λ b. (l == y) || b) e ∙ or-true (l == y))),
-)
+each (l ∷ ls) low h = (h l (in_here l ls), each ls low (λ y e. h y (in_more y l ls e)))
 
 each_append : (xs ys : List ℕ) (low : ℕ) → AllByRecursion (λ l. low ≤ l) xs → AllByRecursion (λ l. low ≤ l) ys
     → AllByRecursion (λ l. low ≤ l) (xs ++ ys)
@@ -80,9 +120,9 @@ program_own p limit depth e =
     let forms = forms_labels 0 (own_label p) p.bodies in
     let is : labels_in (selected_code p limit depth) ≡ forms ++ labels_in rest = forms_labelled p.words
     (heap_of p + limit) (count_literals p.statics.literals) 0 (own_label p) p.bodies rest in
-    All-from_recursion (λ l. 1024 ≤ l) (labels_in (selected_code p limit depth))
-    (subst (AllByRecursion (λ l. 1024 ≤ l)) (sym is) (each_append forms (labels_in rest) 1024
-    (each forms 1024 (λ y h. let lo = labels_low p e y h in omega (arith, lo))) (each_says (labels_in rest) 1024 refl)))
+    All-from_recursion (λ l. FIRST_LABEL ≤ l) (labels_in (selected_code p limit depth))
+    (subst (AllByRecursion (λ l. FIRST_LABEL ≤ l)) (sym is) (each_append forms (labels_in rest) FIRST_LABEL
+    (each forms FIRST_LABEL (labels_low p e)) (each_says (labels_in rest) FIRST_LABEL refl)))
 
 -- ---- what is made
 

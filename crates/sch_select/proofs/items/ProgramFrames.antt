@@ -27,7 +27,8 @@ use Rattle.sch_frames.specs.declared.instruction.Instruction.TheVariants as inst
 use Rattle.sch_frames.specs.Covered.{marks_settled}
 use Rattle.sch_frames.specs.Tree.{Code}
 use Rattle.sch_frames.specs.Tree as tree
-use Rattle.sch_frames.specs.Valid.{formals_of, in_slots, is_place, is_register}
+use Rattle.sch_control.specs.flow.Places.{formals_of}
+use Rattle.sch_frames.specs.Valid.{in_slots, is_place, is_register}
 use Rattle.sch_insn.specs.declared.insn.Arg.TheVariants.{Reg, Base8, Base32}
 use Rattle.sch_insn.specs.declared.insn.Insn.{Insn}
 use Rattle.sch_insn.specs.declared.insn.Insn.TheVariants.{MovTo, MovFrom, AddNumber}

@@ -1,13 +1,15 @@
 -- Each label that a selected program uses is a routine's or stands in its items.
 use Rattle.std.proofs.Common.{◌≡◌, ℕ, zero, suc, ◌+◌, ◌-◌, ◌%◌, ◌<◌, List, [], ◌∷◌, ◌++◌, length, map, replicate, Option, Some}
-use Rattle.std.proofs.Common.{None, Bool, true, false, refl, sym, ap, ◌∙◌, arith, ◌==◌, ◌&&◌, ◌||◌, eq-eqb}
+use Rattle.std.proofs.Common.{None, Bool, true, false, refl, sym, ap, ◌∙◌, arith, ◌&&◌, ◌||◌, eq-eqb}
 use Rattle.std.specs.Prelude.{nat_eq, nat_lt, IsTrue}
 use Rattle.std.specs.List.{list_all, AllByRecursion}
 use Rattle.std.proofs.lemmas.Bool.{and_parts, and_from, eqb-true, lt-ltb, ltb-true}
 use Rattle.std.proofs.lemmas.List.Elements.{All-from_recursion}
 use Rattle.std.proofs.Math.Bool.{or-true}
 use Rattle.sch_word.specs.values.Literals.{count_literals}
-use Rattle.sch_word.specs.trees.NumberSets.{has}
+use Rattle.sch_word.specs.trees.NumberSets.{has, without_repeats}
+use Rattle.sch_word.proofs.facts.Booleans.{or_left, or_right}
+use Rattle.sch_word.proofs.facts.NumberSets.{has_append, in_here, in_more}
 use Rattle.sch_word.specs.declared.place.Place.{Place}
 use Rattle.sch_word.specs.declared.primitive.Primitive.{Primitive}
 use Rattle.sch_word.specs.declared.primitive.Primitive.TheVariants.{Eq, Eqv, IsBoolean, IsPair, IsNull, IsSymbol}
@@ -34,12 +36,11 @@ use Rattle.sch_frames.specs.Tree.{Code}
 use Rattle.sch_frames.specs.Tree as tree
 use Rattle.sch_frames.specs.Valid as frames
 use Rattle.sch_frames.specs.Valid.{forward, jumps_ahead}
-use Rattle.sch_control.specs.Valid.{without_repeats}
 use Rattle.sch_asm.specs.declared.assembly.Word.{Word}
 use Rattle.sch_asm.specs.declared.assembly.Word.TheVariants.{Fixed, Address}
 use Rattle.sch_asm.specs.declared.item.Item.{Item}
 use Rattle.sch_asm.specs.declared.item.Item.TheVariants as item
-use Rattle.sch_asm.specs.Items.{AreKnown, is_among, is_routine, labels_in, uses_in, word_uses}
+use Rattle.sch_asm.specs.Items.{AreKnown, is_routine, labels_in, uses_in, word_uses}
 use Rattle.sch_select.specs.Program.{count_code, passed_code, entry_code, form_code, forms_code, labels_end}
 use Rattle.sch_select.specs.Program.{own_label, selected_code}
 use Rattle.sch_select_memory.specs.RestCode.{list_code, list_label}
@@ -63,42 +64,28 @@ use Rattle.sch_select.proofs.items.ProgramLabels.{forms_labels, forms_labelled, 
 use Rattle.sch_select.proofs.items.AppendedItems.{spill_same}
 use Rattle.sch_select_memory.proofs.Sound.{in_front}
 
-pub first_in : (n : ℕ) (ls : List ℕ) → is_among (n ∷ ls) n ≡ true
-first_in n ls = ap (λ b. b || is_among ls n) (eq-eqb n n refl)
+pub left_in : (xs ys : List ℕ) (y : ℕ) → has y xs ≡ true → has y (xs ++ ys) ≡ true
+left_in xs ys y e = has_append y xs ys ∙ or_left (has y xs) (has y ys) e
 
-pub later_in : (m n : ℕ) (ls : List ℕ) → is_among ls n ≡ true → is_among (m ∷ ls) n ≡ true
-later_in m n ls e = ap (λ b. (m == n) || b) e ∙ or-true (m == n)
-
-pub left_in : (xs ys : List ℕ) (y : ℕ) → is_among xs y ≡ true → is_among (xs ++ ys) y ≡ true
-left_in [] ys y e = absurd (let bad : false ≡ true = e in cc)
-left_in (x ∷ xs) ys y e = by (x == y) e (left_in xs ys y)
-  where
-    by : (b : Bool) → (b || is_among xs y) ≡ true → (is_among xs y ≡ true → is_among (xs ++ ys) y ≡ true)
-        → (b || is_among (xs ++ ys) y) ≡ true
-    by true e rec = refl
-    by false e rec = rec e
-
-pub right_in : (xs ys : List ℕ) (y : ℕ) → is_among ys y ≡ true → is_among (xs ++ ys) y ≡ true
-right_in [] ys y e = e
-right_in (x ∷ xs) ys y e = ap (λ b. (x == y) || b) (right_in xs ys y e) ∙ or-true (x == y)
+pub right_in : (xs ys : List ℕ) (y : ℕ) → has y ys ≡ true → has y (xs ++ ys) ≡ true
+right_in xs ys y e = has_append y xs ys ∙ or_right (has y xs) (has y ys) e
 
 -- a label that stands in a body
 pub label_in : (base n l : ℕ) (instructions : List Instruction) → has l (frames.labels_in instructions) ≡ true
-    → is_among (body_labels base n instructions) (base + l) ≡ true
+    → has (base + l) (body_labels base n instructions) ≡ true
 label_in base n l [] e = absurd (let bad : false ≡ true = e in cc)
 label_in base n l (Label k ∷ instructions) e =
     by (nat_eq l k) refl e (label_in base (n + labels_needed (Label k)) l instructions)
   where
     by : (b : Bool) → nat_eq l k ≡ b → (b || has l (frames.labels_in instructions)) ≡ true
-        → (has l (frames.labels_in instructions) ≡ true → is_among
-        (body_labels base (n + labels_needed (Label k)) instructions) (base + l)
-        ≡ true) → is_among ((base + k) ∷ body_labels base (n + labels_needed (Label k)) instructions) (base + l) ≡
-        true
+        → (has l (frames.labels_in instructions) ≡ true
+        → has (base + l) (body_labels base (n + labels_needed (Label k)) instructions) ≡ true)
+        → has (base + l) ((base + k) ∷ body_labels base (n + labels_needed (Label k)) instructions) ≡ true
     by true q e rec = let same : l ≡ k = eqb-true l k q in ap
-        (λ b. b || is_among (body_labels base (n + labels_needed (Label k)) instructions) (base + l))
-        (eq-eqb (base + k) (base + l) (omega (arith, same)))
+        (λ b. b || has (base + l) (body_labels base (n + labels_needed (Label k)) instructions))
+        (eq-eqb (base + l) (base + k) (omega (arith, same)))
     by false q e rec =
-        later_in (base + k) (base + l) (body_labels base (n + labels_needed (Label k)) instructions) (rec e)
+        in_more (base + l) (base + k) (body_labels base (n + labels_needed (Label k)) instructions) (rec e)
 label_in base n l (Do o ∷ instructions) e =
     right_in (operation_labels n o) (body_labels base (n + labels_needed (Do o)) instructions)
     (base + l) (label_in base (n + labels_needed (Do o)) l instructions e)
@@ -106,7 +93,7 @@ label_in base n l (Store q ∷ instructions) e = label_in base (n + labels_neede
 label_in base n l (Copy to from ∷ instructions) e = label_in base (n + labels_needed (Copy to from)) l instructions e
 label_in base n l (Pass j ∷ instructions) e = label_in base (n + labels_needed (Pass j)) l instructions e
 label_in base n l (Fix members spills ∷ instructions) e = label_in base (n + labels_needed (Fix members spills)) l instructions e
-label_in base n l (Call spread count ∷ instructions) e = later_in n (base + l)
+label_in base n l (Call spread count ∷ instructions) e = in_more (base + l) n
     (body_labels base (n + labels_needed (Call spread count)) instructions)
     (label_in base (n + labels_needed (Call spread count)) l instructions e)
 label_in base n l (Tail spread count ∷ instructions) e =
@@ -120,10 +107,10 @@ label_in base n l (Jump j ∷ instructions) e = label_in base (n + labels_needed
 -- All these labels stand in the program.
 module _ (all : List ℕ) where
   abbrev known : ℕ → Bool
-  known l = is_routine l || is_among all l
+  known l = is_routine l || has l all
 
   abbrev Among : List ℕ → Type 0
-  Among ls = (y : ℕ) → is_among ls y ≡ true → is_among all y ≡ true
+  Among ls = (y : ℕ) → has y ls ≡ true → has y all ≡ true
 
   among_left : (xs ys : List ℕ) → Among (xs ++ ys) → Among xs
   among_left xs ys h y e = h y (left_in xs ys y e)
@@ -131,50 +118,50 @@ module _ (all : List ℕ) where
   among_right : (xs ys : List ℕ) → Among (xs ++ ys) → Among ys
   among_right xs ys h y e = h y (right_in xs ys y e)
 
-  is_known : (l : ℕ) → is_among all l ≡ true → known l ≡ true
+  is_known : (l : ℕ) → has l all ≡ true → known l ≡ true
   is_known l e = ap (λ b. is_routine l || b) e ∙ or-true (is_routine l)
 
   abbrev Uses : (List Item → List Item) → Type 0
   Uses f = (rest : List Item) → list_all known (uses_in (f rest)) ≡ list_all known (uses_in rest)
 
-  one : (n : ℕ) (us : List ℕ) → is_among all n ≡ true → list_all known (n ∷ us) ≡ list_all known us
+  one : (n : ℕ) (us : List ℕ) → has n all ≡ true → list_all known (n ∷ us) ≡ list_all known us
   one n us e = in_front (known n) (list_all known us) (is_known n e)
 
   -- the label of a routine
   to_routine : (n : ℕ) (us : List ℕ) → n < 25 → list_all known (n ∷ us) ≡ list_all known us
-  to_routine n us lt = in_front (known n) (list_all known us) (ap (λ b. b || is_among all n) (lt-ltb n 25 lt))
+  to_routine n us lt = in_front (known n) (list_all known us) (ap (λ b. b || has n all) (lt-ltb n 25 lt))
 
-  module _ (count : ℕ) (bodies_in : (l : ℕ) → l < count → is_among all (body_label l) ≡ true) (words heap_end literals : ℕ) where
+  module _ (count : ℕ) (bodies_in : (l : ℕ) → l < count → has (body_label l) all ≡ true) (words heap_end literals : ℕ) where
     unary_uses : (n : ℕ) (which : Primitive) → Among (unary_labels n which) → Uses (unary_code n which)
-    unary_uses n IsBoolean h rest = one n (uses_in rest) (h n (first_in n []))
-    unary_uses n IsPair h rest = one n (uses_in rest) (h n (first_in n []))
-    unary_uses n IsNull h rest = one n (uses_in rest) (h n (first_in n []))
-    unary_uses n IsSymbol h rest = one n (uses_in rest) (h n (first_in n []))
-    unary_uses n IsInteger h rest = one n (uses_in rest) (h n (first_in n []))
-    unary_uses n IsChar h rest = one n (uses_in rest) (h n (first_in n []))
-    unary_uses n IsString h rest = one n (uses_in rest) (h n (first_in n []))
-    unary_uses n IsVector h rest = one n (uses_in rest) (h n (first_in n []))
-    unary_uses n IsProcedure h rest = one n (uses_in rest) (h n (first_in n []))
-    unary_uses n Put h rest = one n (put_label ∷ uses_in rest) (h n (first_in n []))
+    unary_uses n IsBoolean h rest = one n (uses_in rest) (h n (in_here n []))
+    unary_uses n IsPair h rest = one n (uses_in rest) (h n (in_here n []))
+    unary_uses n IsNull h rest = one n (uses_in rest) (h n (in_here n []))
+    unary_uses n IsSymbol h rest = one n (uses_in rest) (h n (in_here n []))
+    unary_uses n IsInteger h rest = one n (uses_in rest) (h n (in_here n []))
+    unary_uses n IsChar h rest = one n (uses_in rest) (h n (in_here n []))
+    unary_uses n IsString h rest = one n (uses_in rest) (h n (in_here n []))
+    unary_uses n IsVector h rest = one n (uses_in rest) (h n (in_here n []))
+    unary_uses n IsProcedure h rest = one n (uses_in rest) (h n (in_here n []))
+    unary_uses n Put h rest = one n (put_label ∷ uses_in rest) (h n (in_here n []))
     unary_uses n _ h rest = refl
 
     binary_uses : (n : ℕ) (which : Primitive) → Among (binary_labels n which) → Uses (binary_code n which)
-    binary_uses n Eq h rest = one n (uses_in rest) (h n (first_in n []))
-    binary_uses n Eqv h rest = one n (uses_in rest) (h n (first_in n []))
-    binary_uses n Equal h rest = one n (uses_in rest) (h n (first_in n []))
-    binary_uses n Less h rest = one n (uses_in rest) (h n (first_in n []))
-    binary_uses n Greater h rest = one n (uses_in rest) (h n (first_in n []))
-    binary_uses n LessEqual h rest = one n (uses_in rest) (h n (first_in n []))
-    binary_uses n GreaterEqual h rest = one n (uses_in rest) (h n (first_in n []))
+    binary_uses n Eq h rest = one n (uses_in rest) (h n (in_here n []))
+    binary_uses n Eqv h rest = one n (uses_in rest) (h n (in_here n []))
+    binary_uses n Equal h rest = one n (uses_in rest) (h n (in_here n []))
+    binary_uses n Less h rest = one n (uses_in rest) (h n (in_here n []))
+    binary_uses n Greater h rest = one n (uses_in rest) (h n (in_here n []))
+    binary_uses n LessEqual h rest = one n (uses_in rest) (h n (in_here n []))
+    binary_uses n GreaterEqual h rest = one n (uses_in rest) (h n (in_here n []))
     binary_uses n Modulo h rest =
         let us = uses_in rest in
-        let zeroth = h n (later_in (n + 1) n ((n + 2) ∷ (n ∷ [])) (later_in (n + 2) n (n ∷ []) (first_in n []))) in
-        let first = h (n + 1) (first_in (n + 1) ((n + 2) ∷ (n ∷ []))) in
-        let second = h (n + 2) (later_in (n + 1) (n + 2) ((n + 2) ∷ (n ∷ [])) (first_in (n + 2) (n ∷ []))) in
+        let zeroth = h n (in_more n (n + 1) ((n + 2) ∷ (n ∷ [])) (in_more n (n + 2) (n ∷ []) (in_here n []))) in
+        let first = h (n + 1) (in_here (n + 1) ((n + 2) ∷ (n ∷ []))) in
+        let second = h (n + 2) (in_more (n + 2) (n + 1) ((n + 2) ∷ (n ∷ [])) (in_here (n + 2) (n ∷ []))) in
         one n ((n + 1) ∷ (n ∷ ((n + 2) ∷ (n ∷ us)))) zeroth ∙ one (n + 1) (n ∷ ((n + 2) ∷ (n ∷ us))) first
         ∙ one n ((n + 2) ∷ (n ∷ us)) zeroth ∙ one (n + 2) (n ∷ us) second ∙ one n us zeroth
-    binary_uses n MakeString h rest = one n (string_label ∷ uses_in rest) (h n (first_in n []))
-    binary_uses n MakeVector h rest = one n (vector_label ∷ uses_in rest) (h n (first_in n []))
+    binary_uses n MakeString h rest = one n (string_label ∷ uses_in rest) (h n (in_here n []))
+    binary_uses n MakeVector h rest = one n (vector_label ∷ uses_in rest) (h n (in_here n []))
     binary_uses n _ h rest = refl
 
     pair_uses : (n : ℕ) (which : Primitive) → Among (binary_labels n which) → Uses (pair_or_binary heap_end n which)
@@ -261,7 +248,7 @@ module _ (all : List ℕ) where
     operation_uses n (operation.CellSet x o) f h rest = operand_uses n o h _ ∙ source_uses 1 x _
     operation_uses n (operation.MakeClosure c) f h rest = record_uses 0 c f _
 
-    module _ (base out : ℕ) (out_in : is_among all out ≡ true) where
+    module _ (base out : ℕ) (out_in : has out all ≡ true) where
       body_uses : (n : ℕ) (instructions : List Instruction) → jumps_ahead instructions ≡ true
           → list_all (labels_few count) instructions ≡ true → Among (body_labels base n instructions)
           → Uses (body_code base out words heap_end literals n instructions)
@@ -303,7 +290,7 @@ module _ (all : List ℕ) where
       body_uses n (Call spread count ∷ instructions) e f h rest =
           one n (uses_in (body_code base out words heap_end literals (n + labels_needed (Call spread count))
           instructions rest))
-          (h n (first_in n (body_labels base (n + labels_needed (Call spread count)) instructions)))
+          (h n (in_here n (body_labels base (n + labels_needed (Call spread count)) instructions)))
           ∙ body_uses (n + labels_needed (Call spread count)) instructions e f (among_right (n ∷ [])
           (body_labels base (n + labels_needed (Call spread count)) instructions) h) rest
       body_uses n (Tail spread count ∷ instructions) e f h rest =
@@ -311,12 +298,12 @@ module _ (all : List ℕ) where
       body_uses n (Return ∷ instructions) e f h rest = body_uses (n + labels_needed Return) instructions e f h rest
       body_uses n (Mark m ∷ instructions) e f h rest = body_uses (n + labels_needed (Mark m)) instructions e f h rest
 
-    passed_uses : (o : Option Entry) (out : ℕ) → is_among all out ≡ true → Uses (passed_code o out)
+    passed_uses : (o : Option Entry) (out : ℕ) → has out all ≡ true → Uses (passed_code o out)
     passed_uses None out e rest = refl
     passed_uses (Some q) out e rest = one out (uses_in rest) e
 
     -- the list of a rest variable
-    list_uses : (b : Bool) (required n : ℕ) → nat_lt required 6 ≡ b → is_among all n ≡ true
+    list_uses : (b : Bool) (required n : ℕ) → nat_lt required 6 ≡ b → has n all ≡ true
         → Uses (list_code b required n)
     list_uses true required n e h rest = one n (list_label required ∷ uses_in rest) h
         ∙ to_routine (list_label required) (uses_in rest) (let lt = ltb-true required 6 e in omega (arith, lt))
@@ -324,7 +311,7 @@ module _ (all : List ℕ) where
 
     count_uses : (b : Bool) (formals n : ℕ) → Among (count_labels b n) → Uses (count_code b formals n)
     count_uses false formals n h rest = refl
-    count_uses true formals n h rest = list_uses (nat_lt (formals - 1) 6) (formals - 1) n refl (h n (first_in n [])) rest
+    count_uses true formals n h rest = list_uses (nat_lt (formals - 1) 6) (formals - 1) n refl (h n (in_here n [])) rest
 
     entry_uses : (o : Option Entry) (n : ℕ) → Among (entry_labels o n) → Uses (entry_code o n)
     entry_uses None n h rest = refl
@@ -339,7 +326,7 @@ module _ (all : List ℕ) where
         let list = n + c.labels + 1 in
         let own : Among (inner_labels n c) = among_right (entry_labels c.entry list) (inner_labels n c) whole in
         let out_in = own (n + c.labels) (right_in body ((n + c.labels) ∷ []) (n + c.labels)
-        (first_in (n + c.labels) [])) in
+        (in_here (n + c.labels) [])) in
         let p = and_parts (list_all (λ l. nat_lt l c.labels) (frames.labels_in c.instructions))
         (without_repeats (frames.labels_in c.instructions) && jumps_ahead c.instructions) e in
         let q = and_parts (without_repeats (frames.labels_in c.instructions)) (jumps_ahead c.instructions) p.1 in
@@ -424,15 +411,14 @@ words_use p =
 
 -- a body's label stands in front of it
 body_in : (label n : ℕ) (cs : List Code) (j : ℕ) → j < length cs
-    → is_among (forms_labels label n cs) (body_label (label + j)) ≡ true
+    → has (body_label (label + j)) (forms_labels label n cs) ≡ true
 body_in label n [] j lt = absurd (omega (arith, lt))
-body_in label n (c ∷ cs) zero lt = ap (λ b. b || is_among
-    (own_labels n c ++ forms_labels (suc label) (labels_end n c) cs) (body_label (label + 0)))
-    (eq-eqb (body_label label) (body_label (label + 0)) (omega arith))
+body_in label n (c ∷ cs) zero lt = ap (λ b. b || has (body_label (label + 0)) (own_labels n c ++ forms_labels (suc label) (labels_end n c) cs))
+    (eq-eqb (body_label (label + 0)) (body_label label) (omega arith))
 body_in label n (c ∷ cs) (suc j) lt =
     let z : suc label + j ≡ label + suc j = omega arith in
     right_in (form_labels label n c) (forms_labels (suc label) (labels_end n c) cs) (body_label (label + suc j))
-    (ap (λ l. is_among (forms_labels (suc label) (labels_end n c) cs) (body_label l)) (sym z)
+    (ap (λ l. has (body_label l) (forms_labels (suc label) (labels_end n c) cs)) (sym z)
     ∙ body_in (suc label) (labels_end n c) cs j (omega (arith, lt)))
 
 pub program_known : (p : tree.Source) (limit depth : ℕ)
@@ -446,14 +432,14 @@ program_known p limit depth e f g =
     let forms = forms_labels 0 (own_label p) p.bodies in
     let all : List ℕ = labels_in (selected_code p limit depth) in
     let is : all ≡ forms ++ [] = forms_labelled p.words heap_end literals 0 (own_label p) p.bodies last_code in
-    let at : (y : ℕ) → is_among forms y ≡ true → is_among all y ≡ true = λ y h. ap (λ l. is_among l y) is ∙ left_in forms [] y h in
-    let bodies_in : (l : ℕ) → l < length p.bodies → is_among all (body_label l) ≡ true = λ l lt. at (body_label l)
-    (let z : 0 + l ≡ l = omega arith in ap (λ l. is_among forms (body_label l)) (sym z) ∙ body_in 0 (own_label p) p.bodies l lt) in
+    let at : (y : ℕ) → has y forms ≡ true → has y all ≡ true = λ y h. ap (has y) is ∙ left_in forms [] y h in
+    let bodies_in : (l : ℕ) → l < length p.bodies → has (body_label l) all ≡ true = λ l lt. at (body_label l)
+    (let z : 0 + l ≡ l = omega arith in ap (λ l. has (body_label l) forms) (sym z) ∙ body_in 0 (own_label p) p.bodies l lt) in
     let uses : list_all (known all) (uses_in (selected_code p limit depth)) ≡ true =
     forms_uses all (length p.bodies) bodies_in p.words heap_end literals 0 (own_label p) p.bodies e f at last_code in
     let words : list_all (known all) (word_uses (program_words p)) ≡ true = ap (list_all (known all)) (words_use p)
     ∙ library_uses all (length p.bodies) bodies_in p.words heap_end literals p.library g in
-    All-from_recursion (λ l. IsTrue (is_routine l || is_among all l))
+    All-from_recursion (λ l. IsTrue (is_routine l || has l all))
     (uses_in (selected_code p limit depth) ++ word_uses (program_words p))
     (says_all all (uses_in (selected_code p limit depth) ++ word_uses (program_words p))
     (all_known all (uses_in (selected_code p limit depth)) (word_uses (program_words p)) uses words))

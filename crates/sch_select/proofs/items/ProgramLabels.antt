@@ -1,14 +1,11 @@
 -- No label stands twice in a program's items.
 use Rattle.std.proofs.Common.{◌≡◌, ◌≢◌, ℕ, suc, ◌+◌, ◌<◌, ◌≤◌, List, [], ◌∷◌, ◌++◌, length, Bool, true, false}
-use Rattle.std.proofs.Common.{Option, Some, None, refl, sym, ap, ◌∙◌, subst, arith, append_assoc, ◌==◌, ◌&&◌, ◌||◌}
-use Rattle.std.proofs.Common.{eq-eqb}
+use Rattle.std.proofs.Common.{Option, Some, None, refl, sym, ap, ◌∙◌, subst, arith, append_assoc, ◌&&◌, ◌||◌}
 use Rattle.std.specs.Prelude.{not, nat_eq, nat_lt}
 use Rattle.std.specs.List.{list_all}
-use Rattle.std.proofs.lemmas.Bool.{and_parts, ne_eqb, ltb-true, ltb-false, eqb-true}
-use Rattle.std.proofs.Math.Bool.{or-true}
+use Rattle.std.proofs.lemmas.Bool.{and_parts, ltb-true, ltb-false, eqb-true}
 use Rattle.sch_word.specs.values.Literals.{count_literals}
-use Rattle.sch_word.specs.trees.NumberSets.{has}
-use Rattle.sch_control.specs.Valid.{without_repeats}
+use Rattle.sch_word.specs.trees.NumberSets.{has, without_repeats}
 use Rattle.sch_frames.specs.declared.instruction.Instruction.{Instruction}
 use Rattle.sch_frames.specs.declared.instruction.Instruction.TheVariants.{Do, Store, Copy, Pass, Fix, Call}
 use Rattle.sch_frames.specs.declared.instruction.Instruction.TheVariants.{Tail, Return, End, IfFalse, Jump, Label}
@@ -21,37 +18,34 @@ use Rattle.sch_asm.specs.declared.item.Item.{Item}
 use Rattle.sch_asm.specs.declared.item.Item.TheVariants as item
 use Rattle.sch_asm.specs.declared.routine.Routine.TheVariants as routine
 use Rattle.sch_asm.specs.Routines.{label_of}
-use Rattle.sch_asm.specs.Items.{IsEachOnce, is_among, labels_in}
-use Rattle.sch_asm.proofs.Tables.{each_once, repeats}
+use Rattle.sch_asm.specs.declared.routine.TheConstants.{FIRST_LABEL}
+use Rattle.sch_asm.specs.Items.{IsEachOnce, labels_in}
+use Rattle.sch_asm.proofs.Tables.{each_once}
 use Rattle.sch_select.proofs.items.RestItems.{count_labels, count_labelled}
 use Rattle.sch_select_memory.specs.Addresses.{body_label}
 use Rattle.sch_select.specs.Select.{all_labels_needed, labels_needed, instruction_code, body_code}
 use Rattle.sch_select.specs.Program.{passed_code, entry_code, form_code, forms_code, labels_end, own_label}
 use Rattle.sch_select.specs.Program.{selected_code}
 use Rattle.sch_select_data.specs.Data.{heap_of}
-use Rattle.sch_word.proofs.facts.Booleans.{neither}
-use Rattle.sch_select.proofs.items.Labels.{one_label, Block, Apart, Labelled, among_append}
-use Rattle.sch_select.proofs.items.Labels.{distinct_append}
+use Rattle.sch_word.proofs.facts.NumberSets.{in_here, in_more}
+use Rattle.sch_select.proofs.items.Labels.{one_label, Block, Apart, Labelled, absent_append, absent_more}
+use Rattle.sch_select.proofs.items.Labels.{distinct_append, distinct_more}
 use Rattle.sch_select.proofs.items.Labels.{group_labelled, operation_labels, operation_labelled, operation_block}
 
 -- elements of one list that another one has not
-apart_by : (xs ys : List ℕ) → ((x : ℕ) → is_among xs x ≡ true → is_among ys x ≡ false) → Apart xs ys
+apart_by : (xs ys : List ℕ) → ((x : ℕ) → has x xs ≡ true → has x ys ≡ false) → Apart xs ys
 apart_by [] ys h = tt
-apart_by (x ∷ xs) ys h = (
-  h x (ap (λ b. b || is_among xs x) (eq-eqb x x refl)),
-  apart_by xs ys
-      (λ y e. h y (ap (λ b. (x == y) || b) e ∙ or-true (x == y))),
-)
+apart_by (x ∷ xs) ys h = (h x (in_here x xs), apart_by xs ys (λ y e. h y (in_more y x xs e)))
 
 -- an element of a block is in its range
-pub low_end : {a b : ℕ} {ls : List ℕ} → Block a b ls → (y : ℕ) → is_among ls y ≡ true → a ≤ y
+pub low_end : {a b : ℕ} {ls : List ℕ} → Block a b ls → (y : ℕ) → has y ls ≡ true → a ≤ y
 low_end {a} {b} {ls} p y e = by (nat_lt y a) refl
   where
     by : (t : Bool) → nat_lt y a ≡ t → a ≤ y
     by false f = ltb-false y a f
     by true f = absurd (let bad : true ≡ false = sym e ∙ p.below y (ltb-true y a f) in cc)
 
-pub high_end : {a b : ℕ} {ls : List ℕ} → Block a b ls → (y : ℕ) → is_among ls y ≡ true → y < b
+pub high_end : {a b : ℕ} {ls : List ℕ} → Block a b ls → (y : ℕ) → has y ls ≡ true → y < b
 high_end {a} {b} {ls} p y e = by (nat_lt y b) refl
   where
     by : (t : Bool) → nat_lt y b ≡ t → y < b
@@ -87,15 +81,15 @@ module _ (base : ℕ) where
 
   absent : (y n : ℕ) (instructions : List Instruction) → y < n
       → ((l : ℕ) → has l (frames.labels_in instructions) ≡ true → y ≢ base + l)
-      → is_among (body_labels n instructions) y ≡ false
+      → has y (body_labels n instructions) ≡ false
   absent y n [] lt h = refl
-  absent y n (Label l ∷ instructions) lt h = neither (base + l == y)
-      (is_among (body_labels (n + labels_needed (Label l)) instructions) y) (ne_eqb (base + l) y
-      (λ e. h l (ap (λ b. b || has l (frames.labels_in instructions)) (eq-eqb l l refl)) (sym e)))
+  absent y n (Label l ∷ instructions) lt h =
+      absent_more y (base + l) (body_labels (n + labels_needed (Label l)) instructions)
+      (h l (in_here l (frames.labels_in instructions)))
       (absent y (n + labels_needed (Label l)) instructions (omega (arith, lt))
-      (λ k e. h k (ap (λ b. nat_eq k l || b) e ∙ or-true (nat_eq k l))))
+      (λ k e. h k (in_more k l (frames.labels_in instructions) e)))
   absent y n (Do o ∷ instructions) lt h =
-      among_append (operation_labels n o) (body_labels (n + labels_needed (Do o)) instructions) y
+      absent_append (operation_labels n o) (body_labels (n + labels_needed (Do o)) instructions) y
       ((operation_block n o).below y lt) (absent y (n + labels_needed (Do o)) instructions (omega (arith, lt)) h)
   absent y n (Store q ∷ instructions) lt h = absent y (n + labels_needed (Store q)) instructions (omega (arith, lt)) h
   absent y n (Copy to from ∷ instructions) lt h =
@@ -104,7 +98,7 @@ module _ (base : ℕ) where
   absent y n (Fix members spills ∷ instructions) lt h =
       absent y (n + labels_needed (Fix members spills)) instructions (omega (arith, lt)) h
   absent y n (Call spread count ∷ instructions) lt h =
-      among_append (n ∷ []) (body_labels (n + labels_needed (Call spread count)) instructions) y
+      absent_append (n ∷ []) (body_labels (n + labels_needed (Call spread count)) instructions) y
       ((one_label n).below y lt) (absent y (n + labels_needed (Call spread count)) instructions (omega (arith, lt)) h)
   absent y n (Tail spread count ∷ instructions) lt h =
       absent y (n + labels_needed (Tail spread count)) instructions (omega (arith, lt)) h
@@ -128,15 +122,15 @@ module _ (base : ℕ) where
 
     beyond : (y n : ℕ) (instructions : List Instruction)
         → list_all (λ l. nat_lt l labels) (frames.labels_in instructions) ≡ true → base + labels ≤ n
-        → n + all_labels_needed instructions ≤ y → is_among (body_labels n instructions) y ≡ false
+        → n + all_labels_needed instructions ≤ y → has y (body_labels n instructions) ≡ false
     beyond y n [] e le far = refl
     beyond y n (Label l ∷ instructions) e le far =
         let p = and_parts (nat_lt l labels) (list_all (λ l. nat_lt l labels) (frames.labels_in instructions)) e in
         let lt = ltb-true l labels p.0 in
-        neither (base + l == y) (is_among (body_labels (n + labels_needed (Label l)) instructions) y)
-        (ne_eqb (base + l) y (λ q. omega (arith, q, lt, le, far)))
+        absent_more y (base + l) (body_labels (n + labels_needed (Label l)) instructions)
+        (λ q. omega (arith, q, lt, le, far))
         (beyond y (n + labels_needed (Label l)) instructions p.1 (omega (arith, le)) (omega (arith, far)))
-    beyond y n (Do o ∷ instructions) e le far = among_append (operation_labels n o)
+    beyond y n (Do o ∷ instructions) e le far = absent_append (operation_labels n o)
         (body_labels (n + labels_needed (Do o)) instructions) y ((operation_block n o).above y (omega (arith, far)))
         (beyond y (n + labels_needed (Do o)) instructions e (omega (arith, le)) (omega (arith, far)))
     beyond y n (Store q ∷ instructions) e le far =
@@ -152,7 +146,7 @@ module _ (base : ℕ) where
         beyond y (n + labels_needed (Fix members spills)) instructions e (omega (arith, le))
         (omega (arith, far))
     beyond y n (Call spread count ∷ instructions) e le far =
-        among_append (n ∷ []) (body_labels (n + labels_needed (Call spread count)) instructions)
+        absent_append (n ∷ []) (body_labels (n + labels_needed (Call spread count)) instructions)
         y ((one_label n).above y (omega (arith, far)))
         (beyond y (n + labels_needed (Call spread count)) instructions e (omega (arith, le))
         (omega (arith, far)))
@@ -177,15 +171,14 @@ module _ (base : ℕ) where
     different : (n : ℕ) (instructions : List Instruction)
         → list_all (λ l. nat_lt l labels) (frames.labels_in instructions) ≡ true
         → without_repeats (frames.labels_in instructions) ≡ true → base + labels ≤ n
-        → repeats (body_labels n instructions) ≡ false
+        → without_repeats (body_labels n instructions) ≡ true
     different n [] e d le = refl
     different n (Label l ∷ instructions) e d le =
         let p = and_parts (nat_lt l labels) (list_all (λ l. nat_lt l labels) (frames.labels_in instructions)) e in
         let q = and_parts (not (has l (frames.labels_in instructions)))
         (without_repeats (frames.labels_in instructions)) d in
         let lt = ltb-true l labels p.0 in
-        neither (is_among (body_labels (n + labels_needed (Label l)) instructions) (base + l))
-        (repeats (body_labels (n + labels_needed (Label l)) instructions))
+        distinct_more (base + l) (body_labels (n + labels_needed (Label l)) instructions)
         (absent (base + l) (n + labels_needed (Label l)) instructions (omega (arith, lt, le))
         (λ k h s. let same : k ≡ l = omega (arith, s) in absurd
         (both (has l (frames.labels_in instructions)) q.0 (ap (λ k. has k (frames.labels_in instructions))
@@ -246,7 +239,7 @@ module _ (base : ℕ) where
         }
 
     pub absent_end : (y n : ℕ) (instructions : List Instruction) → forward labels instructions ≡ true
-        → base + labels ≤ y → y < n → is_among (body_labels n instructions) y ≡ false
+        → base + labels ≤ y → y < n → has y (body_labels n instructions) ≡ false
     absent_end y n instructions e le lt =
         let p = and_parts (list_all (λ l. nat_lt l labels) (frames.labels_in instructions))
         (without_repeats (frames.labels_in instructions) && jumps_ahead instructions) e in
@@ -294,21 +287,20 @@ inner_block n c e =
     let body = body_labels n (n + c.labels + 2) c.instructions in
     record {
       distinct = distinct_append body ((n + c.labels) ∷ []) b.distinct refl
-          (apart_by body ((n + c.labels) ∷ []) (λ x h. neither (n + c.labels == x) false
-          (ne_eqb (n + c.labels) x (λ s. other x h (sym s))) refl));
-      below = λ y lt. among_append body ((n + c.labels) ∷ []) y (b.below y lt)
-          (neither (n + c.labels == y) false (ne_eqb (n + c.labels) y (λ s. omega (arith, s, lt))) refl);
-      above = λ y far. among_append body ((n + c.labels) ∷ []) y (b.above y far)
-          (neither (n + c.labels == y) false (ne_eqb (n + c.labels) y (λ s. omega (arith, s, far))) refl);
+          (apart_by body ((n + c.labels) ∷ []) (λ x h. absent_more x (n + c.labels) [] (other x h) refl));
+      below = λ y lt. absent_append body ((n + c.labels) ∷ []) y (b.below y lt)
+          (absent_more y (n + c.labels) [] (λ s. omega (arith, s, lt)) refl);
+      above = λ y far. absent_append body ((n + c.labels) ∷ []) y (b.above y far)
+          (absent_more y (n + c.labels) [] (λ s. omega (arith, s, far)) refl);
     }
   where
-    other : (x : ℕ) → is_among (body_labels n (n + c.labels + 2) c.instructions) x ≡ true → x ≢ n + c.labels
+    other : (x : ℕ) → has x (body_labels n (n + c.labels + 2) c.instructions) ≡ true → x ≢ n + c.labels
     other x h s =
         let g = absent_end n c.labels (n + c.labels) (n + c.labels + 2) c.instructions e (omega arith) (omega arith) in
-        let bad : true ≡ false = sym h ∙ ap (is_among (body_labels n (n + c.labels + 2) c.instructions)) s ∙ g in cc
+        let bad : true ≡ false = sym h ∙ ap (λ l. has l (body_labels n (n + c.labels + 2) c.instructions)) s ∙ g in cc
 
 -- the label of a list beside these
-with_entry : (o : Option Entry) (k low high : ℕ) (ls : List ℕ) → low ≤ k → k < high → is_among ls k ≡ false
+with_entry : (o : Option Entry) (k low high : ℕ) (ls : List ℕ) → low ≤ k → k < high → has k ls ≡ false
     → Block low high ls → Block low high (entry_labels o k ++ ls)
 with_entry None k low high ls le lt absent b = b
 with_entry (Some e) k low high ls le lt absent b = by e.rest
@@ -316,17 +308,16 @@ with_entry (Some e) k low high ls le lt absent b = by e.rest
     by : (t : Bool) → Block low high (count_labels t k ++ ls)
     by false = b
     by true = record {
-      distinct = neither (is_among ls k) (repeats ls) absent b.distinct;
-      below = λ y less. neither (k == y) (is_among ls y) (ne_eqb k y (λ s. omega (arith, s, less, le))) (b.below y less);
-      above = λ y far. neither (k == y) (is_among ls y) (ne_eqb k y (λ s. omega (arith, s, far, lt))) (b.above y far);
+      distinct = distinct_more k ls absent b.distinct;
+      below = λ y less. absent_more y k ls (λ s. omega (arith, s, less, le)) (b.below y less);
+      above = λ y far. absent_more y k ls (λ s. omega (arith, s, far, lt)) (b.above y far);
     }
 
 own_block : (n : ℕ) (c : Code) → forward c.labels c.instructions ≡ true → Block n (labels_end n c) (own_labels n c)
 own_block n c e = with_entry c.entry (n + c.labels + 1) n (labels_end n c) (inner_labels n c) (omega arith) (omega arith)
-    (among_append (body_labels n (n + c.labels + 2) c.instructions) ((n + c.labels) ∷ []) (n + c.labels + 1)
+    (absent_append (body_labels n (n + c.labels + 2) c.instructions) ((n + c.labels) ∷ []) (n + c.labels + 1)
     (absent_end n c.labels (n + c.labels + 1) (n + c.labels + 2) c.instructions e (omega arith) (omega arith))
-    (neither (n + c.labels == n + c.labels + 1) false (ne_eqb (n + c.labels) (n + c.labels + 1) (λ s. omega (arith, s)))
-    refl)) (inner_block n c e)
+    (absent_more (n + c.labels + 1) (n + c.labels) [] (λ s. omega (arith, s)) refl)) (inner_block n c e)
 
 abbrev pub forms_labels : (label n : ℕ) → List Code → List ℕ
 forms_labels label n [] = []
@@ -350,9 +341,9 @@ end_above n (c ∷ cs) = let h = end_above (labels_end n c) cs in omega (arith, 
 
 -- The labels of bodies are one block, and those of their own are another, which lies behind it.
 pub record AreLabels (label n : ℕ) (cs : List Code) : Type 0 where
-  pub distinct : repeats (forms_labels label n cs) ≡ false
-  pub below : (y : ℕ) → y < body_label label → is_among (forms_labels label n cs) y ≡ false
-  pub between : (y : ℕ) → body_label (label + length cs) ≤ y → y < n → is_among (forms_labels label n cs) y ≡ false
+  pub distinct : without_repeats (forms_labels label n cs) ≡ true
+  pub below : (y : ℕ) → y < body_label label → has y (forms_labels label n cs) ≡ false
+  pub between : (y : ℕ) → body_label (label + length cs) ≤ y → y < n → has y (forms_labels label n cs) ≡ false
 
 pub forms_block : (label n : ℕ) (cs : List Code) → body_label (label + length cs) ≤ n
     → list_all (λ c. forward c.labels c.instructions) cs ≡ true → AreLabels label n cs
@@ -363,31 +354,30 @@ forms_block label n (c ∷ cs) le e =
     let rest = forms_labels (suc label) (labels_end n c) cs in
     let others = forms_block (suc label) (labels_end n c) cs (omega (arith, le)) p.1 in
     record {
-      distinct = neither (is_among (own_labels n c ++ rest) (body_label label)) (repeats (own_labels n c ++ rest))
-          (among_append (own_labels n c) rest (body_label label) (own.below (body_label label) (omega (arith, le)))
+      distinct = distinct_more (body_label label) (own_labels n c ++ rest)
+          (absent_append (own_labels n c) rest (body_label label) (own.below (body_label label) (omega (arith, le)))
           (others.below (body_label label) (omega arith)))
           (distinct_append (own_labels n c) rest own.distinct others.distinct
           (apart_by (own_labels n c) rest (λ x h. let lo = low_end own x h in let hi = high_end own x h in
           others.between x (omega (arith, lo, le)) hi)));
-      below = λ y lt. neither (body_label label == y) _ (ne_eqb (body_label label) y (λ s. omega (arith, s, lt)))
-          (among_append (own_labels n c) rest y (own.below y (omega (arith, lt, le)))
+      below = λ y lt. absent_more y (body_label label) (own_labels n c ++ rest) (λ s. omega (arith, s, lt))
+          (absent_append (own_labels n c) rest y (own.below y (omega (arith, lt, le)))
           (others.below y (omega (arith, lt))));
-      between = λ y lo hi. neither (body_label label == y) _
-          (ne_eqb (body_label label) y (λ s. omega (arith, s, lo)))
-          (among_append (own_labels n c) rest y (own.below y hi)
+      between = λ y lo hi. absent_more y (body_label label) (own_labels n c ++ rest) (λ s. omega (arith, s, lo))
+          (absent_append (own_labels n c) rest y (own.below y hi)
           (others.between y (omega (arith, lo)) (omega (arith, hi))));
     }
 
 -- ---- the program
 
 pub labels_low : (p : Source) → list_all (λ c. forward c.labels c.instructions) p.bodies ≡ true → (y : ℕ)
-    → is_among (forms_labels 0 (own_label p) p.bodies) y ≡ true → 1024 ≤ y
-labels_low p e y h = by (nat_lt y 1024) refl
+    → has y (forms_labels 0 (own_label p) p.bodies) ≡ true → FIRST_LABEL ≤ y
+labels_low p e y h = by (nat_lt y FIRST_LABEL) refl
   where
-    by : (t : Bool) → nat_lt y 1024 ≡ t → 1024 ≤ y
-    by false f = ltb-false y 1024 f
+    by : (t : Bool) → nat_lt y FIRST_LABEL ≡ t → FIRST_LABEL ≤ y
+    by false f = ltb-false y FIRST_LABEL f
     by true f = absurd (let bad : true ≡ false = sym h ∙ (forms_block 0 (own_label p) p.bodies (omega arith) e).below
-        y (ltb-true y 1024 f) in cc)
+        y (ltb-true y FIRST_LABEL f) in cc)
 
 -- what stands behind the bodies
 abbrev pub last_code : List Item

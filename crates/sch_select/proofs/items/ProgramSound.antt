@@ -36,7 +36,8 @@ use Rattle.sch_frames.specs.declared.instruction.Instruction.TheVariants.{Mark}
 use Rattle.sch_frames.specs.Tree.{Code}
 use Rattle.sch_frames.specs.Tree as tree
 use Rattle.sch_word.specs.trees.Shape.{max_operands}
-use Rattle.sch_frames.specs.Valid.{formals_of, handed_over, in_slots, is_place, is_register}
+use Rattle.sch_control.specs.flow.Places.{formals_of}
+use Rattle.sch_frames.specs.Valid.{handed_over, in_slots, is_place, is_register}
 use Rattle.sch_asm.specs.declared.item.Item.{Item}
 use Rattle.sch_asm.specs.declared.item.Item.TheVariants as item
 use Rattle.sch_asm.specs.Items.{AreItems}
@@ -60,6 +61,7 @@ use Rattle.sch_select_operations.proofs.simulation.SelectedPrograms.{atom_select
 use Rattle.sch_select_operations.proofs.simulation.SelectedPrograms.{closure_selected, members_selected, operation_selected}
 use Rattle.sch_select_operations.proofs.simulation.SelectedPrograms.{three_selected, instruction_selected, form_selected, selects}
 use Rattle.sch_select_operations.proofs.simulation.SelectedPrograms.{takes}
+use Rattle.sch_select_operations.proofs.simulation.Closures.{group_small}
 use Rattle.sch_frames.specs.Covered.{marks_settled}
 use Rattle.sch_control.specs.Valid.{only_reads}
 
@@ -227,18 +229,6 @@ module _ (words globals symbols literals heap_end : ℕ) (narrow : words ≤ 204
   closure_small : (c : Closure Place) → closure_selected words globals symbols literals c ≡ true → closure_bytes c ≤ 8016
   closure_small c e = let n = (closure_fields c e).0 in omega (arith, n)
 
-  group_small : (members : List (Member Place)) → members_selected words globals symbols literals members ≡ true
-      → group_bytes members ≤ 8016 * length members
-  group_small [] e = omega arith
-  group_small (m ∷ members) e =
-      let p = and_parts (is_place words m.at) (closure_selected words globals symbols literals m.closure &&
-      members_selected words globals symbols literals members) e in
-      let q = and_parts (closure_selected words globals symbols literals m.closure)
-      (members_selected words globals symbols literals members) p.1 in
-      let b = closure_small m.closure q.0 in
-      let h = group_small members q.1 in
-      omega (arith, b, h)
-
   places_valid : (offset : ℕ) (members : List (Member Place)) (spills : List ℕ) → offset + 8016 * length members < 1073741824
       → members_selected words globals symbols literals members ≡ true → Valid (places_code offset members spills)
   places_valid offset [] spills lt e rest = refl
@@ -266,7 +256,7 @@ module _ (words globals symbols literals heap_end : ℕ) (narrow : words ≤ 204
       → members_selected words globals symbols literals members ≡ true → Valid (group_code heap_end members spills)
   group_valid members spills few e rest =
       let n = leb-true (length members) max_operands few in
-      let s = group_small members e in
+      let s = group_small words globals symbols literals members e in
       heap_valid (group_bytes members)
       (places_code 0 members spills (records_code 0 members (item.Plain
       (AddNumber (Reg 12) (pos (group_bytes members))) ∷ rest)))

@@ -10,7 +10,7 @@ use Rattle.sch_word.specs.declared.place.Place.TheVariants.{Reg as Register, Slo
 use Rattle.sch_control.specs.declared.operation.Member.{Member}
 use Rattle.sch_frames.specs.declared.instruction.Instruction.{Instruction}
 use Rattle.sch_frames.specs.declared.instruction.Instruction.TheVariants as instruction
-use Rattle.sch_frames.specs.Meaning.{is_slot}
+use Rattle.sch_word.specs.values.Places.{is_slot}
 use Rattle.sch_frames.specs.Standing.{Before, Marked, Called, Other, all_marks_stand, before_next, belongs, code_marks_stand, is_restore, is_unmarked, loads, marked_before_next, marks_stand, stores, writes}
 use Rattle.sch_frames.specs.Tree.{Code}
 use Rattle.sch_frames.specs.Tree as tree

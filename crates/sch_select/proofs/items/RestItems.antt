@@ -1,10 +1,12 @@
 -- What the items before the body of a procedure owe, be they a check alone or the making of a list.
 use Rattle.std.proofs.Common.{◌≡◌, ℕ, ◌+◌, ◌-◌, ◌*◌, ◌<◌, ◌≤◌, List, [], ◌∷◌, ◌++◌, Bool, true, false, Option, Some, None}
-use Rattle.std.proofs.Common.{refl, ap, ◌∙◌, arith, ◌==◌, ◌||◌, eq-eqb}
+use Rattle.std.proofs.Common.{refl, ap, ◌∙◌, arith, ◌||◌}
 use Rattle.std.specs.Prelude.{pos, nat_lt}
 use Rattle.std.proofs.lemmas.Bool.{ltb-true, lt-ltb}
 use Rattle.std.proofs.Math.Bool.{or-true}
+use Rattle.sch_word.specs.trees.NumberSets.{has}
 use Rattle.sch_word.specs.trees.Shape.{max_operands}
+use Rattle.sch_word.proofs.facts.NumberSets.{in_here, in_more}
 use Rattle.sch_control.specs.declared.body.Entry.{Entry}
 use Rattle.sch_insn.proofs.PrefixCode.{spelling_short}
 use Rattle.sch_insn.specs.declared.insn.Arg.TheVariants.{Reg}
@@ -12,11 +14,11 @@ use Rattle.sch_insn.specs.declared.insn.Insn.TheVariants.{MovNumber, SubNumber, 
 use Rattle.sch_asm.specs.declared.item.Item.{Item}
 use Rattle.sch_asm.specs.declared.item.Item.TheVariants as item
 use Rattle.sch_asm.specs.Codes.{instructions_in, text_size}
-use Rattle.sch_asm.specs.Items.{is_among, labels_in, marks_arrive}
+use Rattle.sch_asm.specs.declared.routine.TheConstants.{FIRST_LABEL}
+use Rattle.sch_asm.specs.Items.{labels_in, marks_arrive}
 use Rattle.sch_select.specs.Jumps.{jumps_ahead, goes_ahead}
 use Rattle.sch_select.specs.Program.{count_code, entry_code, passed_code}
 use Rattle.sch_select_memory.specs.RestCode.{list_code, list_label, check_enough}
-use Rattle.sch_select_memory.specs.Addresses.{first_label}
 use Rattle.sch_select_memory.proofs.Sound.{items_valid, fits_32, in_front, fits_short}
 
 -- ---- marks: there are none
@@ -95,12 +97,11 @@ pub count_labelled : (b : Bool) (formals n : ℕ) (rest : List Item)
 count_labelled false formals n rest = refl
 count_labelled true formals n rest = list_labelled (nat_lt (formals - 1) 6) (formals - 1) n rest
 
-pub count_behind : (b : Bool) (formals n : ℕ) (rest : List Item) (l : ℕ) → is_among (labels_in rest) l ≡ true
-    → is_among (labels_in (count_code b formals n rest)) l ≡ true
+pub count_behind : (b : Bool) (formals n : ℕ) (rest : List Item) (l : ℕ) → has l (labels_in rest) ≡ true
+    → has l (labels_in (count_code b formals n rest)) ≡ true
 count_behind false formals n rest l e = e
 count_behind true formals n rest l e =
-    ap (λ ls. is_among ls l) (list_labelled (nat_lt (formals - 1) 6) (formals - 1) n rest)
-    ∙ ap (λ b. (n == l) || b) e ∙ or-true (n == l)
+    ap (has l) (list_labelled (nat_lt (formals - 1) 6) (formals - 1) n rest) ∙ in_more l n (labels_in rest) e
 
 -- ---- jumps
 
@@ -109,19 +110,19 @@ list_ahead : (own : ℕ) (b : Bool) (required n : ℕ) → nat_lt required 6 ≡
     → jumps_ahead own (list_code b required n rest) ≡ jumps_ahead own rest
 list_ahead own b required n e rest = by b e
   where
-    here : (first : ℕ) → (nat_lt n first || ((n == n) || is_among (labels_in rest) n)) ≡ true
-    here first = ap (λ t. nat_lt n first || (t || is_among (labels_in rest) n)) (eq-eqb n n refl) ∙ or-true (nat_lt n first)
+    here : (first : ℕ) → (nat_lt n first || has n (n ∷ labels_in rest)) ≡ true
+    here first = ap (λ t. nat_lt n first || t) (in_here n (labels_in rest)) ∙ or-true (nat_lt n first)
 
-    low : (m : ℕ) → m < 7 → goes_ahead first_label (list_label m) (item.Label n ∷ rest) ≡ true
-    low m lt = ap (λ a. a || is_among (n ∷ labels_in rest) (list_label m))
-        (lt-ltb (list_label m) first_label (omega (arith, lt)))
+    low : (m : ℕ) → m < 7 → goes_ahead FIRST_LABEL (list_label m) (item.Label n ∷ rest) ≡ true
+    low m lt = ap (λ a. a || has (list_label m) (n ∷ labels_in rest))
+        (lt-ltb (list_label m) FIRST_LABEL (omega (arith, lt)))
 
     by : (b : Bool) → nat_lt required 6 ≡ b → jumps_ahead own (list_code b required n rest) ≡ jumps_ahead own rest
     by true e = let lt = ltb-true required 6 e in in_front (goes_ahead own n (item.Label n ∷ rest)) _ (here own)
-        ∙ in_front (goes_ahead first_label (list_label required) (item.Label n ∷ rest)) (jumps_ahead own rest)
+        ∙ in_front (goes_ahead FIRST_LABEL (list_label required) (item.Label n ∷ rest)) (jumps_ahead own rest)
         (low required (omega (arith, lt)))
     by false e = in_front (goes_ahead own n (item.Label n ∷ rest)) _ (here own)
-        ∙ in_front (goes_ahead first_label (list_label 6) (item.Label n ∷ rest)) (jumps_ahead own rest)
+        ∙ in_front (goes_ahead FIRST_LABEL (list_label 6) (item.Label n ∷ rest)) (jumps_ahead own rest)
         (low 6 (omega arith))
 
 pub count_ahead : (own : ℕ) (b : Bool) (formals n : ℕ) (rest : List Item)

@@ -23,7 +23,9 @@ use Rattle.sch_control.specs.declared.operation.Operation.TheVariants as operati
 use Rattle.sch_frames.specs.declared.instruction.Instruction.{Instruction}
 use Rattle.sch_frames.specs.declared.instruction.Instruction.TheVariants as instruction
 use Rattle.sch_control.specs.Sizes.{operand_size, operands_size, operation_size}
-use Rattle.sch_frames.specs.Sizes.{closures_in, codes_copies, codes_size, copies_of, grouped, instruction_copies, instruction_size, instructions_size, jumped}
+use Rattle.sch_control.specs.RegisterWork.{entry_done}
+use Rattle.sch_control.proofs.OperandSizes.{operand_long}
+use Rattle.sch_frames.specs.Sizes.{closures_in, codes_copies, codes_size, copies_of, grouped, instruction_copies, instruction_size, instructions_size}
 use Rattle.sch_frames.specs.Sizes.{program_copies, program_work}
 use Rattle.sch_frames.specs.Tree.{Code}
 use Rattle.sch_frames.specs.Tree as tree
@@ -64,10 +66,6 @@ sources_counts (x ∷ sources) = ap suc (sources_counts sources)
 operand_counts : (o : Operand Place) → operand_size o ≤ suc (length (operand_atoms o))
 operand_counts (operand.Atom a) = omega arith
 operand_counts (operand.Read site which atoms) = omega arith
-
-operand_at_least : (o : Operand Place) → 1 ≤ operand_size o
-operand_at_least (operand.Atom a) = omega arith
-operand_at_least (operand.Read site which atoms) = omega arith
 
 -- ## Operations
 
@@ -140,7 +138,7 @@ primitive_adds heap_end n which (o ∷ (q ∷ (r ∷ []))) rest =
     let k = operand_adds (n + 4) o (index_operand q last) in
     let l = index_adds q last in
     let m = ternary_adds which rest in
-    let s = operand_at_least q in
+    let s = operand_long q in
     omega (arith, h, k, l, m, s)
 primitive_adds heap_end n which (o ∷ (q ∷ (r ∷ (s ∷ operands)))) rest = omega arith
 
@@ -318,12 +316,12 @@ body_adds base out words heap_end literals n (i ∷ is) rest =
     omega (arith, h, k, g)
 
 passed_adds : (o : Option Entry) (out : ℕ) (rest : List Item)
-    → text_size (passed_code o out rest) ≤ 5 * jumped o + text_size rest
+    → text_size (passed_code o out rest) ≤ 5 * entry_done o + text_size rest
 passed_adds None out rest = omega arith
 passed_adds (Some e) out rest = omega arith
 
 entry_adds : (o : Option Entry) (n : ℕ) (rest : List Item)
-    → text_size (entry_code o n rest) ≤ 58 * jumped o + text_size rest
+    → text_size (entry_code o n rest) ≤ 58 * entry_done o + text_size rest
 entry_adds None n rest = omega arith
 entry_adds (Some e) n rest = let h = count_adds e.rest e.formals n rest in omega (arith, h)
 

@@ -12,7 +12,8 @@ use Rattle.sch_frames.specs.declared.instruction.Instruction.{Instruction}
 use Rattle.sch_frames.specs.declared.instruction.Instruction.TheVariants.{Do, Store, Copy, Pass, Fix, Call}
 use Rattle.sch_frames.specs.declared.instruction.Instruction.TheVariants.{Tail, Return, End, IfFalse, Jump, Label}
 use Rattle.sch_frames.specs.declared.instruction.Instruction.TheVariants.{Mark}
-use Rattle.sch_frames.specs.Meaning.{Frame, Cell, Is, Link, Junk, More, value_in, if_link, link_register}
+use Rattle.sch_word.specs.values.Places.{link_place}
+use Rattle.sch_frames.specs.Meaning.{Frame, Cell, Is, Link, Junk, More, value_in, if_link}
 use Rattle.sch_frames.specs.Meaning.{with_place, with_outgoing, sought, execute, execute_each}
 use Rattle.sch_word.specs.trees.Shape.{max_operands}
 use Rattle.sch_word.specs.declared.place.Place.TheVariants.{Reg as Register, Slot}
@@ -25,6 +26,7 @@ use Rattle.sch_insn.proofs.Conditions.{compared_e}
 use Rattle.sch_insn.proofs.Paths.{leads_here, leads_on}
 use Rattle.sch_asm.specs.declared.item.Item.{Item}
 use Rattle.sch_word.specs.declared.mark.MarkKind.{MarkKind}
+use Rattle.sch_word.proofs.facts.Booleans.{not_true}
 use Rattle.sch_asm.specs.Stands.{Stands}
 use Rattle.sch_asm.specs.Data.{word_in}
 use Rattle.sch_asm.specs.Views.{View, Leads, full}
@@ -90,11 +92,7 @@ module _ (plan : Plan) (body_steps : ℕ) (laid : Laid plan body_steps) (act : A
       → Owed parts before w x c (k look f w)
 
   not_entered : not act.entered ≡ true → act.entered ≡ false
-  not_entered e = by act.entered e
-    where
-      by : (b : Bool) → not b ≡ true → b ≡ false
-      by false e = refl
-      by true e = absurd (let bad : false ≡ true = e in cc)
+  not_entered e = not_true act.entered e
 
   go_on : (parts : Parts) (before events : List MarkKind) (w : World) (x y : View) (a b c most : ℕ) (r : Result)
       → Leads setting a b events x y → ((p : ℕ) → stack ≤ p → p + 8 ≤ act.frame → word_in y.bytes p ≡ word_in x.bytes
@@ -247,7 +245,7 @@ module _ (plan : Plan) (body_steps : ℕ) (laid : Laid plan body_steps) (act : A
       group_sim plan body_steps laid act (k None) c rest (λ parts before waiting f w x h p g a m. K None parts before
       waiting f w x h p g a m) parts before waiting f w x p g m members spills (eqb-true (length spills) (in_slots members) some.0)
       checks.0 checks.1 a h
-  instruction_sim n Return k c rest K parts before waiting f w x e e' h p g a m = by (f.places link_register)
+  instruction_sim n Return k c rest K parts before waiting f w x e e' h p g a m = by (f.places link_place)
       (p.register 15 refl)
     where
       by : (q : Cell) → Holds act.back parts q (x.registers 15)

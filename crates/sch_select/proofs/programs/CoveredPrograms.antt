@@ -50,8 +50,9 @@ use Rattle.sch_frames.specs.declared.instruction.Instruction.TheVariants.{Mark}
 use Rattle.sch_frames.specs.declared.frame_program.FrameProgram.{FrameProgram}
 use Rattle.sch_frames.specs.ProgramView as view
 use Rattle.sch_frames.specs.SourceView.{code_of, codes_of}
-use Rattle.sch_frames.specs.Meaning.{is_slot}
-use Rattle.sch_frames.specs.Valid.{is_place, is_atom, are_members, call_shaped, formals_of, handed_over, in_slots}
+use Rattle.sch_word.specs.values.Places.{is_slot}
+use Rattle.sch_control.specs.flow.Places.{formals_of}
+use Rattle.sch_frames.specs.Valid.{is_place, is_atom, are_members, call_shaped, handed_over, in_slots}
 use Rattle.sch_frames.specs.Valid.{instruction_placed, instruction_shaped, instruction_known, names_of}
 
 -- ## Counts of operands

@@ -173,19 +173,16 @@ module _ (codes : List Code) (covered : list_all is_covered_code codes ≡ true)
 -- ---- what is seen, and what the machine passes
 
 no_stop : (why : Stop) → status_of why ≡ 0 → ⊥
-no_stop why e = by why e
-  where
-    by : (why : Stop) → status_of why ≡ 0 → ⊥
-    by WrongType e = omega (arith, e)
-    by OutOfRange e = omega (arith, e)
-    by NotProcedure e = omega (arith, e)
-    by WrongCount e = omega (arith, e)
-    by DivideByZero e = omega (arith, e)
-    by Overflow e = omega (arith, e)
-    by HeapLimit e = omega (arith, e)
-    by DepthLimit e = omega (arith, e)
-    by Unset e = omega (arith, e)
-    by OutputFailed e = omega (arith, e)
+no_stop WrongType e = omega (arith, e)
+no_stop OutOfRange e = omega (arith, e)
+no_stop NotProcedure e = omega (arith, e)
+no_stop WrongCount e = omega (arith, e)
+no_stop DivideByZero e = omega (arith, e)
+no_stop Overflow e = omega (arith, e)
+no_stop HeapLimit e = omega (arith, e)
+no_stop DepthLimit e = omega (arith, e)
+no_stop Unset e = omega (arith, e)
+no_stop OutputFailed e = omega (arith, e)
 
 module _ (p : Source) (heap depth : ℕ) (covered : list_all is_covered_code p.bodies ≡ true) (entry : ℕ) (segments : List Segment) (marks_at : ℕ → List MarkKind) (runs : List Answer → ℕ → Run)
     (passes : PassesMarks entry segments marks_at (marks_passed p heap depth)) (follows : FollowsRuns entry segments runs) (are : AreRuns p heap depth runs) where

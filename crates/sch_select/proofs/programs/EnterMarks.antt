@@ -24,11 +24,13 @@ use Rattle.sch_control.specs.Meaning.{World, Result, Callee, call_in, either, en
 use Rattle.sch_control.specs.Run.{enter, enter_body, entry_at}
 use Rattle.sch_frames.specs.declared.instruction.Instruction.{Instruction}
 use Rattle.sch_frames.specs.declared.instruction.Instruction.TheVariants.{Do, Store as Put, Copy, Pass, Fix, Call, Tail, Return, End, IfFalse, Jump, Label, Mark}
-use Rattle.sch_frames.specs.Meaning.{Cell, Is, Link, Junk, Frame, More, beginning, execute, execute_each, held, if_link, link_register, parts, sought, value_in, with_members}
+use Rattle.sch_word.specs.values.Places.{link_place}
+use Rattle.sch_frames.specs.Meaning.{Cell, Is, Link, Junk, Frame, More, beginning, execute, execute_each, held, if_link, parts, sought, value_in, with_members}
 use Rattle.sch_frames.specs.Run.{bodies_of, do_known, entries_of}
 use Rattle.sch_frames.specs.Tree.{Code}
 use Rattle.sch_frames.specs.Covered.{is_covered_code, plain_instruction}
 use Rattle.sch_word.specs.runs.Activations.{is_enter}
+use Rattle.sch_word.proofs.EntriesAhead.{entries_of as left_in}
 use Rattle.sch_select.proofs.programs.FreeCodes.{code_parts}
 use Rattle.sch_frames.proofs.OwnWays.{passes_at}
 
@@ -38,11 +40,6 @@ abbrev SameEntries : {V : Type 0} → State Procedure → Outcome (State Procedu
 SameEntries s (gives v u) = u.store.entries ≡ s.store.entries
 SameEntries s (stops why u) = u.store.entries ≡ s.store.entries
 SameEntries s (spent u) = u.store.entries ≡ s.store.entries
-
-abbrev left_in : {V : Type 0} → Outcome Store V → ℕ
-left_in (gives v t) = t.entries
-left_in (stops why t) = t.entries
-left_in (spent t) = t.entries
 
 as_left : {V : Type 0} (s : State Procedure) (o : Outcome Store V) → o ≡ outcome_with s.store.entries o → SameEntries s (with_rest s.cells s.procedures o)
 as_left s (gives v t) e = ap left_in e
@@ -190,8 +187,8 @@ module _ (codes : List Code) (covered : list_all is_covered_code codes ≡ true)
     instruction_kept (Call spread count) e next h f w p =
         value_kept (parts f.places f.outgoing count) _ (λ vs. return_kept (call_in callee spread false depth vs w) _ (call_kept spread false vs w p) (λ v u q. h None _ u q))
     instruction_kept (Tail spread count) e next h f w p =
-        link_kept (f.places link_register) _ (value_kept (parts f.places (λ j. f.places (Slot j)) count) _ (λ vs. call_kept spread true vs w p))
-    instruction_kept Return e next h f w p = link_kept (f.places link_register) _ (value_kept (value_in f.accumulator) _ (λ v. p))
+        link_kept (f.places link_place) _ (value_kept (parts f.places (λ j. f.places (Slot j)) count) _ (λ vs. call_kept spread true vs w p))
+    instruction_kept Return e next h f w p = link_kept (f.places link_place) _ (value_kept (value_in f.accumulator) _ (λ v. p))
     instruction_kept End e next h f w p = p
     instruction_kept (IfFalse l) e next h f w p = value_kept (value_in f.accumulator) _ (λ v. either_kept (is_true v) (next None f w) (next (Some l) f w) (h None f w p) (h (Some l) f w p))
     instruction_kept (Jump l) e next h f w p = h (Some l) f w p

@@ -35,7 +35,8 @@ use Rattle.sch_jumps.specs.Sizes.{Set, placed_from}
 use Rattle.sch_asm.specs.Views.{text_at}
 use Rattle.sch_runtime.specs.Code.{all_routines}
 use Rattle.sch_select_data.specs.Data.{heap_of, program_words}
-use Rattle.sch_select.specs.Program.{program_code, program_zeros}
+use Rattle.sch_select.specs.Program.{labels_of, own_labels, program_code, program_zeros}
+use Rattle.sch_select.specs.Reach.{names_below}
 
 -- a program of one form, with one global
 abbrev one_form : (labels : ℕ) → List Instruction → Source
@@ -111,6 +112,14 @@ tests : (ends (chooses (negsuc 0) (pos 0)) [] ≡ Some (0, codes "1"))
     × (ends (chooses (pos 0) (pos 0)) [] ≡ Some (0, codes "2"))
 unfolding escaped_of narrow_of operand_of rexed_of wide_of long_of test_of
 tests = (refl, refl)
+
+-- labels: two of jumps, one behind the body and one for a list, twelve for each primitive, and the one at which it begins
+labels : (labels_of (chooses (pos 0) (pos 1)).bodies ≡ 41)
+    × (own_labels [] ≡ 0)
+    × (names_below 5 7 (Label 1) ≡ true)
+    × (names_below 5 7 (Label 2) ≡ false)
+    × (names_below 5 7 End ≡ true)
+labels = (refl, refl, refl, refl, refl)
 
 -- what is put of each kind of value
 abbrev put_of : Const → Source

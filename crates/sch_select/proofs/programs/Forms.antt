@@ -12,7 +12,7 @@ use Rattle.sch_control.specs.declared.body.Entry.{Entry}
 use Rattle.sch_control.specs.Meaning.{World, Result, Callee, marked, on_return}
 use Rattle.sch_control.specs.Run.{do_forms}
 use Rattle.sch_word.specs.trees.Shape.{max_operands}
-use Rattle.sch_frames.specs.Valid.{formals_of}
+use Rattle.sch_control.specs.flow.Places.{formals_of}
 use Rattle.sch_frames.specs.Tree.{Code}
 use Rattle.sch_frames.specs.Meaning.{beginning, execute_each}
 use Rattle.sch_frames.specs.Run.{bodies_of, entries_of, do_known}

@@ -1,9 +1,10 @@
 -- The events of a bounded run on a path.
-use Rattle.std.proofs.Common.{◌≡◌, ℕ, zero, suc, ◌+◌, ◌<◌, ◌≤◌, List, [], ◌∷◌, ◌++◌, length, Some, None, refl, sym}
+use Rattle.std.proofs.Common.{◌≡◌, ℕ, zero, suc, ◌+◌, ◌<◌, ◌≤◌, List, [], ◌∷◌, ◌++◌, length, Some, refl, sym}
 use Rattle.std.proofs.Common.{ap, ◌∙◌, arith, append_assoc, append-nil, ⊎_elim, ◌⊎◌}
 use Rattle.std.specs.List.{flat_map}
 use Rattle.std.proofs.lemmas.Bool.{cases_lt}
 use Rattle.std.proofs.lemmas.Grind.{flat_map-append}
+use Rattle.std.proofs.lemmas.Option.{none-some}
 use Rattle.sch_insn.specs.Behaves.{exit_of}
 use Rattle.sch_insn.specs.Machine.{State}
 use Rattle.sch_insn.specs.Path.{Path, passed, traced, traced_on}
@@ -35,13 +36,10 @@ cut (suc m) s t (u ∷ us) p le =
           ap (λ l. s.core.place ∷ l) c.passed_is;
     }
 
-nothing : (o : ℕ × List ℕ) → None ≡ Some o → ⊥
-nothing o e = cc
-
 pub no_exit : (s : State) (p : Progress) (status : ℕ) (output : List ℕ) → exit_of (standing s p) ≡ Some (status, output) → ⊥
-no_exit s (Runs t) status output e = nothing (status, output) e
-no_exit s (Exited k t) status output e = nothing (status, output) e
-no_exit s (Stuck cause t) status output e = nothing (status, output) e
+no_exit s (Runs t) status output e = none-some (status, output) e
+no_exit s (Exited k t) status output e = none-some (status, output) e
+no_exit s (Stuck cause t) status output e = none-some (status, output) e
 
 module _ {E : Type 0} (events_at : ℕ → List E) where
   -- From s a path passes a beginning of some events. It has more than m steps, or the machine exits at its end and

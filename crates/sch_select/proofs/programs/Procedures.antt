@@ -21,7 +21,7 @@ use Rattle.sch_control.specs.CoveredOperands.{is_form}
 use Rattle.sch_frames.specs.Tree.{Code}
 use Rattle.sch_frames.specs.Run.{bodies_of, do_known, entries_of}
 use Rattle.sch_frames.specs.Meaning.{Junk, beginning, entry_places, execute_each}
-use Rattle.sch_frames.specs.Valid.{formals_of}
+use Rattle.sch_control.specs.flow.Places.{formals_of}
 use Rattle.sch_insn.specs.declared.condition.TheConstants.{NE}
 use Rattle.sch_insn.specs.declared.insn.Arg.TheVariants.{Reg}
 use Rattle.sch_insn.specs.declared.insn.Insn.TheVariants.{CmpNumber}

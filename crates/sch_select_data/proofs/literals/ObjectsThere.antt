@@ -13,6 +13,7 @@ use Rattle.sch_word.specs.values.Literals.{Literals, literals_size, objects_in_e
 use Rattle.sch_word.proofs.values.Fixnums.{is_fixnum_holds}
 use Rattle.sch_word.proofs.values.LiteralObjects.{objects_of_each_length}
 use Rattle.sch_word.specs.runs.ProgramLayout.{data_address}
+use Rattle.sch_word.proofs.facts.Lists.{not_missing}
 use Rattle.sch_asm.specs.declared.assembly.Word.{Word}
 use Rattle.sch_asm.specs.declared.assembly.Word.TheVariants.{Fixed}
 use Rattle.sch_asm.specs.Codes.{bytes_of}
@@ -40,11 +41,6 @@ piece_front bytes a xs ys at =
 split : (own : Parts) (bytes : List ℕ) (unit : ℕ) (x : Object) (xs : List Object) → PieceAt bytes (16 * unit) (word_bytes (objects_contents own (x ∷ xs)))
     → PieceAt bytes (16 * unit) (word_bytes (object_contents own x) ++ word_bytes (objects_contents own xs))
 split own bytes unit x xs at = subst (PieceAt bytes (16 * unit)) (flat_map-append (to_le_bytes w64) (object_contents own x) (objects_contents own xs)) at
-
-none_within : (objects : List Object) (n : ℕ) → n < length objects → slice_get objects n ≡ None → ⊥
-none_within [] n lt e = omega (arith, lt)
-none_within (x ∷ xs) zero lt e = let bad : Some x ≡ None = e in cc
-none_within (x ∷ xs) (suc n) lt e = none_within xs n (omega (arith, lt)) e
 
 piece_back : (bytes : List ℕ) (a : ℕ) (xs ys : List ℕ) → PieceAt bytes a (xs ++ ys) → PieceAt bytes (a + length xs) ys
 piece_back bytes a xs ys at =
@@ -134,7 +130,7 @@ module _ (parts : Parts) (first : ℕ) (objects : List Object) (spotted : AreSpo
   names_below n lt = by (slice_get objects n) refl
     where
       by : (o : Option Object) → slice_get objects n ≡ o → NamesObject parts n (object_word (parts_at first objects) n)
-      by None e = absurd (none_within objects n lt e)
+      by None e = absurd (not_missing objects n lt e)
       by (Some o) e = names n o e
 
   -- the word of a value

@@ -1,11 +1,11 @@
 -- What a heap has stays where other words change, and grows with new parts.
-use Rattle.std.proofs.Common.{◌≡◌, ℕ, zero, suc, ◌+◌, ◌*◌, ◌^◌, ◌<◌, ◌≤◌, List, [], ◌∷◌, ◌++◌, length, Bool, true, false, Option, Some, None, refl, sym, ap, ◌∙◌, subst, arith, ◌⊎◌, inl, inr, ⊎_elim, ◌==◌, ◌-◌}
+use Rattle.std.proofs.Common.{◌≡◌, ℕ, suc, ◌+◌, ◌*◌, ◌^◌, ◌<◌, ◌≤◌, List, [], ◌∷◌, ◌++◌, length, Bool, true, false, Option, Some, None, refl, sym, ap, ◌∙◌, subst, arith, ◌⊎◌, inl, inr, ⊎_elim, ◌==◌, ◌-◌}
 use Rattle.std.specs.Prelude.{slice_get, slice_set}
 use Rattle.std.proofs.lemmas.Bool.{eqb-true, eqb-false, cases_lt, ne_eqb}
 use Rattle.std.proofs.lemmas.Option.{slice_get_within}
 use Rattle.sch_word.specs.values.Values.{Value, fixnum, character, boolean, nil, unspecified, symbol, object, procedure, cell, Object, pair, vector, string}
 use Rattle.sch_word.specs.values.PrimitiveRows.{is_pair, is_vector, is_string}
-use Rattle.sch_word.proofs.facts.Lists.{set_here, set_elsewhere}
+use Rattle.sch_word.proofs.facts.Lists.{set_here, set_elsewhere, get_front, get_behind}
 use Rattle.sch_control.specs.Operations.{Procedure}
 use Rattle.sch_asm.specs.Data.{Inside, word_in, with_word}
 use Rattle.sch_asm.proofs.Words.{word_same}
@@ -47,15 +47,6 @@ held_fits parts None x h = omega (arith, h)
 held_fits parts (Some v) x h = fits parts v x h
 
 -- ---- elements of lists
-
-pub get_front : {A : Type 0} (xs ys : List A) (k : ℕ) → k < length xs → slice_get (xs ++ ys) k ≡ slice_get xs k
-get_front [] ys k lt = absurd (omega (arith, lt))
-get_front (x ∷ xs) ys zero lt = refl
-get_front (x ∷ xs) ys (suc k) lt = get_front xs ys k (omega (arith, lt))
-
-pub get_behind : {A : Type 0} (xs ys : List A) (k : ℕ) → slice_get (xs ++ ys) (length xs + k) ≡ slice_get ys k
-get_behind [] ys k = let e : 0 + k ≡ k = omega arith in ap (slice_get ys) e
-get_behind (x ∷ xs) ys k = let e : length (x ∷ xs) + k ≡ suc (length xs + k) = omega arith in ap (slice_get (x ∷ (xs ++ ys))) e ∙ get_behind xs ys k
 
 -- ---- the words of a heap
 

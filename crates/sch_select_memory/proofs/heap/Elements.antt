@@ -6,7 +6,7 @@ use Rattle.std.proofs.lemmas.Bool.Decides.{nat_tests}
 use Rattle.std.proofs.lemmas.Int.{ints}
 use Rattle.sch_word.specs.values.Values.{is_byte, are_bytes}
 use Rattle.sch_word.specs.values.PrimitiveRows.{is_index}
-use Rattle.sch_insn.specs.Machine.{head_or_0}
+use Rattle.sch_word.specs.values.Options.{first_or_0}
 use Rattle.sch_asm.specs.Data.{FixnumWord}
 use Rattle.sch_select_memory.proofs.heap.Signs.{low_word, high_word}
 
@@ -28,11 +28,6 @@ index_word (pos m) x bound h e = (low_word m x h, ltb-true m bound (and_parts (n
 index_word (negsuc m) x bound h e = absurd (let bad : false ≡ true = e in cc)
 
 -- ---- elements
-
-pub get_there : {A : Type 0} (xs : List A) (k : ℕ) → k < length xs → (x : A) × (slice_get xs k ≡ Some x)
-get_there [] k lt = absurd (omega (arith, lt))
-get_there (x ∷ xs) zero lt = (x, refl)
-get_there (x ∷ xs) (suc k) lt = get_there xs k (omega (arith, lt))
 
 pub index_there : (xs : List ℕ) (k : ℕ) → k < length xs → slice_get xs k ≡ Some (slice_index xs k)
 index_there [] k lt = absurd (omega (arith, lt))
@@ -56,7 +51,7 @@ bytes_same zero b lt = refl
 bytes_same (suc n) b lt = let i : nat_lt b 256 ≡ true = grind (arith, nat_tests) in ap (λ t. t && are_bytes (replicate n b)) i ∙ bytes_same n b lt
 
 -- a byte of some that stand at an offset is the first of what stands behind
-pub byte_at_offset : (bytes text : List ℕ) (a k : ℕ) → take (length text) (drop a bytes) ≡ text → k < length text → head_or_0 (drop (a + k) bytes) ≡ slice_index text k
+pub byte_at_offset : (bytes text : List ℕ) (a k : ℕ) → take (length text) (drop a bytes) ≡ text → k < length text → first_or_0 (drop (a + k) bytes) ≡ slice_index text k
 byte_at_offset bytes text a k e lt = by_drop bytes a ∙ in_front (drop a bytes) text k e lt
   where
     head_tail : (xs : List ℕ) (k : ℕ) → drop (suc k) xs ≡ drop k (drop 1 xs)
@@ -64,9 +59,9 @@ byte_at_offset bytes text a k e lt = by_drop bytes a ∙ in_front (drop a bytes)
     head_tail [] (suc k) = refl
     head_tail (x ∷ xs) k = refl
 
-    by_drop : (bytes : List ℕ) (a : ℕ) → head_or_0 (drop (a + k) bytes) ≡ head_or_0 (drop k (drop a bytes))
-    by_drop bytes zero = let z : zero + k ≡ k = omega arith in ap (λ n. head_or_0 (drop n bytes)) z
-    by_drop [] (suc a) = ap head_or_0 (nothing (suc a + k)) ∙ ap head_or_0 (sym (nothing k))
+    by_drop : (bytes : List ℕ) (a : ℕ) → first_or_0 (drop (a + k) bytes) ≡ first_or_0 (drop k (drop a bytes))
+    by_drop bytes zero = let z : zero + k ≡ k = omega arith in ap (λ n. first_or_0 (drop n bytes)) z
+    by_drop [] (suc a) = ap first_or_0 (nothing (suc a + k)) ∙ ap first_or_0 (sym (nothing k))
       where
         none : List ℕ
         none = []
@@ -74,9 +69,9 @@ byte_at_offset bytes text a k e lt = by_drop bytes a ∙ in_front (drop a bytes)
         nothing : (n : ℕ) → drop n none ≡ none
         nothing zero = refl
         nothing (suc n) = refl
-    by_drop (b ∷ bytes) (suc a) = let z : suc a + k ≡ suc (a + k) = omega arith in ap (λ n. head_or_0 (drop n (b ∷ bytes))) z ∙ by_drop bytes a
+    by_drop (b ∷ bytes) (suc a) = let z : suc a + k ≡ suc (a + k) = omega arith in ap (λ n. first_or_0 (drop n (b ∷ bytes))) z ∙ by_drop bytes a
 
-    in_front : (xs text : List ℕ) (k : ℕ) → take (length text) xs ≡ text → k < length text → head_or_0 (drop k xs) ≡ slice_index text k
+    in_front : (xs text : List ℕ) (k : ℕ) → take (length text) xs ≡ text → k < length text → first_or_0 (drop k xs) ≡ slice_index text k
     in_front xs [] k e lt = absurd (omega (arith, lt))
     in_front [] (t ∷ text) k e lt = absurd (let bad : [] ≡ t ∷ text = e in cc)
     in_front (x ∷ xs) (t ∷ text) zero e lt = let h : x ∷ take (length text) xs ≡ t ∷ text = e in let s : x ≡ t = cc in s

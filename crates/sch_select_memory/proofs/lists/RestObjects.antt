@@ -3,11 +3,14 @@ use Rattle.std.proofs.Common.{◌≡◌, ℕ, zero, suc, ◌+◌, ◌*◌, ◌^�
 use Rattle.std.proofs.Common.{Option, Some, None, refl, sym, ap, ◌∙◌, subst, arith, ◌⊎◌, inl, inr, ◌==◌, ◌||◌, append_assoc}
 use Rattle.std.specs.Prelude.{slice_get}
 use Rattle.std.proofs.lemmas.Bool.{eqb-true, ne_eqb}
+use Rattle.std.proofs.lemmas.Option.{slice_get_past}
+use Rattle.std.proofs.lemmas.List.{append-nil}
 use Rattle.sch_word.specs.declared.answer.Answer.{Answer}
 use Rattle.sch_word.specs.values.Values.{Value, nil, object, Object, pair}
 use Rattle.sch_word.specs.values.PrimitiveRows.{is_pair}
 use Rattle.sch_word.specs.runs.Charges.{linked, list_value}
 use Rattle.sch_word.specs.runs.Computation.{State}
+use Rattle.sch_word.proofs.facts.Lists.{get_behind}
 use Rattle.sch_control.specs.Operations.{Procedure}
 use Rattle.sch_asm.specs.Data.{word_in}
 use Rattle.sch_select_memory.specs.Parts.{a_procedure, a_cell, a_pair, a_vector, a_string, Part, Parts, Spot, end_of, units}
@@ -15,7 +18,7 @@ use Rattle.sch_select_memory.specs.Parts.{spot, grown}
 use Rattle.sch_select_memory.specs.Encoded.{IsWord, Words}
 use Rattle.sch_select_memory.specs.Heap.{ObjectAt, AreKinds, AreNew}
 use Rattle.sch_select_memory.proofs.heap.Spots.{spot_newest, spot_other, end_grown, among}
-use Rattle.sch_select_memory.proofs.heap.Contents.{KindsOf, objects_grow, objects_stay, each_of, words_stay, get_behind}
+use Rattle.sch_select_memory.proofs.heap.Contents.{KindsOf, objects_grow, objects_stay, each_of, words_stay}
 use Rattle.sch_select_memory.proofs.Places.{Plan, code_of, Activation, StoreAt, store_changed}
 use Rattle.sch_select_memory.proofs.lists.RestLoop.{PairsFrom}
 use Rattle.sch_select_memory.proofs.lists.RestRegisters.{ListAt, list_word}
@@ -69,11 +72,7 @@ pair_spot parts n (v ∷ vs) none (suc i) lt =
 pub pairs_taken : (parts : Parts) (n : ℕ) (vs : List Value) (cells procedures : ℕ) → AreNew parts cells procedures
     → AreNew (grown parts (pair_parts n vs)) cells procedures
 pairs_taken parts n [] cells procedures new = subst (λ p. AreNew p cells procedures)
-    (ap (λ l. record parts { list = l }) (sym (behind parts.list))) new
-  where
-    behind : (l : List Part) → l ++ [] ≡ l
-    behind [] = refl
-    behind (p ∷ l) = ap (λ l. p ∷ l) (behind l)
+    (ap (λ l. record parts { list = l }) (sym (append-nil parts.list))) new
 pairs_taken parts n (v ∷ vs) cells procedures new = subst (λ p. AreNew p cells procedures)
     (grown_twice parts n (pair_parts (suc n) vs))
     (pairs_taken (with_pair parts n) (suc n) vs cells procedures (record {
@@ -125,14 +124,9 @@ pair_kinds objects vs = record {
 none_yet : (parts : Parts) (objects : List Object) → AreKinds parts objects → NoneFrom parts (length objects)
 none_yet parts objects kinds k le = by (spot parts (a_pair k)) refl
   where
-    past : {A : Type 0} (xs : List A) (k : ℕ) → length xs ≤ k → slice_get xs k ≡ None
-    past [] k le = refl
-    past (x ∷ xs) zero le = absurd (omega (arith, le))
-    past (x ∷ xs) (suc k) le = past xs k (omega (arith, le))
-
     by : (s : Option Spot) → spot parts (a_pair k) ≡ s → spot parts (a_pair k) ≡ None
     by None e = e
-    by (Some at) e = absurd (let bad : false ≡ true = sym (ap is_pair (past objects k le)) ∙ kinds.pairs k at e in cc)
+    by (Some at) e = absurd (let bad : false ≡ true = sym (ap is_pair (slice_get_past objects k le)) ∙ kinds.pairs k at e in cc)
 
 module _ (plan : Plan) (act : Activation plan) (parts : Parts) where
   open plan use {heap, stack, near}

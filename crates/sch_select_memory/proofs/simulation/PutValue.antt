@@ -6,6 +6,7 @@ use Rattle.std.specs.Prelude.{pos, negsuc, not, codes, slice_get}
 use Rattle.std.specs.Fmt.{signed_decimal}
 use Rattle.std.proofs.lemmas.Bool.{ne_eqb}
 use Rattle.std.proofs.lemmas.List.{drop-drop, take-append-drop}
+use Rattle.sch_word.specs.trees.Bindings.{numbers}
 use Rattle.sch_word.specs.declared.answer.Answer.{Answer}
 use Rattle.sch_word.specs.values.Values.{Value, fixnum, character, boolean, nil, unspecified, symbol, object, procedure, cell, Object, pair, vector, string}
 use Rattle.sch_word.specs.declared.stop.Stop.TheVariants.{WrongType}
@@ -39,7 +40,7 @@ use Rattle.sch_select_memory.specs.Checks.{string_length}
 use Rattle.sch_select_memory.specs.PutCode.{put_value_code, procedure_put, text_code, either_text, character_put}
 use Rattle.sch_select_memory.specs.PutCode.{bytes_put, symbol_put, objects_put, immediate_put, where_tag, false_code}
 use Rattle.sch_select_memory.specs.PutCode.{nil_code, unspecified_code, texts_code}
-use Rattle.sch_select_memory.specs.StaticBytes.{all_texts, ascending, static_bytes}
+use Rattle.sch_select_memory.specs.StaticBytes.{all_texts, static_bytes}
 use Rattle.sch_select_memory.proofs.heap.Spots.{spot_within}
 use Rattle.sch_select_memory.proofs.heap.Encodings.{tag_of, tagged as low_bits_of, character_tested}
 use Rattle.sch_select_memory.proofs.Places.{Plan, StoreAt}
@@ -49,13 +50,13 @@ use Rattle.sch_select_memory.proofs.Straight.{masked, by_7, by_255}
 
 -- ---- static bytes
 
-ascending_at : (n k m : ℕ) (more : List ℕ) → n < m → drop n (ascending k m ++ more) ≡ (k + n) ∷ drop (suc n)
-    (ascending k m ++ more)
-ascending_at zero k zero more lt = absurd (omega (arith, lt))
-ascending_at zero k (suc m) more lt = let e : k ≡ k + 0 = omega arith in ap (λ n. n ∷ (ascending (suc k) m ++ more)) e
-ascending_at (suc n) k zero more lt = absurd (omega (arith, lt))
-ascending_at (suc n) k (suc m) more lt = let e : suc k + n ≡ k + suc n = omega arith in ascending_at n (suc k) m more
-    (omega (arith, lt)) ∙ ap (λ j. j ∷ drop (suc n) (ascending (suc k) m ++ more)) e
+numbers_at : (n k m : ℕ) (more : List ℕ) → n < m → drop n (numbers k m ++ more) ≡ (k + n) ∷ drop (suc n)
+    (numbers k m ++ more)
+numbers_at zero k zero more lt = absurd (omega (arith, lt))
+numbers_at zero k (suc m) more lt = let e : k ≡ k + 0 = omega arith in ap (λ n. n ∷ (numbers (suc k) m ++ more)) e
+numbers_at (suc n) k zero more lt = absurd (omega (arith, lt))
+numbers_at (suc n) k (suc m) more lt = let e : suc k + n ≡ k + suc n = omega arith in numbers_at n (suc k) m more
+    (omega (arith, lt)) ∙ ap (λ j. j ∷ drop (suc n) (numbers (suc k) m ++ more)) e
 
 -- how many bytes stand there
 enough : (bytes : List ℕ) → take 288 (drop 512 bytes) ≡ static_bytes → 800 ≤ length bytes
@@ -285,10 +286,10 @@ module _ (plan : Plan) (routines : (k : Routine) (x : View) → x.place ≡ plan
       where
         all_bytes : (byte : ℕ) → byte < 256 → drop byte (static_bytes ++ more) ≡ byte ∷ drop (suc byte)
             (static_bytes ++ more)
-        all_bytes byte low = let e = append_assoc (ascending 0 256) all_texts more in ap (drop byte) e
-            ∙ ascending_at byte 0 256 (all_texts ++ more) low ∙
+        all_bytes byte low = let e = append_assoc (numbers 0 256) all_texts more in ap (drop byte) e
+            ∙ numbers_at byte 0 256 (all_texts ++ more) low ∙
             (let z : 0 + byte ≡ byte = omega arith in ap (λ n. n ∷ drop (suc byte)
-            (ascending 0 256 ++ (all_texts ++ more))) z) ∙ ap (λ l. byte ∷ drop (suc byte) l) (sym e)
+            (numbers 0 256 ++ (all_texts ++ more))) z) ∙ ap (λ l. byte ∷ drop (suc byte) l) (sym e)
 
   -- ---- any value
 

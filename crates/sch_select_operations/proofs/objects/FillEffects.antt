@@ -1,5 +1,5 @@
 -- What a new vector or string is checked for, how many bytes it takes, and what is left by the routine that fills it.
-use Rattle.std.proofs.Common.{◌≡◌, ℕ, zero, suc, ◌+◌, ◌-◌, ◌*◌, ◌/◌, ◌%◌, ◌^◌, ◌<◌, ◌≤◌, List, [], ◌∷◌, length, take, drop}
+use Rattle.std.proofs.Common.{◌≡◌, ℕ, ◌+◌, ◌-◌, ◌*◌, ◌/◌, ◌%◌, ◌^◌, ◌<◌, ◌≤◌, List, [], length, take, drop}
 use Rattle.std.proofs.Common.{Bool, true, false, Some, refl, sym, ap, ◌∙◌, arith, ⊎_elim, ◌==◌, ◌||◌}
 use Rattle.std.specs.Prelude.{ℤ, ◌≤ℤ◌, pos, negsuc, not, nat_abs, nat_le, int_lt}
 use Rattle.std.proofs.lemmas.Int.{ints}
@@ -8,6 +8,7 @@ use Rattle.sch_word.specs.declared.stop.Stop.TheVariants.{OutOfRange, HeapLimit}
 use Rattle.sch_word.specs.values.PrimitiveRows.{is_natural}
 use Rattle.sch_word.specs.runs.Charges.{rounded}
 use Rattle.sch_word.specs.runs.ProgramLayout.{data_address}
+use Rattle.sch_word.proofs.facts.Lists.{piece_within}
 use Rattle.sch_insn.specs.declared.condition.TheConstants.{A, L}
 use Rattle.sch_insn.specs.declared.insn.Arg.TheVariants.{Reg}
 use Rattle.sch_insn.specs.declared.insn.Insn.TheVariants.{MovTo, AddTo, AddNumber, SubNumber, CmpNumber, Shl, Shr}
@@ -58,15 +59,6 @@ rounded_high m = omega arith
 
 -- ---- what a fill leaves, by pieces
 
-front_piece : (xs : List ℕ) (j n k : ℕ) → j + n ≤ k → take n (drop j (take k xs)) ≡ take n (drop j xs)
-front_piece [] j n zero le = refl
-front_piece [] j n (suc k) le = refl
-front_piece (x ∷ xs) zero zero k le = refl
-front_piece (x ∷ xs) zero (suc n) zero le = absurd (omega (arith, le))
-front_piece (x ∷ xs) zero (suc n) (suc k) le = ap (λ l. x ∷ l) (front_piece xs zero n k (omega (arith, le)))
-front_piece (x ∷ xs) (suc j) n zero le = absurd (omega (arith, le))
-front_piece (x ∷ xs) (suc j) n (suc k) le = front_piece xs j n k (omega (arith, le))
-
 pub filled_wrote : (from to : ℕ) (before after : List ℕ) → 0x10000000 ≤ from → from ≤ to
     → length after ≡ length before → take (from - 0x10000000) after ≡ take (from - 0x10000000) before
     → drop (to - 0x10000000) after ≡ drop (to - 0x10000000) before → Wrote from to before after
@@ -79,7 +71,7 @@ filled_wrote from to before after low up size front behind = record {
     in_front a n l le =
         let j = a - 0x10000000 in let k = from - 0x10000000 in
         let within : j + n ≤ k = omega (arith, l, le) in
-        sym (front_piece after j n k within) ∙ ap (λ xs. take n (drop j xs)) front ∙ front_piece before j n k within
+        sym (piece_within after j n k within) ∙ ap (λ xs. take n (drop j xs)) front ∙ piece_within before j n k within
 
     at_end : (a n : ℕ) → 0x10000000 ≤ a → to ≤ a → piece_in after a n ≡ piece_in before a n
     at_end a n l le =

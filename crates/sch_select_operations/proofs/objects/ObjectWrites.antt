@@ -8,6 +8,7 @@ use Rattle.sch_word.specs.declared.answer.Answer.{Answer}
 use Rattle.sch_word.specs.values.Values.{Object, pair, vector, string}
 use Rattle.sch_word.specs.values.PrimitiveRows.{is_pair, is_vector, is_string}
 use Rattle.sch_word.specs.runs.Computation.{State}
+use Rattle.sch_word.proofs.facts.Lists.{get_seam}
 use Rattle.sch_control.specs.Operations.{Procedure}
 use Rattle.sch_select_memory.specs.Parts.{Owner, a_procedure, a_cell, a_pair, a_vector, a_string, same_owner, Part, Parts, Spot}
 use Rattle.sch_select_memory.specs.Parts.{end_of, spot, grown}
@@ -24,10 +25,6 @@ use Rattle.sch_select_memory.proofs.HeapWrites.{Wrote}
 past_end : {A : Type 0} (xs : List A) → slice_get xs (length xs) ≡ None
 past_end [] = refl
 past_end (x ∷ xs) = past_end xs
-
-pub next_is : {A : Type 0} (xs : List A) (x : A) → slice_get (xs ++ x ∷ []) (length xs) ≡ Some x
-next_is [] x = refl
-next_is (y ∷ xs) x = next_is xs x
 
 -- it has no part
 pub next_object_new : (parts : Parts) (objects : List Object) → AreKinds parts objects → (o : Object)
@@ -69,7 +66,7 @@ object_kinds objects o more = record
         → ((length objects == n) || false) ≡ true → test (slice_get (objects ++ o ∷ []) n) ≡ true
     kept test o n is e =
         subst (λ n. test (slice_get (objects ++ o ∷ []) n) ≡ true) (same n (length objects == n) refl e)
-        (ap test (next_is objects o) ∙ is)
+        (ap test (get_seam objects [] o) ∙ is)
 
     pairs : (o : Object) (n : ℕ) → among (object_part objects o more) (a_pair n) ≡ true
         → is_pair (slice_get (objects ++ o ∷ []) n) ≡ true

@@ -11,7 +11,8 @@ use Rattle.sch_word.specs.runs.Computation.{Action, gives, require, State}
 use Rattle.sch_control.specs.Operations.{Procedure}
 use Rattle.sch_insn.specs.declared.insn.Arg.TheVariants.{Reg, Base32}
 use Rattle.sch_insn.specs.declared.insn.Insn.TheVariants.{MovFrom, AddTo, AddNumber, Shl, Shr, LoadByte}
-use Rattle.sch_insn.specs.Machine.{set_register, add64, word, sum_of, unknown_flags, head_or_0}
+use Rattle.sch_word.specs.values.Options.{first_or_0}
+use Rattle.sch_insn.specs.Machine.{set_register, add64, word, sum_of, unknown_flags}
 use Rattle.sch_insn.proofs.Paths.{leads_on}
 use Rattle.sch_asm.specs.declared.item.Item.{Item}
 use Rattle.sch_asm.specs.declared.item.Item.TheVariants as item
@@ -225,7 +226,7 @@ module _ (plan : Plan) (act : Activation plan) (parts : Parts) (s : State Proced
           let sum = sum_of (x.registers 0) i in
           let y2 : View = moved_to x (set_register y1.registers 0 sum.value) sum.flags (y1.place + r.ahead.2.0) in
           let b = text_address p.at.unit + k in
-          let u = head_or_0 (drop (b - 0x10000000) x.bytes) in
+          let u = first_or_0 (drop (b - 0x10000000) x.bytes) in
           let y3 : View = moved_to x (set_register y2.registers 0 u) sum.flags (y2.place + r.ahead.2.2.0) in
           let h = u * 2 ^ 8 % 2 ^ 64 in
           let y4 : View = moved_to x (set_register y3.registers 0 h) unknown_flags (y3.place + r.ahead.2.2.2.0) in
@@ -235,7 +236,7 @@ module _ (plan : Plan) (act : Activation plan) (parts : Parts) (s : State Proced
           let z = g.size_is in let cl = plan.closures_low in
           let top = act.room.low in let end = act.room.high in
           let off : text_address p.at.unit - 0x10000000 + k ≡ b - 0x10000000 = omega (arith, lo, cl) in
-          let byte : u ≡ slice_index p.text k = ap (λ j. head_or_0 (drop j x.bytes)) (sym off)
+          let byte : u ≡ slice_index p.text k = ap (λ j. first_or_0 (drop j x.bytes)) (sym off)
           ∙ byte_at_offset x.bytes p.text (text_address p.at.unit - 0x10000000) k p.text_is below in (
             refl,
             record {

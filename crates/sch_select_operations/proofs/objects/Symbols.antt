@@ -1,7 +1,8 @@
 -- The machine reads the names of symbols (R5RS 6.3.3).
-use Rattle.std.proofs.Common.{◌≡◌, ℕ, ◌+◌, ◌-◌, ◌*◌, ◌^◌, ◌/◌, ◌%◌, ◌<◌, ◌≤◌, List, [], ◌∷◌, ◌++◌, length, take, drop}
+use Rattle.std.proofs.Common.{◌≡◌, ℕ, ◌+◌, ◌-◌, ◌*◌, ◌^◌, ◌/◌, ◌%◌, ◌<◌, ◌≤◌, List, [], ◌∷◌, length, take, drop}
 use Rattle.std.proofs.Common.{Bool, true, false, refl, sym, ap, ◌∙◌, subst, arith}
 use Rattle.std.specs.Prelude.{ℤ, pos, negsuc, nat_abs, slice_get, slice_index}
+use Rattle.std.proofs.Math.Seq.{take-append_seam}
 use Rattle.sch_word.specs.declared.stop.Stop.TheVariants.{WrongType, OutOfRange}
 use Rattle.sch_word.specs.values.Values.{Value, fixnum, character, boolean, nil, unspecified, symbol, object, procedure, cell}
 use Rattle.sch_word.specs.values.PrimitiveRows.{is_symbol, is_index, as_symbol, known_name, as_fixnum, in_range}
@@ -11,7 +12,8 @@ use Rattle.sch_control.specs.Operations.{Procedure}
 use Rattle.sch_insn.specs.declared.insn.Arg.TheVariants.{Reg, Base32}
 use Rattle.sch_insn.specs.declared.insn.Insn.TheVariants.{MovFrom, AddTo, AddNumber, Shl, Shr, LoadByte}
 use Rattle.sch_insn.specs.declared.state.Flags.{Flags}
-use Rattle.sch_insn.specs.Machine.{set_register, add64, word, sum_of, unknown_flags, head_or_0}
+use Rattle.sch_word.specs.values.Options.{first_or_0}
+use Rattle.sch_insn.specs.Machine.{set_register, add64, word, sum_of, unknown_flags}
 use Rattle.sch_insn.proofs.Paths.{leads_on}
 use Rattle.sch_asm.specs.declared.item.Item.{Item}
 use Rattle.sch_asm.specs.declared.item.Item.TheVariants as item
@@ -71,10 +73,6 @@ size_named at w e lt = omega (arith, e, lt)
 
 letter_named : (k w at : ℕ) → w ≡ at → at + 8 + k < 2 ^ 32 → add64 (add64 w k) (word (pos 8)) ≡ at + 8 + k
 letter_named k w at e lt = omega (arith, e, lt)
-
-take_front : (xs ys : List ℕ) → take (length xs) (xs ++ ys) ≡ xs
-take_front [] ys = refl
-take_front (x ∷ xs) ys = ap (λ l. x ∷ l) (take_front xs ys)
 
 module _ (plan : Plan) (act : Activation plan) (parts : Parts) (s : State Procedure) where
   open plan use {setting, size, heap, stack, near, stack_low}
@@ -224,7 +222,7 @@ module _ (plan : Plan) (act : Activation plan) (parts : Parts) (s : State Proced
           let sum = sum_of (x.registers 0) i in
           let y2 : View = moved_to x (set_register y1.registers 0 sum.value) sum.flags (y1.place + r.ahead.2.0) in
           let b = q.at + 8 + k in
-          let u = head_or_0 (drop (b - 0x10000000) x.bytes) in
+          let u = first_or_0 (drop (b - 0x10000000) x.bytes) in
           let y3 : View = moved_to x (set_register y2.registers 0 u) sum.flags (y2.place + r.ahead.2.2.0) in
           let h = u * 2 ^ 8 % 2 ^ 64 in
           let y4 : View = moved_to x (set_register y3.registers 0 h) unknown_flags (y3.place + r.ahead.2.2.2.0) in
@@ -233,9 +231,9 @@ module _ (plan : Plan) (act : Activation plan) (parts : Parts) (s : State Proced
           ∙ letter_named k (x.registers 0) q.at same (omega (arith, high, near_is, low, below)) in
           let text = q.text in
           let whole : take (length q.name) (drop (q.at + 8 - 0x10000000) x.bytes) ≡ q.name = ap (take (length q.name)) text.is
-          ∙ take_front q.name text.rest in
+          ∙ take-append_seam q.name text.rest in
           let off : q.at + 8 - 0x10000000 + k ≡ b - 0x10000000 = omega (arith, from) in
-          let byte : u ≡ slice_index q.name k = ap (λ j. head_or_0 (drop j x.bytes)) (sym off)
+          let byte : u ≡ slice_index q.name k = ap (λ j. first_or_0 (drop j x.bytes)) (sym off)
           ∙ byte_at_offset x.bytes q.name (q.at + 8 - 0x10000000) k whole below in
           let t = top in (
             refl,

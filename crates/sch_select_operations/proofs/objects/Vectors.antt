@@ -34,8 +34,8 @@ use Rattle.sch_select_memory.specs.Encoded.{IsWord}
 use Rattle.sch_select_memory.specs.Heap.{VectorAt, field_address}
 use Rattle.sch_select_memory.proofs.heap.Spots.{spot_within}
 use Rattle.sch_select_memory.proofs.heap.Encodings.{fits, integer_tested}
-use Rattle.sch_word.proofs.facts.Lists.{set_here, set_elsewhere}
-use Rattle.sch_select_memory.proofs.heap.Elements.{get_there, index_word}
+use Rattle.sch_word.proofs.facts.Lists.{set_here, set_elsewhere, get_there}
+use Rattle.sch_select_memory.proofs.heap.Elements.{index_word}
 use Rattle.sch_select_memory.proofs.heap.Objects.{vector_of, vector_tested, vector_named, no_vector, one_spot}
 use Rattle.sch_select_memory.proofs.heap.Quotients.{positive_word}
 use Rattle.sch_select_operations.specs.ObjectCode.{length_code, vector_ref_code, vector_set_code, check_index}

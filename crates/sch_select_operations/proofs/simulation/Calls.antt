@@ -16,8 +16,9 @@ use Rattle.sch_word.specs.values.Checked.{on_passed}
 use Rattle.sch_control.specs.Operations.{Procedure, and_value}
 use Rattle.sch_control.specs.Meaning.{World, Result, Callee, with_value, on_return, on_checked, entered, call_in}
 use Rattle.sch_frames.specs.Meaning as meaning
+use Rattle.sch_word.specs.values.Places.{link_place, closure_place}
 use Rattle.sch_frames.specs.Meaning.{Frame, Cell, Is, Link, Junk, value_in, arguments, after_call, entry_places}
-use Rattle.sch_frames.specs.Meaning.{if_link, link_register, closure_register}
+use Rattle.sch_frames.specs.Meaning.{if_link}
 use Rattle.sch_insn.specs.declared.condition.TheConstants.{E, NE}
 use Rattle.sch_insn.specs.declared.insn.Arg.TheVariants as arg
 use Rattle.sch_insn.specs.declared.insn.Insn.TheVariants.{MovNumber, AddNumber, SubNumber, CmpNumber, JumpTo}
@@ -421,18 +422,18 @@ module _ (plan : Plan) (body_steps : ℕ) (laid : Laid plan body_steps) (act : A
       of (object i) hv s vs values = refused s
       of (cell i) hv s vs values = refused s
 
-      operands_by : (o : Option Value) → value_in (f.places closure_register) ≡ o → (q : Option (List Value))
+      operands_by : (o : Option Value) → value_in (f.places closure_place) ≡ o → (q : Option (List Value))
           → arguments f.places f.outgoing 0 count ≡ q → Owed parts before w x (250 + c)
           (with_value (and_value o q) (λ vs. on_return (call_in callee false false act.left vs w) After))
       operands_by None e None i = tt
       operands_by None e (Some us) i = tt
       operands_by (Some v) e None i = tt
-      operands_by (Some v) e (Some vs) i = let hv = held_value act.back parts (f.places closure_register)
+      operands_by (Some v) e (Some vs) i = let hv = held_value act.back parts (f.places closure_place)
           (x.registers 14) v (p.register 14 refl) e in of v hv (operator_checked parts v x waiting following hv h) vs i
 
       pub call_sim : Owed parts before w x (250 + c) (with_value (meaning.parts f.places f.outgoing count)
           (λ vs. on_return (call_in callee false false act.left vs w) After))
-      call_sim = operands_by (value_in (f.places closure_register)) refl (arguments f.places f.outgoing 0 count) refl
+      call_sim = operands_by (value_in (f.places closure_place)) refl (arguments f.places f.outgoing 0 count) refl
 
     -- ---- a tail call, in the frame of its caller
 
@@ -543,25 +544,25 @@ module _ (plan : Plan) (body_steps : ℕ) (laid : Laid plan body_steps) (act : A
       tail_of (object i) hv s vs values = refused_tail s
       tail_of (cell i) hv s vs values = refused_tail s
 
-      tail_operands : (o : Option Value) → value_in (f.places closure_register) ≡ o → (q : Option (List Value))
+      tail_operands : (o : Option Value) → value_in (f.places closure_place) ≡ o → (q : Option (List Value))
           → arguments f.places own_slots 0 count ≡ q → Owed parts before w x (250 + c)
           (with_value (and_value o q) (λ vs. call_in callee false true act.left vs w))
       tail_operands None e None i = tt
       tail_operands None e (Some us) i = tt
       tail_operands (Some v) e None i = tt
-      tail_operands (Some v) e (Some vs) i = let hv = held_value act.back parts (f.places closure_register)
+      tail_operands (Some v) e (Some vs) i = let hv = held_value act.back parts (f.places closure_place)
           (x.registers 14) v (p.register 14 refl) e in tail_of v hv (operator_checked parts v x waiting entering hv h)
           vs i
 
       tail_here : Owed parts before w x (250 + c) (with_value (meaning.parts f.places own_slots count)
           (λ vs. call_in callee false true act.left vs w))
-      tail_here = tail_operands (value_in (f.places closure_register)) refl (arguments f.places own_slots 0 count) refl
+      tail_here = tail_operands (value_in (f.places closure_place)) refl (arguments f.places own_slots 0 count) refl
 
     pub tail_sim : (count : ℕ) → (count < 2 ^ 31) × (count ≤ 6 + words) → Here waiting x.place (tail_code count rest)
-        → Owed parts before w x (250 + c) (if_link (f.places link_register)
+        → Owed parts before w x (250 + c) (if_link (f.places link_place)
         (with_value (meaning.parts f.places (λ j. f.places (Slot j)) count)
         (λ vs. call_in callee false true act.left vs w)))
-    tail_sim count small h = by (f.places link_register) (p.register 15 refl)
+    tail_sim count small h = by (f.places link_place) (p.register 15 refl)
       where
         by : (q : Cell) → Holds act.back parts q (x.registers 15)
             → Owed parts before w x (250 + c)

@@ -26,6 +26,7 @@ use Rattle.sch_insn.proofs.Paths.{leads_on, leads_here}
 use Rattle.sch_asm.specs.declared.item.Item.{Item}
 use Rattle.sch_asm.specs.declared.item.Item.TheVariants as item
 use Rattle.sch_word.specs.declared.mark.MarkKind.{MarkKind}
+use Rattle.sch_word.proofs.facts.Lists.{get_there}
 use Rattle.sch_asm.specs.declared.routine.Routine.TheVariants as routine
 use Rattle.sch_asm.specs.Data.{Inside, word_in, with_word}
 use Rattle.sch_asm.specs.Effects.{is_scratch}
@@ -38,7 +39,6 @@ use Rattle.sch_select_memory.specs.Heap.{CellAt, AreNew}
 use Rattle.sch_select_memory.proofs.heap.Spots.{spot_within, spot_newest}
 use Rattle.sch_select_memory.proofs.heap.Encodings.{fits, is_cell, cell_tested, unset_tested}
 use Rattle.sch_select_memory.proofs.heap.Contents.{words_stay, held_words, held_fits, cell_taken, cell_there}
-use Rattle.sch_select_memory.proofs.heap.Elements.{get_there}
 use Rattle.sch_select_memory.specs.Addresses.{stop_label, part_operand}
 use Rattle.sch_select_operations.specs.CellCode.{source_code, check_cell, cell_operand}
 use Rattle.sch_select_operations.specs.ObjectCode.{check_heap, part_code}

@@ -26,7 +26,8 @@ use Rattle.sch_control.specs.Operations.{Procedure, operate, and_value, source_v
 use Rattle.sch_word.specs.values.Options.{when_some}
 use Rattle.sch_control.specs.Operations.{close, member_bytes, members_made, with_procedures}
 use Rattle.sch_control.specs.Meaning.{World, Result, on_ending, on_outcome, with_value}
-use Rattle.sch_frames.specs.Meaning.{Frame, Is, held, is_slot, with_place, with_members}
+use Rattle.sch_word.specs.values.Places.{is_slot}
+use Rattle.sch_frames.specs.Meaning.{Frame, Is, held, with_place, with_members}
 use Rattle.sch_frames.specs.Valid.{in_slots, is_place}
 use Rattle.sch_insn.specs.declared.insn.Arg.TheVariants.{Reg}
 use Rattle.sch_insn.specs.declared.insn.Insn.TheVariants.{MovTo, AddNumber}

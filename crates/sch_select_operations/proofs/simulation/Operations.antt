@@ -28,6 +28,7 @@ use Rattle.sch_insn.proofs.Paths.{leads_on}
 use Rattle.sch_asm.specs.declared.item.Item.{Item}
 use Rattle.sch_asm.specs.declared.item.Item.TheVariants as item
 use Rattle.sch_word.specs.declared.mark.MarkKind.{MarkKind}
+use Rattle.sch_word.proofs.facts.Lists.{get_there}
 use Rattle.sch_asm.specs.Stands.{Stands}
 use Rattle.sch_asm.specs.Data.{word_in, with_word}
 use Rattle.sch_asm.specs.Effects.{is_scratch, IsReady, PutEnds}
@@ -39,7 +40,6 @@ use Rattle.sch_select_memory.specs.Addresses.{global_address, put_label, stop_la
 use Rattle.sch_select_operations.specs.OperandCode.{operand_code, put_code}
 use Rattle.sch_select_operations.specs.PrimitiveCode.{global_code, set_global_code}
 use Rattle.sch_select_memory.proofs.heap.Encodings.{fits, unset_tested}
-use Rattle.sch_select_memory.proofs.heap.Elements.{get_there}
 use Rattle.sch_select_memory.proofs.Straight.{halts_after, is_free, kept_set, kept_then, moved_to, Yields}
 use Rattle.sch_select_memory.proofs.Straight.{Comes}
 use Rattle.sch_select_memory.proofs.Places.{Plan, heap_above, Activation, StoreAt, PlacesAt}

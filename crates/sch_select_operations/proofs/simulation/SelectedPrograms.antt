@@ -33,8 +33,9 @@ use Rattle.sch_frames.specs.declared.instruction.Instruction.TheVariants.{Tail, 
 use Rattle.sch_frames.specs.declared.instruction.Instruction.TheVariants.{Mark}
 use Rattle.sch_frames.specs.Tree.{Code}
 use Rattle.sch_frames.specs.Tree as tree
-use Rattle.sch_frames.specs.Meaning.{is_slot}
-use Rattle.sch_frames.specs.Valid.{formals_of, handed_over, in_slots, is_place}
+use Rattle.sch_word.specs.values.Places.{is_slot}
+use Rattle.sch_control.specs.flow.Places.{formals_of}
+use Rattle.sch_frames.specs.Valid.{handed_over, in_slots, is_place}
 use Rattle.sch_frames.specs.Covered.{marks_settled}
 
 -- the primitives that are computed of words alone

@@ -68,7 +68,24 @@ or_swap true false = refl
 or_swap false true = refl
 or_swap false false = refl
 
+pub or_around : (a b c : Bool) → (b || (a || c)) ≡ ((a || b) || c)
+or_around true true c = refl
+or_around true false c = refl
+or_around false b c = refl
+
+pub or_same : {a b c d : Bool} → a ≡ c → b ≡ d → (a || b) ≡ (c || d)
+or_same p q = rw (p, q) refl
+
 -- ## Negations
+
+pub not_false : (b : Bool) → not b ≡ false → b ≡ true
+not_false true h = refl
+not_false false h = absurd (cc)
+
+pub not_either : (a b c : Bool) → (not b && (not a && c)) ≡ (not (a || b) && c)
+not_either true true c = refl
+not_either true false c = refl
+not_either false b c = refl
 
 pub not_true : (b : Bool) → IsTrue (not b) → b ≡ false
 not_true true h = absurd (cc)

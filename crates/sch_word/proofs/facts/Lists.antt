@@ -1,8 +1,11 @@
 -- Lists: what is left of one and what is taken, and an item that is set.
-use Rattle.std.proofs.Common.{◌≡◌, ℕ, zero, suc, ◌+◌, ◌-◌, ◌<◌, ◌≤◌, List, [], ◌∷◌, ◌++◌, length, map, reverse, drop, take, get_or, Some, refl, sym, ap, ◌∙◌, subst, arith, drop-cons}
-use Rattle.std.specs.Prelude.{slice_get, slice_set}
+use Rattle.std.proofs.Common.{◌≡◌, ℕ, zero, suc, ◌+◌, ◌-◌, ◌<◌, ◌≤◌, Bool, true, false, cond, List, [], ◌∷◌, ◌++◌, length, map, reverse, drop, take, get_or, Some, None, refl, sym, ap, ◌∙◌, subst, arith, append_assoc, drop-cons}
+use Rattle.std.specs.Prelude.{◌&&◌, slice_get, slice_set}
+use Rattle.std.specs.List.{filter, list_all}
+use Rattle.std.proofs.lemmas.Option.{none-some, slice_get_within}
 use Rattle.std.proofs.lemmas.List.{reverse-append, length-append, length-reverse, length-drop, map-append, take-append-drop}
 use Rattle.std.proofs.Math.Seq.{take-suc, take-append_seam, drop-append_seam}
+use Rattle.sch_word.proofs.facts.Booleans.{and_left, and_of, and_right}
 
 pub next_left : {A : Type 0} (xs : List A) (i : ℕ) (x : A) → i < length xs → x ≡ get_or xs i x → drop i xs ≡ x ∷ drop (suc i) xs
 next_left xs i x l e = drop-cons xs i x l ∙ ap (λ y. y ∷ drop (suc i) xs) (sym e)
@@ -86,6 +89,57 @@ take_whole (x ∷ xs) = ap (λ l. x ∷ l) (take_whole xs)
 pub length_none : {A : Type 0} (xs : List A) → length xs ≡ 0 → xs ≡ []
 length_none [] e = refl
 length_none (x ∷ xs) e = absurd (omega (arith, e))
+
+pub append_behind : {A : Type 0} (xs ys zs more : List A) → xs ≡ ys ++ zs → xs ++ more ≡ ys ++ (zs ++ more)
+append_behind xs ys zs more e = rw e (append_assoc ys zs more)
+
+-- ## Items of two lists
+
+pub get_front : {A : Type 0} (xs ys : List A) (k : ℕ) → k < length xs → slice_get (xs ++ ys) k ≡ slice_get xs k
+get_front [] ys k l = absurd (omega (arith, l))
+get_front (x ∷ xs) ys zero l = refl
+get_front (x ∷ xs) ys (suc k) l = get_front xs ys k (omega (arith, l))
+
+pub get_grown : {A : Type 0} (xs ys : List A) (k : ℕ) (x : A) → slice_get xs k ≡ Some x → slice_get (xs ++ ys) k ≡ Some x
+get_grown xs ys k x e = get_front xs ys k (slice_get_within xs k x e) ∙ e
+
+pub get_behind : {A : Type 0} (xs ys : List A) (k : ℕ) → slice_get (xs ++ ys) (length xs + k) ≡ slice_get ys k
+get_behind [] ys k = let e : 0 + k ≡ k = omega arith in ap (slice_get ys) e
+get_behind (x ∷ xs) ys k = let e : length (x ∷ xs) + k ≡ suc (length xs + k) = omega arith in ap (slice_get (x ∷ (xs ++ ys))) e ∙ get_behind xs ys k
+
+pub get_there : {A : Type 0} (xs : List A) (k : ℕ) → k < length xs → (x : A) × (slice_get xs k ≡ Some x)
+get_there [] k l = absurd (omega (arith, l))
+get_there (x ∷ xs) zero l = (x, refl)
+get_there (x ∷ xs) (suc k) l = get_there xs k (omega (arith, l))
+
+pub not_missing : {A : Type 0} (xs : List A) (k : ℕ) → k < length xs → slice_get xs k ≡ None → ⊥
+not_missing xs k l e = let there = get_there xs k l in absurd (none-some there.0 (sym e ∙ there.1))
+
+-- ## Tests of all items
+
+pub each_at : {A : Type 0} (p : A → Bool) (xs : List A) (k : ℕ) (x : A) → list_all p xs ≡ true → slice_get xs k ≡ Some x → p x ≡ true
+each_at p [] k x h e = absurd (none-some x e)
+each_at p (y ∷ xs) zero x h e = subst (λ z. p z ≡ true) (some_same e) (and_left (p y) (list_all p xs) h)
+each_at p (y ∷ xs) (suc k) x h e = each_at p xs k x (and_right (p y) (list_all p xs) h) e
+
+-- what passes a test passes a weaker one
+pub all_passing : {A : Type 0} (f p : A → Bool) (xs : List A) → ((x : A) → f x ≡ true → p x ≡ true) → list_all p (filter f xs) ≡ true
+all_passing f p [] h = refl
+all_passing f p (x ∷ xs) h = by (f x) refl (all_passing f p xs h) where
+  by : (t : Bool) → f x ≡ t → list_all p (filter f xs) ≡ true → list_all p (cond t (x ∷ filter f xs) (filter f xs)) ≡ true
+  by true e rest = and_of (p x) _ (h x e) rest
+  by false e rest = rest
+
+-- ## Pieces
+
+pub piece_within : {A : Type 0} (xs : List A) (k n l : ℕ) → k + n ≤ l → take n (drop k (take l xs)) ≡ take n (drop k xs)
+piece_within xs zero zero l h = refl
+piece_within xs zero (suc n) zero h = absurd (omega (arith, h))
+piece_within [] zero (suc n) (suc l) h = refl
+piece_within (x ∷ xs) zero (suc n) (suc l) h = ap (λ ys. x ∷ ys) (piece_within xs zero n l (omega (arith, h)))
+piece_within xs (suc k) n zero h = absurd (omega (arith, h))
+piece_within [] (suc k) n (suc l) h = refl
+piece_within (x ∷ xs) (suc k) n (suc l) h = piece_within xs k n l (omega (arith, h))
 
 -- ## Loops
 

@@ -126,3 +126,12 @@ unless_under false x xs n l u = (l, u)
 pub union_under : (xs ys : List ℕ) (n : ℕ) → Under xs n → Under ys n → Under (union xs ys) n
 union_under [] ys n u v = v
 union_under (x ∷ xs) ys n u v = unless_under (has x (union xs ys)) x (union xs ys) n u.0 (union_under xs ys n u.1 v)
+
+-- ## Numbers in a row
+
+pub numbers_joined : (x m n : ℕ) → numbers x m ++ numbers (x + m) n ≡ numbers x (m + n)
+numbers_joined x zero n = let e : x + 0 ≡ x = omega arith in let d : 0 + n ≡ n = omega arith in rw (e, d) refl
+numbers_joined x (suc m) n =
+    let e : x + suc m ≡ suc x + m = omega arith in
+    let d : suc m + n ≡ suc (m + n) = omega arith in
+    rw (e, d) (ap (λ l. x ∷ l) (numbers_joined (suc x) m n))

@@ -8,6 +8,10 @@ abbrev pub is_enter : MarkKind → Bool
 is_enter (Enter label) = true
 is_enter _ = false
 
+abbrev pub is_call : MarkKind → Bool
+is_call (Call site) = true
+is_call _ = false
+
 -- The own marks of the activation on top, if there is one; of those that wait for a call to return, the last one first;
 -- and of those that have ended by a return or a tail call, the first one first. A tail call is just over where its mark
 -- was the last one.

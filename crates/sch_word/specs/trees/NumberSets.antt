@@ -1,5 +1,5 @@
 -- Finite sets of numbers, as lists without repeats.
-use Rattle.std.specs.Prelude.{ℕ, Bool, true, false, ◌||◌, nat_eq, List, [], ◌∷◌}
+use Rattle.std.specs.Prelude.{ℕ, Bool, true, false, ◌||◌, ◌&&◌, not, nat_eq, List, [], ◌∷◌}
 
 abbrev pub has : ℕ → List ℕ → Bool
 has x [] = false
@@ -16,3 +16,8 @@ insert x xs = unless (has x xs) x xs
 abbrev pub union : List ℕ → List ℕ → List ℕ
 union [] ys = ys
 union (x ∷ xs) ys = insert x (union xs ys)
+
+-- whether a list is such a set: all its numbers are different
+abbrev pub without_repeats : List ℕ → Bool
+without_repeats [] = true
+without_repeats (x ∷ xs) = not (has x xs) && without_repeats xs

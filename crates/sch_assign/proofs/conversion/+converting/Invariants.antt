@@ -1,10 +1,10 @@
 use Rattle.std.proofs.Common.{◌≡◌, drop}
 use Rattle.sch_cells.specs.View.{trees_of, lambdas_of}
+use Rattle.sch_cells.proofs.Rows.{and_then, and_then_lambda, left, left_lambdas}
 use Rattle.sch_assign.specs.Converted.{converted_each, converted_lambdas}
 use Rattle.sch_assign.specs.InRange.{EachInRange, LambdasInRange}
 use Rattle.sch_assign.specs.Table.{table}
 use Rattle.sch_word.specs.trees.Walk.{onto}
-use Rattle.sch_assign.proofs.Loops.{and_then, and_then_lambda, left, left_lambdas}
 use Rattle.sch_assign.proofs.conversion.+converting.Given as goal
 
 abbrev pub invariant-convert_each-loop-e : goal.invariant-convert_each-loop-e

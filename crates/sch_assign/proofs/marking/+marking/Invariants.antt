@@ -1,8 +1,8 @@
 use Rattle.std.proofs.Common.{◌≡◌, length, drop}
 use Rattle.sch_cells.specs.View.{trees_of, lambdas_of}
+use Rattle.sch_cells.proofs.Rows.{left, left_lambdas}
 use Rattle.sch_assign.specs.InRange.{EachInRange, LambdasInRange}
 use Rattle.sch_assign.specs.Table.{each_marked, lambdas_marked}
-use Rattle.sch_assign.proofs.Loops.{left, left_lambdas}
 use Rattle.sch_assign.proofs.marking.+marking.Given as goal
 
 abbrev pub invariant-mark_each-loop-e : goal.invariant-mark_each-loop-e

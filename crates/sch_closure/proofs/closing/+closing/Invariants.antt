@@ -1,11 +1,11 @@
 use Rattle.std.proofs.Common.{◌≡◌, ◌+◌, length, drop, map}
 use Rattle.sch_word.specs.trees.Walk.{onto}
 use Rattle.sch_cells.specs.View.{trees_of, lambdas_of}
+use Rattle.sch_cells.proofs.Rows.{left, left_lambdas}
 use Rattle.sch_flat.specs.View.{body}
 use Rattle.sch_closure.specs.Closed.{procedures_each, procedures_lambdas, captured, closed_each, made_each}
 use Rattle.sch_closure.specs.Fresh.{EachStands, LambdasStand}
 use Rattle.sch_closure.specs.Walked.{with_bodies_each, with_bodies_lambdas}
-use Rattle.sch_closure.proofs.Loops.{left, left_lambdas}
 use Rattle.sch_closure.proofs.MadeLists.{and_then, and_then_made}
 use Rattle.sch_closure.proofs.closing.+closing.Given as goal
 

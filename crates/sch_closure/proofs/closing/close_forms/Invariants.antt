@@ -1,11 +1,11 @@
 use Rattle.std.proofs.Common.{◌≡◌, ◌+◌, ◌++◌, [], length, drop, map}
 use Rattle.sch_word.specs.trees.Walk.{onto}
 use Rattle.sch_cells.specs.View.{trees_of}
+use Rattle.sch_cells.proofs.Rows.{left}
 use Rattle.sch_flat.specs.View.{body}
 use Rattle.sch_closure.specs.Closed.{procedures_each, captured, closed_each, starts}
 use Rattle.sch_closure.specs.Fresh.{EachStands}
 use Rattle.sch_closure.specs.Walked.{with_bodies_each}
-use Rattle.sch_closure.proofs.Loops.{left}
 use Rattle.sch_closure.proofs.MadeLists.{and_then}
 use Rattle.sch_closure.proofs.closing.close_forms.Given as goal
 

@@ -1,7 +1,7 @@
 use Rattle.std.proofs.Common.{◌≡◌, ◌≤◌, length, reverse, take}
 use Rattle.sch_cells.specs.View.{trees_of, lambdas_of}
+use Rattle.sch_cells.proofs.Rows.{left, left_lambdas}
 use Rattle.sch_closure.specs.Found.{found_each, found_lambdas, fields_of_each, fields_of_lambdas}
-use Rattle.sch_closure.proofs.Loops.{left, left_lambdas}
 use Rattle.sch_closure.proofs.gathering.+gathering.Given as goal
 
 abbrev pub invariant-find_each-loop-left : goal.invariant-find_each-loop-left

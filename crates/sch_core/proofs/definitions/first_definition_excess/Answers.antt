@@ -1,11 +1,14 @@
 use Rattle.std.proofs.Common.{sym, ◌∙◌, arith}
-use Rattle.sch_core.proofs.items.DefinitionSteps.{formals_at, definition_later, definition_end}
+use Rattle.sch_core.proofs.items.DefinitionSteps.{formals_at, few_at, definition_later, definition_end}
 use Rattle.sch_core.proofs.definitions.first_definition_excess.Goals as goal
 
 pub definition_excess-requires : goal.definition_excess-requires
 definition_excess-requires c =
     let ds = c.args.definitions.now in
-    record { formals = formals_at ds c.loop-i.i c.index-definitions-i.result (omega (arith, c.loop-i-test.true, c.min-n.ensures)) c.index-definitions-i.is c.requires.formals }
+    record {
+      formals = formals_at ds c.loop-i.i c.index-definitions-i.result (omega (arith, c.loop-i-test.true, c.min-n.ensures)) c.index-definitions-i.is c.requires.formals;
+      few = few_at ds c.loop-i.i c.index-definitions-i.result (omega (arith, c.loop-i-test.true, c.min-n.ensures)) c.index-definitions-i.is c.requires.small;
+    }
 
 pub loop-i-preserved : goal.loop-i-preserved
 loop-i-preserved c =

@@ -1,8 +1,8 @@
-use Rattle.std.proofs.Common.{◌≡◌, [], true, ap, sym, subst, ◌∙◌}
+use Rattle.std.proofs.Common.{◌≡◌, ◌<◌, ◌^◌, [], true, ap, sym, subst, ◌∙◌, arith}
 use Rattle.sch_read.specs.Views.{data_of}
 use Rattle.sch_names.specs.ScopeView.{given_names}
 use Rattle.sch_link_program.specs.Definitions.{definitions_of}
-use Rattle.sch_link_program.specs.Size.{have_few_formals}
+use Rattle.sch_link_program.specs.Size.{size_of_definitions, have_few_formals}
 use Rattle.sch_toplevel.specs.Items.{item_places}
 use Rattle.sch_core.specs.Excess.{first_definition_excess}
 use Rattle.sch_core.proofs.items.LibraryLaws.{faulty_error, excessive_error, definitions_counted, never_both, one_library, fault_found, named_procedures, expands, excess_found, library_found}
@@ -21,8 +21,12 @@ first_definition_excess-requires c =
     let read = c.in_ok-names.ensures in
     let ds = definitions_of c.in_ok-definitions.definitions in
     let i = sym (ap given_names c.as_slice.ensures) ∙ c.in_ok-definitions.ensures.named in
-    let sound = items_sound [] items ds (expands items _ _ _ read.names read.reads c.in_default.is ds i c.in_ok-definitions.ensures.made) (c.in_ok-know_data.ensures) in
-    record { formals = subst (λ l. have_few_formals (definitions_of l) ≡ true) (sym c.as_slice-2.ensures) (few_formals ds sound) }
+    let whole = expands items _ _ _ read.names read.reads c.in_default.is ds i c.in_ok-definitions.ensures.made in
+    let sound = items_sound [] items ds whole (c.in_ok-know_data.ensures) in
+    record {
+      formals = subst (λ l. have_few_formals (definitions_of l) ≡ true) (sym c.as_slice-2.ensures) (few_formals ds sound);
+      small = subst (λ l. size_of_definitions (definitions_of l) < 2 ^ 32) (sym c.as_slice-2.ensures) (omega (arith, items_size [] items ds whole, c.requires.light));
+    }
 
 pub returns-in-Some-clause-fault : goal.returns-in-Some-clause-fault
 returns-in-Some-clause-fault c =

@@ -1,6 +1,6 @@
 use Rattle.std.proofs.Common.{◌≡◌, drop}
 use Rattle.sch_lang.specs.View.{expressions_of}
-use Rattle.sch_variable_counts.proofs.ListsLeft.{left}
+use Rattle.sch_lang.proofs.ListViews.{left}
 use Rattle.sch_core.specs.Excess.{first_excess}
 use Rattle.sch_core.proofs.limits.first_excess.Given as goal
 

@@ -13,6 +13,7 @@ use Rattle.sch_driver.specs.Assembled.{IsFrameSize, IsUnfit, assembled_bound}
 use Rattle.sch_driver.specs.ListedCycles.{listed_cycles}
 use Rattle.sch_driver.proofs.Images.{assembled, few_words, framed_parts, kept_error, refused_for, size_of_frames, text_within, unfit}
 use Rattle.sch_driver.proofs.Resolved.{resolved_kinds}
+use Rattle.sch_driver.proofs.labels.FewLabels.{few_tests, frames_labelled}
 use Rattle.sch_driver.proofs.assembly.assemble.Goals as goal
 
 -- where the heap ends
@@ -37,8 +38,17 @@ routines-requires c =
     end_near c.end_of_heap-heap_end.result c.len.result c.args.limits.heap c.end_of_heap-heap_end.ensures
     (heap_end_near (length c.in_ok-code.code.words) c.len.result c.args.limits.heap _ c.len.ensures code.words code.low c.args.limits.admitted.heap_high)
 
+pub frame_program-requires : goal.frame_program-requires
+frame_program-requires c = record { tests = few_tests (source c.args.p) c.requires.labels }
+
 pub select-requires : goal.select-requires
-select-requires c = record { covered = c.in_ok-framed.ensures.covered c.requires.covered; stack = c.in_ok-check_stack.ensures.fits }
+select-requires c =
+    let made = c.in_ok-framed.ensures in
+    record {
+      covered = made.covered c.requires.covered;
+      stack = c.in_ok-check_stack.ensures.fits;
+      labels = frames_labelled (source c.args.p) (frames.source c.in_ok-framed.framed.frames) made.made made.chain c.requires.labels;
+    }
 
 pub returns-clause-marks : goal.returns-clause-marks
 returns-clause-marks c =

@@ -1,4 +1,4 @@
-use Rattle.std.proofs.Common.{◌≤◌, ◌+◌, ◌*◌, ◌∙◌, ap, subst, sym}
+use Rattle.std.proofs.Common.{◌≤◌, ◌+◌, ◌*◌, ◌∙◌, ap, arith, length, subst, sym}
 use Rattle.std.proofs.lemmas.Bool.{and_parts}
 use Rattle.sch_word.specs.trees.Shape.{max_operands}
 use Rattle.sch_control.specs.Work as control_work
@@ -9,11 +9,31 @@ use Rattle.sch_frames.specs.Sizes.{code_work, copies_of}
 use Rattle.sch_frames.specs.Standing.{code_marks_stand}
 use Rattle.sch_frames.specs.Valid.{forward, placed, shaped}
 use Rattle.sch_homes.specs.View.{bare_code}
+use Rattle.sch_homes.proofs.BodyLimits.{body_few, homes_low, places_few}
 use Rattle.sch_homes.proofs.FewKept.{homes_fit}
+use Rattle.sch_homes.proofs.FrameRoom.{formals_few}
 use Rattle.sch_homes.proofs.FrameValid.{homes_framed}
 use Rattle.sch_homes.proofs.KeptByType.{body_placed}
 use Rattle.sch_homes.proofs.WholeFrame.{whole_frame}
 use Rattle.sch_homes.proofs.frame_body.frame.Goals as goal
+
+pub invariant_of-places : goal.invariant_of-places
+invariant_of-places g c =
+    let b = c.args.b.now in
+    let few = places_few b in
+    let many = ap length c.as_slice.ensures in
+    let low = homes_low b in
+    let end = c.in_ok-room.ensures.end in
+    record { few = omega (arith, few, many); low = omega (arith, low, end) }
+
+pub write_body-requires-clause-formals : goal.write_body-requires-clause-formals
+write_body-requires-clause-formals g c = let b = c.args.b.now in formals_few (bare_code b) (restored b.exp) b.places (body_placed b)
+
+pub write_body-requires-clause-few : goal.write_body-requires-clause-few
+write_body-requires-clause-few g c = body_few c.args.b.now
+
+pub write_body-requires-clause-labels : goal.write_body-requires-clause-labels
+write_body-requires-clause-labels g c = c.requires.labels
 
 pub invariant_of-result : goal.invariant_of-result
 invariant_of-result g c =

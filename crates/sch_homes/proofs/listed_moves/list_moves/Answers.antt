@@ -1,11 +1,16 @@
-use Rattle.std.proofs.Common.{◌∙◌, ◌++◌, ap}
+use Rattle.std.proofs.Common.{◌∙◌, ◌++◌, ap, arith, rules}
+use Rattle.std.proofs.lemmas.Grind.{common_steps}
 use Rattle.std.proofs.lemmas.Result.{on_ok_weaker}
 use Rattle.sch_control.specs.flow.RestoredView.{restored}
 use Rattle.sch_orders.specs.ListedCalls.{listed_calls}
 use Rattle.sch_homes.specs.HomeTable.{place_in}
 use Rattle.sch_homes.specs.Homes.{homes_end}
 use Rattle.sch_homes.specs.ListedMoves.{listed_call}
+use Rattle.sch_homes.proofs.BodyLimits.{body_few}
 use Rattle.sch_homes.proofs.listed_moves.list_moves.Goals as goal
+
+pub list_calls-requires : goal.list_calls-requires
+list_calls-requires g c = (first_of (search rules, grind (arith, common_steps), omega arith), body_few c.args.b.now)
 
 pub returns : goal.returns
 returns g c =

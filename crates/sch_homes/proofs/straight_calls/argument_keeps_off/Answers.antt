@@ -1,6 +1,5 @@
 use Rattle.std.proofs.Common.{◌∙◌, ap, sym}
 use Rattle.std.specs.Option.{option_copied}
-use Rattle.std.proofs.lemmas.Result.{IfOk-weaker}
 use Rattle.sch_word.specs.trees.Bindings.{numbers}
 use Rattle.sch_homes.specs.CallMoves.{operand_tree}
 use Rattle.sch_homes.specs.HomeTable.{place_in}
@@ -17,6 +16,5 @@ returns-in-None c =
 
 pub returns-in-Some : goal.returns-in-Some
 returns-in-Some c =
-    IfOk-weaker c.keeps_off-in-Some.result _ _
-    (λ t h. h ∙ ap (λ o. keeps_off c.args.tail c.args.count c.args.j (operand_tree o))
-    (sym (argument_found (place_in c.args.lives.now.places.now) c.args.a.now c.args.j _ c.if-j-eq0.false (sym c.get.ensures.value ∙ ap option_copied c.in-Some.is)))) c.keeps_off-in-Some.ensures
+    c.keeps_off-in-Some.ensures ∙ ap (λ o. keeps_off c.args.tail c.args.count c.args.j (operand_tree o))
+    (sym (argument_found (place_in c.args.lives.now.places.now) c.args.a.now c.args.j _ c.if-j-eq0.false (sym c.get.ensures.value ∙ ap option_copied c.in-Some.is)))

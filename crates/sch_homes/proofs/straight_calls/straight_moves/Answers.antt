@@ -16,6 +16,6 @@ pub returns : goal.returns
 returns c =
     let over = c.loop-k-test.false in
     let within = c.loop-k.auto.k-end in
-    let count = c.in_ok-count.ensures in
+    let count = c.argument_count-count.ensures in
     let all : c.loop-k.k ≡ suc (length c.args.a.now.operands) = omega (arith, over, within, count) in
     c.loop-k.invariant ∙ ap (λ n. map (straight_move (place_in c.args.lives.now.places.now) c.args.tail c.args.a.now) (numbers 0 n)) all

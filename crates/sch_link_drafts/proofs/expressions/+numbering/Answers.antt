@@ -1,12 +1,16 @@
-use Rattle.std.proofs.Common.{length, map, ap, ◌+◌}
+use Rattle.std.proofs.Common.{rules, length, map, refl, ap, subst, ◌+◌, arith}
 use Rattle.sch_word.specs.values.LiteralView.{literal}
 use Rattle.sch_names.specs.NamesView.{names_of}
 use Rattle.sch_names.specs.ScopeView.{given_names, one_name}
-use Rattle.sch_sketch.specs.DraftView.{draft_of}
+use Rattle.sch_sketch.specs.DraftMeasures.{size, size_each}
+use Rattle.sch_sketch.specs.DraftView.{draft_of, drafts_of}
 use Rattle.sch_link_tables.specs.Quoted.{literal_of, quotes_in}
-use Rattle.sch_link_tables.proofs.DraftViews.{branch_view, bind_view, letrec_view, call_view, operation_view}
-use Rattle.sch_link_tables.proofs.DraftLists.{width_is}
-use Rattle.sch_link_drafts.proofs.NumberSteps.{sites_more, literals_more, branch_made, bind_made, letrec_made, call_made, operation_made, branch_sites, bind_sites, letrec_sites, call_sites, operation_sites, branch_literals, bind_literals, letrec_literals, call_literals, next_numbered, end_numbered, next_sites, next_literals, next_constants, end_constants, group_is, unless_is, name_is}
+use Rattle.sch_link_tables.specs.Room.{HasRoom}
+use Rattle.sch_link_tables.proofs.DraftViews.{literal_view, set_local_view, set_global_view, define_view, branch_view, sequence_view, bind_view, letrec_view, lambda_view, call_view, operation_view}
+use Rattle.sch_link_tables.proofs.DraftLists.{next_draft, width_is}
+use Rattle.sch_link_tables.proofs.FewNumbers.{few_parts, room_within, room_same, room_after_site, room_after_letrec, room_after, room_after_each}
+use Rattle.sch_link_drafts.proofs.NumberSteps.{sites_more, literals_more, branch_made, bind_made, letrec_made, call_made, operation_made, branch_sites, bind_sites, letrec_sites, call_sites, operation_sites, branch_literals, bind_literals, letrec_literals, call_literals, next_numbered, end_numbered, next_sites, next_literals, next_constants, end_constants, next_room, group_is, unless_is, name_is}
+use Rattle.sch_sketch.specs.declared.draft.Draft.{the_lemmas}
 use Rattle.sch_link_drafts.proofs.expressions.+numbering.Goals as goal
 
 pub number-returns-in_ok-number_branch-in-If-clause-made : goal.number-returns-in_ok-number_branch-in-If-clause-made
@@ -135,6 +139,7 @@ number_each-loop-e-preserved t c =
       made = rw c.in_ok-push.ensures.ok (next_numbered (names_of c.args.tables.now.own.now) (names_of c.args.tables.now.globals.now) (names_of c.args.tables.now.symbols.now) (given_names c.args.names.now) es i (one_name c.name_at-v.result) e c.loop-e.all c.in_ok-made.made (length out.sites) (length out.literals) _ _ _ c.loop-e-test.true c.e-item.is (name_is c.args.names.now c.name_at-v.ensures c.loop-e.invariant.place) made.made (sites_more out.sites _ made.sites) (literals_more f out.literals _ (quotes_in (draft_of e)) made.literals) c.loop-e.invariant.made);
       sites = next_sites es i e out.sites _ _ c.loop-e-test.true c.e-item.is made.sites c.loop-e.invariant.sites;
       literals = next_literals f es i e (map literal out.literals) _ _ c.loop-e-test.true c.e-item.is made.literals c.loop-e.invariant.literals;
+      room = next_room es i e out _ c.loop-e-test.true c.e-item.is c.loop-e.invariant.room (sites_more out.sites _ made.sites) (literals_more f out.literals _ (quotes_in (draft_of e)) made.literals);
       constants = next_constants es i e c.loop-e-test.true c.e-item.is made.constants c.loop-e.invariant.constants;
     }
 
@@ -144,3 +149,158 @@ number_each-returns-clause-made t c =
 
 pub number_each-returns-clause-constants : goal.number_each-returns-clause-constants
 number_each-returns-clause-constants t c = end_constants c.args.es.now c.loop-e.e-index c.loop-e-test.false c.loop-e.invariant.constants
+
+pub number-new_literal-requires : goal.number-new_literal-requires
+number-new_literal-requires t c =
+    let r = subst (λ d. HasRoom c.args.out.now (size d)) (literal_view _ c.in-Literal.is) c.requires.room in
+    record { names = c.requires.names; few = omega (arith, r.literals) }
+
+pub number-number-requires : goal.number-number-requires
+number-number-requires t c =
+    let r = subst (λ d. HasRoom c.args.out.now (size d)) (set_local_view _ _ c.in-SetLocal.is c.deref.ensures) c.requires.room in
+    (search (rules, the_lemmas), (c.requires.names, room_within c.args.out.now _ r (omega arith)))
+
+pub number-number-requires-in-SetGlobal : goal.number-number-requires-in-SetGlobal
+number-number-requires-in-SetGlobal t c =
+    let r = subst (λ d. HasRoom c.args.out.now (size d)) (set_global_view _ _ c.in-SetGlobal.is c.deref-in-SetGlobal.ensures) c.requires.room in
+    let same = c.in_ok-global-in-SetGlobal.ensures in
+    (search (rules, the_lemmas), (c.requires.names, room_same c.args.out.now c.global_number-in-SetGlobal.new.out _ r same.sites same.literals (omega arith)))
+
+pub number-number-requires-in-Define : goal.number-number-requires-in-Define
+number-number-requires-in-Define t c =
+    let r = subst (λ d. HasRoom c.args.out.now (size d)) (define_view _ _ c.in-Define.is c.deref-in-Define.ensures) c.requires.room in
+    let same = c.in_ok-global-in-Define.ensures in
+    (search (rules, the_lemmas), (c.requires.names, room_same c.args.out.now c.global_number-in-Define.new.out _ r same.sites same.literals (omega arith)))
+
+pub number-number-requires-in-Lambda : goal.number-number-requires-in-Lambda
+number-number-requires-in-Lambda t c =
+    let r = subst (λ d. HasRoom c.args.out.now (size d)) (lambda_view _ _ _ c.in-Lambda.is c.deref-in-Lambda.ensures) c.requires.room in
+    (search (rules, the_lemmas), (c.requires.names, room_within c.args.out.now _ r (omega arith)))
+
+pub number-number_each-requires : goal.number-number_each-requires
+number-number_each-requires t c =
+    let r = subst (λ d. HasRoom c.args.out.now (size d)) (sequence_view _ c.in-Seq.is c.as_slice.ensures) c.requires.room in
+    (search (rules, the_lemmas), (c.requires.names, room_within c.args.out.now _ r (omega arith)))
+
+pub number-procedure-requires : goal.number-procedure-requires
+number-procedure-requires t c =
+    let r = subst (λ d. HasRoom c.args.out.now (size d)) (lambda_view _ _ _ c.in-Lambda.is c.deref-in-Lambda.ensures) c.requires.room in
+    record { few = omega (arith, r.sites) }
+
+pub number-new_site-requires : goal.number-new_site-requires
+number-new_site-requires t c =
+    let r = subst (λ d. HasRoom c.args.out.now (size d)) (operation_view _ _ c.in-Prim.is refl) c.requires.room in
+    record { few = omega (arith, r.sites); narrow = omega (arith, r.sites, few_parts (drafts_of c.in-Prim.es), width_is c.in-Prim.es c.len.ensures refl) }
+
+pub number-number_each-requires-in-Prim : goal.number-number_each-requires-in-Prim
+number-number_each-requires-in-Prim t c =
+    let r = subst (λ d. HasRoom c.args.out.now (size d)) (operation_view _ _ c.in-Prim.is c.as_slice-in-Prim.ensures) c.requires.room in
+    let site = c.in_ok-site-in-Prim.ensures in
+    (search (rules, the_lemmas), (c.requires.names, room_after_site c.args.out.now c.new_site.new.out _ r _ site.sites site.literals (omega arith)))
+
+pub number_branch-number-requires : goal.number_branch-number-requires
+number_branch-number-requires t c =
+    let r = subst (λ d. HasRoom c.args.out.now (size d)) (branch_view _ _ _ c.in-If.is c.deref.ensures refl refl) c.requires.room in
+    (search (rules, the_lemmas), (c.requires.names, room_within c.args.out.now _ r (omega arith)))
+
+pub number_branch-number-requires-2 : goal.number_branch-number-requires-2
+number_branch-number-requires-2 t c =
+    let f = literal_of (names_of c.args.tables.now.symbols.now) in
+    let out = c.args.out.now in
+    let out1 = c.number.new.out in
+    let a = c.in_ok-a.ensures in
+    let r = subst (λ d. HasRoom c.args.out.now (size d)) (branch_view _ _ _ c.in-If.is c.deref.ensures c.deref-2.ensures refl) c.requires.room in
+    (search (rules, the_lemmas), (c.requires.names, room_after out out1 (size (draft_of c.deref-2.result.now)) r (draft_of c.deref.result.now) (sites_more out.sites _ a.sites) (literals_more f out.literals out1.literals _ a.literals) (omega arith)))
+
+pub number_branch-number-requires-3 : goal.number_branch-number-requires-3
+number_branch-number-requires-3 t c =
+    let f = literal_of (names_of c.args.tables.now.symbols.now) in
+    let out = c.args.out.now in
+    let out1 = c.number.new.out in
+    let out2 = c.number-2.new.out in
+    let a = c.in_ok-a.ensures in
+    let b = c.in_ok-b.ensures in
+    let r = subst (λ d. HasRoom c.args.out.now (size d)) (branch_view _ _ _ c.in-If.is c.deref.ensures c.deref-2.ensures c.deref-3.ensures) c.requires.room in
+    let both = size (draft_of c.deref-2.result.now) + size (draft_of c.deref-3.result.now) in
+    let s = room_after out out1 both r (draft_of c.deref.result.now) (sites_more out.sites _ a.sites) (literals_more f out.literals out1.literals _ a.literals) (omega arith) in
+    (search (rules, the_lemmas), (c.requires.names, room_after out1 out2 (size (draft_of c.deref-3.result.now)) s (draft_of c.deref-2.result.now) (sites_more out1.sites _ b.sites) (literals_more f out1.literals out2.literals _ b.literals) (omega arith)))
+
+pub number_let-new_site-requires : goal.number_let-new_site-requires
+number_let-new_site-requires t c =
+    let r = subst (λ d. HasRoom c.args.out.now (size d)) (bind_view _ _ _ c.in-Let.is refl refl refl) c.requires.room in
+    record { few = omega (arith, r.sites); narrow = omega (arith, r.sites, width_is c.in-Let.es c.len.ensures refl) }
+
+pub number_let-number_each-requires : goal.number_let-number_each-requires
+number_let-number_each-requires t c =
+    let r = subst (λ d. HasRoom c.args.out.now (size d)) (bind_view _ _ _ c.in-Let.is c.as_slice.ensures c.as_slice-2.ensures refl) c.requires.room in
+    let site = c.in_ok-site.ensures in
+    (search (rules, the_lemmas), (c.requires.names, room_after_site c.args.out.now c.new_site.new.out _ r _ site.sites site.literals (omega arith)))
+
+pub number_let-number-requires : goal.number_let-number-requires
+number_let-number-requires t c =
+    let f = literal_of (names_of c.args.tables.now.symbols.now) in
+    let out1 = c.new_site.new.out in
+    let out2 = c.number_each.new.out in
+    let r = subst (λ d. HasRoom c.args.out.now (size d)) (bind_view _ _ _ c.in-Let.is c.as_slice.ensures c.as_slice-2.ensures c.deref.ensures) c.requires.room in
+    let site = c.in_ok-site.ensures in
+    let inits = c.in_ok-inits.ensures in
+    let both = size_each (drafts_of c.as_slice-2.result.now) + size (draft_of c.deref.result.now) in
+    let s = room_after_site c.args.out.now out1 both r _ site.sites site.literals (omega arith) in
+    (search (rules, the_lemmas), (c.requires.names, room_after_each out1 out2 (size (draft_of c.deref.result.now)) s (drafts_of c.as_slice-2.result.now) (sites_more out1.sites _ inits.sites) (literals_more f out1.literals out2.literals _ inits.literals) (omega arith)))
+
+pub number_letrec-is_group-requires : goal.number_letrec-is_group-requires
+number_letrec-is_group-requires t c =
+    let r = subst (λ d. HasRoom c.args.out.now (size d)) (letrec_view _ _ _ _ c.in-Letrec.is refl c.as_slice.ensures c.deref.ensures) c.requires.room in
+    record { few = omega (arith, r.sites) }
+
+pub number_letrec-site_unless-requires : goal.number_letrec-site_unless-requires
+number_letrec-site_unless-requires t c =
+    let r = subst (λ d. HasRoom c.args.out.now (size d)) (letrec_view _ _ _ _ c.in-Letrec.is refl refl refl) c.requires.room in
+    record { few = omega (arith, r.sites); narrow = omega (arith, r.sites, width_is c.in-Letrec.es c.len.ensures refl) }
+
+pub number_letrec-number_each-requires : goal.number_letrec-number_each-requires
+number_letrec-number_each-requires t c =
+    let r = subst (λ d. HasRoom c.args.out.now (size d)) (letrec_view _ _ _ _ c.in-Letrec.is c.as_slice-2.ensures c.as_slice-3.ensures refl) c.requires.room in
+    let site = c.in_ok-site.ensures in
+    (search (rules, the_lemmas), (c.requires.names, room_after_letrec c.args.out.now c.site_unless.new.out _ r _ _ site.sites site.literals (omega arith)))
+
+pub number_letrec-number-requires : goal.number_letrec-number-requires
+number_letrec-number-requires t c =
+    let f = literal_of (names_of c.args.tables.now.symbols.now) in
+    let out1 = c.site_unless.new.out in
+    let out2 = c.number_each.new.out in
+    let r = subst (λ d. HasRoom c.args.out.now (size d)) (letrec_view _ _ _ _ c.in-Letrec.is c.as_slice-2.ensures c.as_slice-3.ensures c.deref-2.ensures) c.requires.room in
+    let site = c.in_ok-site.ensures in
+    let inits = c.in_ok-inits.ensures in
+    let both = size_each (drafts_of c.as_slice-3.result.now) + size (draft_of c.deref-2.result.now) in
+    let s = room_after_letrec c.args.out.now out1 both r _ _ site.sites site.literals (omega arith) in
+    (search (rules, the_lemmas), (c.requires.names, room_after_each out1 out2 (size (draft_of c.deref-2.result.now)) s (drafts_of c.as_slice-3.result.now) (sites_more out1.sites _ inits.sites) (literals_more f out1.literals out2.literals _ inits.literals) (omega arith)))
+
+pub number_call-call_site-requires : goal.number_call-call_site-requires
+number_call-call_site-requires t c =
+    let r = subst (λ d. HasRoom c.args.out.now (size d)) (call_view _ _ _ c.in-Call.is refl refl refl) c.requires.room in
+    record { few = omega (arith, r.sites); narrow = omega (arith, r.sites, few_parts (drafts_of c.in-Call.es), width_is c.in-Call.es c.len.ensures refl) }
+
+pub number_call-number-requires : goal.number_call-number-requires
+number_call-number-requires t c =
+    let r = subst (λ d. HasRoom c.args.out.now (size d)) (call_view _ _ _ c.in-Call.is refl c.deref.ensures refl) c.requires.room in
+    let site = c.in_ok-site.ensures in
+    (search (rules, the_lemmas), (c.requires.names, room_after_site c.args.out.now c.call_site.new.out _ r _ site.sites site.literals (omega arith)))
+
+pub number_call-number_each-requires : goal.number_call-number_each-requires
+number_call-number_each-requires t c =
+    let f = literal_of (names_of c.args.tables.now.symbols.now) in
+    let out1 = c.call_site.new.out in
+    let out2 = c.number.new.out in
+    let r = subst (λ d. HasRoom c.args.out.now (size d)) (call_view _ _ _ c.in-Call.is c.as_slice.ensures c.deref.ensures c.as_slice-2.ensures) c.requires.room in
+    let site = c.in_ok-site.ensures in
+    let operator = c.in_ok-operator.ensures in
+    let both = size (draft_of c.deref.result.now) + size_each (drafts_of c.as_slice-2.result.now) in
+    let s = room_after_site c.args.out.now out1 both r _ site.sites site.literals (omega arith) in
+    (search (rules, the_lemmas), (c.requires.names, room_after out1 out2 (size_each (drafts_of c.as_slice-2.result.now)) s (draft_of c.deref.result.now) (sites_more out1.sites _ operator.sites) (literals_more f out1.literals out2.literals _ operator.literals) (omega arith)))
+
+pub number_each-number-requires : goal.number_each-number-requires
+number_each-number-requires t c =
+    let n = next_draft c.args.es.now c.loop-e.e-index c.e-item.result c.loop-e-test.true c.e-item.is in
+    let r = subst (λ ds. HasRoom c.loop-e.out (size_each ds)) n c.loop-e.invariant.room in
+    (search (rules, the_lemmas), (c.requires.names, room_within c.loop-e.out _ r (omega arith)))

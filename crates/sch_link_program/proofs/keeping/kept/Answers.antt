@@ -1,4 +1,4 @@
-use Rattle.std.proofs.Common.{refl, ap, ◌∙◌, ◌-◌, length, reverse, take}
+use Rattle.std.proofs.Common.{refl, ◌-◌, length, take}
 use Rattle.sch_names.specs.NamesView.{names_of}
 use Rattle.sch_link_program.proofs.KeepSteps.{last_apart, none_below, still_whole, step_list, step_names, all_looked}
 use Rattle.sch_link_program.proofs.keeping.kept.Goals as goal

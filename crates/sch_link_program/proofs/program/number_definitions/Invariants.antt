@@ -4,9 +4,11 @@ use Rattle.sch_lang.specs.View.{function}
 use Rattle.sch_names.specs.NamesView.{names_of}
 use Rattle.sch_link_tables.specs.Quoted.{literal_of}
 use Rattle.sch_link_tables.specs.Programs.{quotes_of_each, widths_of_definitions, procedures}
+use Rattle.sch_link_tables.specs.Room.{HasRoom}
 use Rattle.sch_link_tables.proofs.ProcedureLists.{onto}
 use Rattle.sch_link_program.specs.Definitions.{kept_definitions}
 use Rattle.sch_link_program.specs.Ranged.{BodiesHaveConstants}
+use Rattle.sch_link_program.specs.Size.{size_of_definitions}
 use Rattle.sch_link_program.proofs.program.number_definitions.Given as goal
 
 abbrev pub invariant-loop-d : goal.invariant-loop-d
@@ -18,5 +20,6 @@ invariant-loop-d l = record {
   literals :
       map literal l.out.literals ++ map (literal_of (names_of l.tables.symbols.names)) (quotes_of_each (kept_definitions (drop l.d-index l.definitions)))
       ≡ map literal l.initial.out.literals ++ map (literal_of (names_of l.tables.symbols.names)) (quotes_of_each (kept_definitions l.definitions));
+  room : HasRoom l.out (size_of_definitions (kept_definitions (drop l.d-index l.definitions)));
   bodies : BodiesHaveConstants (kept_definitions (drop l.d-index l.definitions)) → BodiesHaveConstants (kept_definitions l.definitions);
 }

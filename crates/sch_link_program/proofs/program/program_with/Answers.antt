@@ -1,13 +1,44 @@
-use Rattle.std.proofs.Common.{◌∙◌, ap, refl}
+use Rattle.std.proofs.Common.{◌++◌, ◌∙◌, ap, refl}
 use Rattle.sch_names.specs.NamesView.{names_of}
 use Rattle.sch_sketch.specs.DraftView.{drafts_of}
 use Rattle.sch_link_tables.specs.Named.{globals_in_each, symbols_in_each}
 use Rattle.sch_link_tables.specs.Programs.{globals_of_each, symbols_of_each}
 use Rattle.sch_link_program.specs.Definitions.{kept_definitions}
 use Rattle.sch_link_program.specs.Ranged.{trees_in_range}
+use Rattle.sch_link_tables.specs.Quoted.{literal_of}
+use Rattle.sch_link_program.proofs.FewDefinitions.{few_globals_named, few_symbols_named, room_for_definitions, room_for_forms}
 use Rattle.sch_link_program.proofs.ProgramConstants.{program_ranged}
 use Rattle.sch_link_program.proofs.ProgramMade.{assembled, also_named}
 use Rattle.sch_link_program.proofs.program.program_with.Goals as goal
+
+pub number_definitions-requires : goal.number_definitions-requires
+number_definitions-requires c =
+    let ds = kept_definitions c.args.definitions.now in
+    let own = names_of c.args.own.now.names.now in
+    let forms = drafts_of c.args.forms.now in
+    let named = c.args.own.now.named.now in
+    let out = c.new-out.result in
+    record {
+      formals = c.requires.formals;
+      globals = few_globals_named ds forms c.requires.small own (also_named (globals_of_each ds) (globals_in_each own forms) named.globals.list c.new-tables.ensures.globals c.in_ok-name_definitions.ensures.globals c.in_ok-name_also.ensures.globals c.requires.globals);
+      symbols = few_symbols_named (symbols_of_each ds ++ symbols_in_each forms) c.requires.few_symbols (also_named (symbols_of_each ds) (symbols_in_each forms) named.symbols.list c.new-tables.ensures.symbols c.in_ok-name_definitions.ensures.symbols c.in_ok-name_also.ensures.symbols c.requires.symbols);
+      room = room_for_definitions ds forms c.requires.small out c.new-out.ensures.sites c.new-out.ensures.literals;
+    }
+
+pub number_each-requires : goal.number_each-requires
+number_each-requires c =
+    let ds = kept_definitions c.args.definitions.now in
+    let own = names_of c.args.own.now.names.now in
+    let forms = drafts_of c.args.forms.now in
+    let named = c.args.own.now.named.now in
+    let made = c.in_ok-library.ensures in
+    record {
+      names = (
+        few_globals_named ds forms c.requires.small own (also_named (globals_of_each ds) (globals_in_each own forms) named.globals.list c.new-tables.ensures.globals c.in_ok-name_definitions.ensures.globals c.in_ok-name_also.ensures.globals c.requires.globals),
+        few_symbols_named (symbols_of_each ds ++ symbols_in_each forms) c.requires.few_symbols (also_named (symbols_of_each ds) (symbols_in_each forms) named.symbols.list c.new-tables.ensures.symbols c.in_ok-name_definitions.ensures.symbols c.in_ok-name_also.ensures.symbols c.requires.symbols),
+      );
+      room = room_for_forms ds forms c.requires.small c.new-out.result c.new-out.ensures.sites c.new-out.ensures.literals c.number_definitions.new.out (literal_of (names_of c.name_also.new.tables.symbols.names)) made.sites made.literals;
+    }
 
 pub returns-clause-made : goal.returns-clause-made
 returns-clause-made c =

@@ -9,4 +9,4 @@ pub returns : goal.returns
 returns c =
     c.none_marked.ensures
     ∙ none_for (drafts_of c.args.es.now) (draft_of c.args.e.now) (length c.args.es.now) c.mark.new.marks (width_is c.args.es.now refl refl)
-    (two_walks (assigns_each (drafts_of c.args.es.now)) (assigns (draft_of c.args.e.now)) (length c.args.es.now) c.as_mut_slice-marks.result.now c.mark_each.new.marks c.mark.new.marks (c.as_mut_slice-marks.ensures.value ∙ c.in_ok-all.ensures) c.in_ok-mark_each.ensures c.in_ok-mark.ensures)
+    (two_walks (assigns_each (drafts_of c.args.es.now)) (assigns (draft_of c.args.e.now)) (length c.args.es.now) c.as_mut_slice-marks.result.now c.mark_each.new.marks c.mark.new.marks (c.as_mut_slice-marks.ensures.value ∙ c.in_ok-all.ensures) c.mark_each.ensures c.mark.ensures)

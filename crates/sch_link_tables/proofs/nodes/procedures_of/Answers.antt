@@ -1,4 +1,3 @@
-use Rattle.std.proofs.Common.{◌∙◌, ap, reverse}
 use Rattle.sch_link_tables.proofs.ProcedureLists.{next_procedure, no_procedure, all_left}
 use Rattle.sch_link_tables.proofs.nodes.procedures_of.Goals as goal
 

@@ -1,7 +1,8 @@
 use Rattle.std.proofs.Common.{◌≡◌, length, map, reverse}
 use Rattle.sch_lang.specs.View.{expressions_of, function}
+use Rattle.sch_lang.proofs.ListViews.{left}
 use Rattle.sch_link_tables.specs.Numbered.{procedures_of}
-use Rattle.sch_link_tables.proofs.ProcedureLists.{onto, left}
+use Rattle.sch_link_tables.proofs.ProcedureLists.{onto}
 use Rattle.sch_link_tables.proofs.nodes.procedures_of.Given as goal
 
 abbrev pub invariant-loop-e : goal.invariant-loop-e

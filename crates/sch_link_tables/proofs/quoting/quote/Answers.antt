@@ -26,7 +26,10 @@ quote_node-requires c =
     let order : lent_trees c.each.order ≡ left ++ d ∷ [] = ap lent_trees c.in-Some.ensures ∙ map-append lent_tree c.pop.new.self (c.in-Some.node ∷ []) in
     let there = c.each.invariant.0 in
     let next = parts_there parts left d there trees (subst (λ o. ComeBefore parts o there trees) order c.each.invariant.2) in
-    (quoted symbols next.0, c.each.invariant.1 ∙ ap (quoted symbols) next.1 ∙ map-append (literal_of symbols) (parts d) next.0)
+    record {
+      few = c.requires.few;
+      ready = (quoted symbols next.0, c.each.invariant.1 ∙ ap (quoted symbols) next.1 ∙ map-append (literal_of symbols) (parts d) next.0);
+    }
 
 pub each-preserved : goal.each-preserved
 each-preserved c =

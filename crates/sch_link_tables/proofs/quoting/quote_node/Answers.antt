@@ -19,7 +19,7 @@ take-requires c =
     let symbols = names_of c.args.symbols.now in
     let items = c.in-List-default-None.items in
     let tree : tree_of c.args.d.now ≡ list c.args.d.now.at (data_of items) = search (rules, the_lemmas) in
-    let first = ready_as symbols tree c.requires in
+    let first = ready_as symbols tree c.requires.ready in
     let n = c.len.ensures in
     omega (arith, n, enough symbols items _ _ first)
 
@@ -29,7 +29,7 @@ take-requires-in-List-default-Some c =
     let items = c.in-List-default-Some.items in
     let end = tree_of c.in-List-default-Some.field-1-0.value in
     let tree : tree_of c.args.d.now ≡ dotted c.args.d.now.at (data_of items) end = search (rules, the_lemmas) in
-    let first = dotted_front symbols (data_of items) end _ _ (ready_as symbols tree c.requires) in
+    let first = dotted_front symbols (data_of items) end _ _ (ready_as symbols tree c.requires.ready) in
     let n = c.len-in-List-default-Some.ensures in
     omega (arith, n, enough symbols items _ _ first)
 
@@ -39,8 +39,8 @@ pop-requires c =
     let items = c.in-List-default-Some.items in
     let end = tree_of c.in-List-default-Some.field-1-0.value in
     let tree : tree_of c.args.d.now ≡ dotted c.args.d.now.at (data_of items) end = search (rules, the_lemmas) in
-    let first = dotted_front symbols (data_of items) end _ _ (ready_as symbols tree c.requires) in
-    let left : made c.take-in-List-default-Some.new.self ≡ literal_of symbols end ∷ c.requires.0 =
+    let first = dotted_front symbols (data_of items) end _ _ (ready_as symbols tree c.requires.ready) in
+    let left : made c.take-in-List-default-Some.new.self ≡ literal_of symbols end ∷ c.requires.ready.0 =
     c.in_ok-items-in-List-default-Some.ensures.left ∙ ap (λ k. drop k (made c.args.literals.now)) c.len-in-List-default-Some.ensures ∙ behind symbols items _ _ first in
     let n = ap length left in
     omega (arith, n)
@@ -50,7 +50,7 @@ take-requires-in-Vector c =
     let symbols = names_of c.args.symbols.now in
     let items = c.in-Vector.items in
     let tree : tree_of c.args.d.now ≡ vector c.args.d.now.at (data_of items) = search (rules, the_lemmas) in
-    let first = ready_as symbols tree c.requires in
+    let first = ready_as symbols tree c.requires.ready in
     let n = c.len-in-Vector.ensures in
     omega (arith, n, enough symbols items _ _ first)
 
@@ -59,7 +59,7 @@ returns-in_ok-items-in-List-default-None-clause-same c =
     let symbols = names_of c.args.symbols.now in
     let items = c.in-List-default-None.items in
     let tree : tree_of c.args.d.now ≡ list c.args.d.now.at (data_of items) = search (rules, the_lemmas) in
-    let first = ready_as symbols tree c.requires in
+    let first = ready_as symbols tree c.requires.ready in
     let same : plain c.in_ok-items-in-List-default-None.items ≡ quoted symbols (trees_of items) =
     c.in_ok-items-in-List-default-None.ensures.taken ∙ ap (λ k. take k (made c.args.literals.now)) c.len.ensures ∙ front symbols items _ _ first in
     let whole = same_quoted symbols c.in_ok-items-in-List-default-None.items items same in
@@ -70,10 +70,10 @@ returns-in_ok-items-in-List-default-None-clause-taken c =
     let symbols = names_of c.args.symbols.now in
     let items = c.in-List-default-None.items in
     let tree : tree_of c.args.d.now ≡ list c.args.d.now.at (data_of items) = search (rules, the_lemmas) in
-    let first = ready_as symbols tree c.requires in
-    let left : made c.take.new.self ≡ c.requires.0 =
+    let first = ready_as symbols tree c.requires.ready in
+    let left : made c.take.new.self ≡ c.requires.ready.0 =
     c.in_ok-items-in-List-default-None.ensures.left ∙ ap (λ k. drop k (made c.args.literals.now)) c.len.ensures ∙ behind symbols items _ _ first in
-    IfOk-weaker c.list_of.result _ _ (λ _ _. c.requires.1 ∙ ap (λ ls. literals_of_parts symbols (tree_of c.args.d.now) ++ ls) (sym left)) c.list_of.ensures
+    IfOk-weaker c.list_of.result _ _ (λ _ _. c.requires.ready.1 ∙ ap (λ ls. literals_of_parts symbols (tree_of c.args.d.now) ++ ls) (sym left)) c.list_of.ensures
 
 pub returns-in_ok-end-in-List-default-Some-clause-same : goal.returns-in_ok-end-in-List-default-Some-clause-same
 returns-in_ok-end-in-List-default-Some-clause-same c =
@@ -81,8 +81,8 @@ returns-in_ok-end-in-List-default-Some-clause-same c =
     let items = c.in-List-default-Some.items in
     let end = tree_of c.in-List-default-Some.field-1-0.value in
     let tree : tree_of c.args.d.now ≡ dotted c.args.d.now.at (data_of items) end = search (rules, the_lemmas) in
-    let first = dotted_front symbols (data_of items) end _ _ (ready_as symbols tree c.requires) in
-    let left : made c.take-in-List-default-Some.new.self ≡ literal_of symbols end ∷ c.requires.0 =
+    let first = dotted_front symbols (data_of items) end _ _ (ready_as symbols tree c.requires.ready) in
+    let left : made c.take-in-List-default-Some.new.self ≡ literal_of symbols end ∷ c.requires.ready.0 =
     c.in_ok-items-in-List-default-Some.ensures.left ∙ ap (λ k. drop k (made c.args.literals.now)) c.len-in-List-default-Some.ensures ∙ behind symbols items _ _ first in
     let same : plain c.in_ok-items-in-List-default-Some.items ≡ quoted symbols (trees_of items) =
     c.in_ok-items-in-List-default-Some.ensures.taken ∙ ap (λ k. take k (made c.args.literals.now)) c.len-in-List-default-Some.ensures ∙ front symbols items _ _ first in
@@ -98,17 +98,17 @@ returns-in_ok-end-in-List-default-Some-clause-taken c =
     let items = c.in-List-default-Some.items in
     let end = tree_of c.in-List-default-Some.field-1-0.value in
     let tree : tree_of c.args.d.now ≡ dotted c.args.d.now.at (data_of items) end = search (rules, the_lemmas) in
-    let first = dotted_front symbols (data_of items) end _ _ (ready_as symbols tree c.requires) in
-    let left : made c.take-in-List-default-Some.new.self ≡ literal_of symbols end ∷ c.requires.0 =
+    let first = dotted_front symbols (data_of items) end _ _ (ready_as symbols tree c.requires.ready) in
+    let left : made c.take-in-List-default-Some.new.self ≡ literal_of symbols end ∷ c.requires.ready.0 =
     c.in_ok-items-in-List-default-Some.ensures.left ∙ ap (λ k. drop k (made c.args.literals.now)) c.len-in-List-default-Some.ensures ∙ behind symbols items _ _ first in
-    c.requires.1 ∙ ap (λ ls. literals_of_parts symbols (tree_of c.args.d.now) ++ ls) (sym (tail_same (sym c.pop.ensures ∙ left)))
+    c.requires.ready.1 ∙ ap (λ ls. literals_of_parts symbols (tree_of c.args.d.now) ++ ls) (sym (tail_same (sym c.pop.ensures ∙ left)))
 
 pub returns-in_ok-items-in-Vector-clause-same : goal.returns-in_ok-items-in-Vector-clause-same
 returns-in_ok-items-in-Vector-clause-same c =
     let symbols = names_of c.args.symbols.now in
     let items = c.in-Vector.items in
     let tree : tree_of c.args.d.now ≡ vector c.args.d.now.at (data_of items) = search (rules, the_lemmas) in
-    let first = ready_as symbols tree c.requires in
+    let first = ready_as symbols tree c.requires.ready in
     let same : plain c.in_ok-items-in-Vector.items ≡ quoted symbols (trees_of items) =
     c.in_ok-items-in-Vector.ensures.taken ∙ ap (λ k. take k (made c.args.literals.now)) c.len-in-Vector.ensures ∙ front symbols items _ _ first in
     ap words.elements (same_quoted symbols c.in_ok-items-in-Vector.items items same) ∙ sym (ap (literal_of symbols) tree)
@@ -118,7 +118,7 @@ returns-in_ok-items-in-Vector-clause-taken c =
     let symbols = names_of c.args.symbols.now in
     let items = c.in-Vector.items in
     let tree : tree_of c.args.d.now ≡ vector c.args.d.now.at (data_of items) = search (rules, the_lemmas) in
-    let first = ready_as symbols tree c.requires in
-    let left : made c.take-in-Vector.new.self ≡ c.requires.0 =
+    let first = ready_as symbols tree c.requires.ready in
+    let left : made c.take-in-Vector.new.self ≡ c.requires.ready.0 =
     c.in_ok-items-in-Vector.ensures.left ∙ ap (λ k. drop k (made c.args.literals.now)) c.len-in-Vector.ensures ∙ behind symbols items _ _ first in
-    c.requires.1 ∙ ap (λ ls. literals_of_parts symbols (tree_of c.args.d.now) ++ ls) (sym left)
+    c.requires.ready.1 ∙ ap (λ ls. literals_of_parts symbols (tree_of c.args.d.now) ++ ls) (sym left)

@@ -8,7 +8,7 @@ use Rattle.sch_paths.specs.Exact.{EagerRestores}
 use Rattle.sch_regs.specs.PlaceChoice.{places}
 use Rattle.sch_restores.specs.Restores.{eagerly_restored}
 use Rattle.sch_saves.specs.LazyRegions.{lazily_saved}
-use Rattle.sch_registers.proofs.JoinedPasses.{IsJoined, joined_body, joined_calls}
+use Rattle.sch_registers.proofs.JoinedPasses.{IsJoined, joined_body, joined_calls, labels_kept}
 use Rattle.sch_registers.proofs.one_body.framed.Goals as goal
 
 pub assign_places-requires : goal.assign_places-requires
@@ -18,10 +18,14 @@ assign_places-requires g c = (
 )
 
 pub frame_listed-requires : goal.frame_listed-requires
-frame_listed-requires g c = (
-  first_of (search rules, grind (arith, common_steps), omega arith),
-  subst EachSoonRestored (sym c.in_ok-placed.ensures.tree) c.in_ok-restored.ensures.enough,
-)
+frame_listed-requires g c =
+    let l = c.in_ok-listed.ensures in
+    let s = c.in_ok-saved.ensures in
+    let r = c.in_ok-restored.ensures in
+    let p = c.in_ok-placed.ensures in
+    let kept = labels_kept _ _ _ _ _ l.same s.same (p.tree ∙ r.made) in
+    let few = c.requires.tests in
+    (first_of (search rules, grind (arith, common_steps), omega arith), (subst EachSoonRestored (sym p.tree) r.enough, omega (arith, kept, few)))
 
 pub invariant_of-placed-2 : goal.invariant_of-placed-2
 invariant_of-placed-2 g c =

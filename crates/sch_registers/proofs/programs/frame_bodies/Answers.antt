@@ -1,5 +1,12 @@
-use Rattle.sch_registers.proofs.EachFramed.{calls_end, calls_next, framed_end, framed_next}
+use Rattle.std.proofs.Common.{arith}
+use Rattle.sch_registers.proofs.EachFramed.{calls_end, calls_next, framed_end, framed_next, tests_among}
 use Rattle.sch_registers.proofs.programs.frame_bodies.Goals as goal
+
+pub frame_body-requires : goal.frame_body-requires
+frame_body-requires c =
+    let few = c.requires in
+    let mine = tests_among c.args.bodies.now c.loop-b.b-index c.b-item.result c.loop-b-test.true c.b-item.is in
+    omega (arith, few, mine)
 
 pub loop-b-preserved : goal.loop-b-preserved
 loop-b-preserved c = record {

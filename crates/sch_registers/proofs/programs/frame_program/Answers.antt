@@ -1,8 +1,8 @@
-use Rattle.std.proofs.Common.{IsTrue, ◌≤◌, ◌+◌, ◌∙◌, ap, max, refl, subst, sym}
+use Rattle.std.proofs.Common.{IsTrue, ◌≤◌, ◌+◌, ◌∙◌, ap, arith, max, refl, subst, sym}
 use Rattle.std.proofs.lemmas.Bool.{and_from, and_parts}
 use Rattle.std.specs.Prelude.{length, nat_le}
 use Rattle.sch_word.specs.trees.Shape.{max_library, max_operands}
-use Rattle.sch_control.specs.Sizes.{most_variables}
+use Rattle.sch_control.specs.Sizes.{most_variables, tests_of}
 use Rattle.sch_control.specs.SourceView as control
 use Rattle.sch_frames.specs.Sizes.{frame_words, spread_words}
 use Rattle.sch_control.specs.ProgramView.{source}
@@ -10,6 +10,12 @@ use Rattle.sch_orders.specs.ListedTable.{calls_fit, listed_table}
 use Rattle.sch_registers.proofs.ListedProgram.{calls_from_none, listed_calls_fit}
 use Rattle.sch_registers.proofs.EachFramed.{all_begin, all_called, all_covered, all_do, all_fit, all_made, all_made_from, all_stand, covered_within, handed_over, words_within}
 use Rattle.sch_registers.proofs.programs.frame_program.Goals as goal
+
+pub frame_bodies-requires : goal.frame_bodies-requires
+frame_bodies-requires c =
+    let few = c.requires in
+    let same = ap (λ bodies. tests_of (control.codes_of bodies)) c.as_slice.ensures in
+    omega (arith, few, same)
 
 pub new-requires : goal.new-requires
 new-requires c = record { frames = all_do _ _ (handed_over _ _ _ _ c.as_slice.ensures refl c.in_ok-bodies.ensures.bodies) }

@@ -4,7 +4,7 @@ use Rattle.std.specs.Prelude.{slice_index_or, nat_lt}
 use Rattle.std.specs.List.{list_all}
 use Rattle.std.proofs.lemmas.Grind.{common_steps}
 use Rattle.sch_control.specs.Valid.{member_variables}
-use Rattle.sch_regs.specs.NotedSets.{first_variable}
+use Rattle.sch_word.specs.values.Options.{first_or_0}
 use Rattle.sch_regs.specs.PlaceChoice as table
 use Rattle.sch_regs.specs.SetsAsTests.{noted_in}
 use Rattle.sch_regs.specs.Shows.{Shows}
@@ -29,14 +29,14 @@ choose_both-requires g c = (
 
 pub returns-in-Some : goal.returns-in-Some
 returns-in-Some g c count t h =
-    subst (λ ms. Shows count c.choose_both.new.placing (table.choose_each (noted_in c.args.noted.now (first_variable (member_variables c.args.members.now)))
-    (table.live_first (noted_in c.args.noted.now (first_variable (member_variables c.args.members.now))) (member_variables ms)) t)) c.as_slice.ensures
+    subst (λ ms. Shows count c.choose_both.new.placing (table.choose_each (noted_in c.args.noted.now (first_or_0 (member_variables c.args.members.now)))
+    (table.live_first (noted_in c.args.noted.now (first_or_0 (member_variables c.args.members.now))) (member_variables ms)) t)) c.as_slice.ensures
     (subst (λ s. Shows count c.choose_both.new.placing (table.choose_each (set.contains s) (table.live_first (set.contains s) (member_variables c.as_slice.result.now)) t))
     (c.noted_under-live.ensures ∙ ap (λ y. slice_index_or c.args.noted.now y set.empty) (first_some c.args.members.now c.in-Some.m.now c.in-Some.ensures.value))
     (c.choose_both.ensures count t h))
 
 pub returns-in-None : goal.returns-in-None
 returns-in-None g c count t h =
-    subst (λ ms. Shows count c.args.placing.now (table.choose_each (noted_in c.args.noted.now (first_variable (member_variables ms)))
-    (table.live_first (noted_in c.args.noted.now (first_variable (member_variables ms))) (member_variables ms)) t))
+    subst (λ ms. Shows count c.args.placing.now (table.choose_each (noted_in c.args.noted.now (first_or_0 (member_variables ms)))
+    (table.live_first (noted_in c.args.noted.now (first_or_0 (member_variables ms))) (member_variables ms)) t))
     (sym (first_none c.args.members.now c.in-None.ensures.value)) h

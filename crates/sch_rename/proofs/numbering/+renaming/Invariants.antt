@@ -1,9 +1,10 @@
 use Rattle.std.proofs.Common.{◌≡◌, ◌+◌, length, reverse, drop}
+use Rattle.sch_cells.proofs.Rows.{and_then, and_then_lambda}
 use Rattle.sch_lang.specs.View.{expressions_of, lambdas_of}
 use Rattle.sch_rename.specs.Made.{binds_each, binds_lambdas, renamed_each, renamed_lambdas}
 use Rattle.sch_lang.specs.InScope.{EachInScope, LambdasInScope}
+use Rattle.sch_lang.proofs.ListViews.{left, left_lambdas}
 use Rattle.sch_word.specs.trees.Walk.{onto}
-use Rattle.sch_rename.proofs.Loops.{and_then, and_then_lambda, left, left_lambdas}
 use Rattle.sch_rename.proofs.numbering.+renaming.Given as goal
 
 abbrev pub invariant-rename_each-loop-e : goal.invariant-rename_each-loop-e

@@ -1,6 +1,7 @@
 use Rattle.std.proofs.Common.{◌≡◌, ℕ, List, ap, ◌∙◌, ◌+◌, ◌*◌, ◌≤◌, length, map, sym, subst, refl, arith}
 use Rattle.std.specs.Prelude.{IsTrue, None, false}
 use Rattle.std.specs.List.{list_all}
+use Rattle.std.proofs.Math.Nat.{le_trans}
 use Rattle.sch_word.specs.values.LiteralView.{literals_of}
 use Rattle.sch_word.specs.values.StaticsView.{statics}
 use Rattle.sch_asm.specs.declared.assembly.Word.{Word}
@@ -11,13 +12,14 @@ use Rattle.sch_asm.specs.Codes.{instructions_in, text_size}
 use Rattle.sch_asm.specs.Narrow.{is_narrow_item}
 use Rattle.sch_asm.proofs.NarrowItems.{all_narrow, narrowed_marked, narrowed_size, narrowed_sound}
 use Rattle.sch_frames.specs.ProgramView.{source}
+use Rattle.sch_frames.specs.Tree.{Source}
 use Rattle.sch_frames.specs.Sizes.{program_copies, program_work}
 use Rattle.sch_select_data.proofs.literals.PlacedLiterals.{placed_objects, placed_literals}
 use Rattle.sch_select_data.proofs.literals.Rows.{count_rows}
 use Rattle.sch_select_data.specs.Data.{static_count, objects_unit, names_of, closures_of, heap_of, max_heap_address}
 use Rattle.sch_select_data.specs.Data.{data_words, program_words}
-use Rattle.sch_select.specs.Program.{max_data, max_stack, program_code, program_zeros, own_label, selected_code, stack_bytes}
-use Rattle.sch_select_memory.specs.Addresses.{max_heap_end, names_address}
+use Rattle.sch_select.specs.Program.{labels_of, max_data, max_stack, program_code, program_zeros, own_label, selected_code, stack_bytes}
+use Rattle.sch_select_memory.specs.Addresses.{max_heap_end, max_labels, names_address}
 use Rattle.sch_select.specs.MarkedStores.{stores_marked}
 use Rattle.sch_select.specs.FrameWords.{keeps_frame}
 use Rattle.sch_select.specs.Sizes.{kinds_in, kinds_of, steps_size}
@@ -42,8 +44,12 @@ use Rattle.sch_select.proofs.items.ProgramFrames.{program_reach}
 use Rattle.sch_select.proofs.items.JumpsAhead.{program_ahead}
 use Rattle.sch_select.specs.Jumps.{jumps_ahead}
 use Rattle.sch_select.proofs.items.TextSize.{text_small}
-use Rattle.sch_select.proofs.items.ReachedCodes.{program_reached}
+use Rattle.sch_select.proofs.items.ReachedCodes.{library_reached, program_reached}
 use Rattle.sch_select.proofs.selecting.select.Goals as goal
+
+-- a program with few labels has few bodies
+bodies_few : (p : Source) → labels_of p.bodies ≤ max_labels → length p.bodies ≤ max_labels
+bodies_few p few = omega (arith, few)
 
 pub heap_behind-heap-requires : goal.heap_behind-heap-requires
 heap_behind-heap-requires c =
@@ -70,7 +76,18 @@ words_of-requires-clause-objects c = c.in_ok-literals.ensures.objects
 
 pub items_of-requires-clause-reached : goal.items_of-requires-clause-reached
 items_of-requires-clause-reached c =
-    let p = c.args.p.now in program_reached (source p) (words_few p) (covered_selected p c.requires.covered)
+    let p = c.args.p.now in
+    program_reached (source p) (words_few p) (bodies_few (source p) c.requires.labels) (covered_selected p c.requires.covered) (labels_known p)
+
+pub items_of-requires-clause-labels : goal.items_of-requires-clause-labels
+items_of-requires-clause-labels c =
+    let few = c.requires.labels in
+    let count = bodies_count c.args.p.now.bodies in
+    omega (arith, few, count)
+
+pub words_of-requires-clause-library : goal.words_of-requires-clause-library
+words_of-requires-clause-library c =
+    let p = c.args.p.now in library_reached (source p) (bodies_few (source p) c.requires.labels) (procedures_known p)
 
 pub items_of-requires-clause-few : goal.items_of-requires-clause-few
 items_of-requires-clause-few c =
@@ -200,14 +217,11 @@ returns-clause-own c =
 pub returns-clause-narrow : goal.returns-clause-narrow
 returns-clause-narrow c = subst (λ is. IsTrue (list_all is_narrow_item is)) (items_made c.before) (all_narrow (wide c.before))
 
-no_more : (k m n : ℕ) → k ≤ m → m ≤ n → k ≤ n
-no_more k m n a b = omega (arith, a, b)
-
 pub returns-clause-text : goal.returns-clause-text
 returns-clause-text c =
     let q = source c.args.p.now in
     subst (λ is. text_size is ≤ 64 + (64 * program_work q + 8 * program_copies q)) (items_made c.before)
-    (no_more _ (text_size (wide c.before)) _ (narrowed_size (wide c.before)) (text_small q c.args.limits.heap c.args.limits.depth))
+    (le_trans (narrowed_size (wide c.before)) (text_small q c.args.limits.heap c.args.limits.depth))
 
 pub returns-clause-ahead : goal.returns-clause-ahead
 returns-clause-ahead c =

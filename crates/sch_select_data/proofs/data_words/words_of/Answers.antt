@@ -1,24 +1,22 @@
-use Rattle.std.proofs.Common.{◌≡◌, ◌-◌, ◌%◌, ℕ, List, [], ◌∷◌, ◌++◌, map, replicate, ap, ◌∙◌, suc, append_assoc, arith}
+use Rattle.std.proofs.Common.{◌≡◌, ◌-◌, ◌%◌, ℕ, List, [], ◌∷◌, ◌++◌, map, replicate, ap, ◌∙◌, suc, arith}
 use Rattle.sch_asm.specs.declared.assembly.Word.{Word}
 use Rattle.sch_asm.specs.declared.assembly.Word.TheVariants.{Fixed}
 use Rattle.sch_word.specs.values.StaticsView.{statics}
+use Rattle.sch_word.proofs.facts.Lists.{append_behind}
 use Rattle.sch_select_data.specs.Data.{closure_words, global_words, padding, static_count, word_list}
 use Rattle.sch_select_memory.specs.StaticBytes.{static_bytes}
 use Rattle.sch_select_data.specs.NameWords.{symbol_words}
 use Rattle.sch_select_data.proofs.data_words.words_of.Goals as goal
-
-more : (a b y t : List Word) → a ≡ b ++ y → a ++ t ≡ b ++ (y ++ t)
-more a b y t e = ap (λ l. l ++ t) e ∙ append_assoc b y t
 
 -- lists that are put behind one another
 joined : (x y v g s p c o a1 a2 a3 a4 a5 a6 a7 a8 : List Word) (n : Word) → a1 ≡ x ++ y → a2 ≡ a1 ++ n ∷ [] → a3 ≡ a2 ++ v
     → a4 ≡ a3 ++ g → a5 ≡ a4 ++ s → a6 ≡ a5 ++ p → a7 ≡ a6 ++ c → a8 ≡ a7 ++ o
     → a8 ≡ x ++ (y ++ (n ∷ (v ++ (g ++ (s ++ (p ++ (c ++ o)))))))
 joined x y v g s p c o a1 a2 a3 a4 a5 a6 a7 a8 n e1 e2 e3 e4 e5 e6 e7 e8 =
-    e8 ∙ more a7 a6 c o e7 ∙ more a6 a5 p (c ++ o) e6 ∙ more a5 a4 s (p ++ (c ++ o)) e5
-    ∙ more a4 a3 g (s ++ (p ++ (c ++ o))) e4 ∙ more a3 a2 v (g ++ (s ++ (p ++ (c ++ o)))) e3
-    ∙ more a2 a1 (n ∷ []) (v ++ (g ++ (s ++ (p ++ (c ++ o))))) e2
-    ∙ more a1 x y (n ∷ (v ++ (g ++ (s ++ (p ++ (c ++ o)))))) e1
+    e8 ∙ append_behind a7 a6 c o e7 ∙ append_behind a6 a5 p (c ++ o) e6 ∙ append_behind a5 a4 s (p ++ (c ++ o)) e5
+    ∙ append_behind a4 a3 g (s ++ (p ++ (c ++ o))) e4 ∙ append_behind a3 a2 v (g ++ (s ++ (p ++ (c ++ o)))) e3
+    ∙ append_behind a2 a1 (n ∷ []) (v ++ (g ++ (s ++ (p ++ (c ++ o))))) e2
+    ∙ append_behind a1 x y (n ∷ (v ++ (g ++ (s ++ (p ++ (c ++ o)))))) e1
 
 odd : (count total : ℕ) → count ≡ total → 1 - count % 2 ≡ suc total % 2
 odd count total e = omega (arith, e)

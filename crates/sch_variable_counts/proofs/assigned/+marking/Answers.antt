@@ -1,26 +1,26 @@
-use Rattle.std.proofs.Common.{ap, ◌∙◌, ◌+◌, arith, reverse}
+use Rattle.std.proofs.Common.{ap, ◌∙◌, ◌+◌, arith, reverse, sym}
 use Rattle.sch_lang.specs.Variables.{assigns, assigns_each, assigns_lambdas}
 use Rattle.sch_lang.specs.View.{expression, expressions_of, lambdas_of}
 use Rattle.sch_variable_counts.specs.Walked.{marks_of, marks_in_each, marks_in_lambdas}
 use Rattle.sch_word.specs.trees.Assigned.{marked}
 use Rattle.sch_variable_counts.proofs.FreeLists.{each_whole, lambdas_whole}
 use Rattle.sch_variable_counts.proofs.Marks.{under_marked}
-use Rattle.sch_word.proofs.facts.AssignedMarks.{none_marked}
+use Rattle.sch_word.proofs.facts.AssignedMarks.{marked_none}
 use Rattle.sch_variable_counts.proofs.MarkSteps.{set_marked, branch_marked, bind_marked, fix_marked, letrec_marked, call_marked, marked_turn, stacked_turn, lambda_marked_turn, lambda_stacked_turn, marked_end, lambda_marked_end}
 use Rattle.sch_variable_counts.proofs.ExpressionViews.{set_local_view, branch_view, bind_view, fix_view, letrec_view, call_view}
 use Rattle.sch_variable_counts.proofs.assigned.+marking.Goals as goal
 
 pub mark-returns-in-Constant-clause-scope : goal.mark-returns-in-Constant-clause-scope
-mark-returns-in-Constant-clause-scope t c = rw c.in-Constant.is (none_marked 0 (reverse c.args.scope.now.items))
+mark-returns-in-Constant-clause-scope t c = rw c.in-Constant.is (sym (marked_none 0 (reverse c.args.scope.now.items)))
 
 pub mark-returns-in-Literal-clause-scope : goal.mark-returns-in-Literal-clause-scope
-mark-returns-in-Literal-clause-scope t c = rw c.in-Literal.is (none_marked 0 (reverse c.args.scope.now.items))
+mark-returns-in-Literal-clause-scope t c = rw c.in-Literal.is (sym (marked_none 0 (reverse c.args.scope.now.items)))
 
 pub mark-returns-in-Local-clause-scope : goal.mark-returns-in-Local-clause-scope
-mark-returns-in-Local-clause-scope t c = rw c.in-Local.is (none_marked 0 (reverse c.args.scope.now.items))
+mark-returns-in-Local-clause-scope t c = rw c.in-Local.is (sym (marked_none 0 (reverse c.args.scope.now.items)))
 
 pub mark-returns-in-Global-clause-scope : goal.mark-returns-in-Global-clause-scope
-mark-returns-in-Global-clause-scope t c = rw c.in-Global.is (none_marked 0 (reverse c.args.scope.now.items))
+mark-returns-in-Global-clause-scope t c = rw c.in-Global.is (sym (marked_none 0 (reverse c.args.scope.now.items)))
 
 pub mark-returns-in_ok-mark-in-SetLocal-clause-scope : goal.mark-returns-in_ok-mark-in-SetLocal-clause-scope
 mark-returns-in_ok-mark-in-SetLocal-clause-scope t c =

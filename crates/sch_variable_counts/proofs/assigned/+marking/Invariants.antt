@@ -1,9 +1,9 @@
 use Rattle.std.proofs.Common.{◌≡◌, ◌≤◌, length, reverse, take}
 use Rattle.sch_lang.specs.Variables.{assigns_each, assigns_lambdas}
 use Rattle.sch_lang.specs.View.{expressions_of, lambdas_of}
+use Rattle.sch_lang.proofs.ListViews.{left, left_lambdas}
 use Rattle.sch_variable_counts.specs.Walked.{marks_in_each, marks_in_lambdas}
 use Rattle.sch_word.specs.trees.Assigned.{marked}
-use Rattle.sch_variable_counts.proofs.ListsLeft.{left, left_lambdas}
 use Rattle.sch_variable_counts.proofs.assigned.+marking.Given as goal
 
 abbrev pub invariant-mark_each-loop-left : goal.invariant-mark_each-loop-left

@@ -1,5 +1,6 @@
 use Rattle.std.proofs.Common.{ap, refl, cond, length, nat_eq, reverse, ◌+◌, ◌∙◌}
-use Rattle.sch_lang.specs.Measures.{one_unless, counts_nothing, variables, variables_each, variables_operands, variables_parts}
+use Rattle.sch_word.specs.trees.VariableCounts.{one_unless}
+use Rattle.sch_lang.specs.Measures.{counts_nothing, variables, variables_each, variables_operands, variables_parts}
 use Rattle.sch_lang.specs.View.{expression, expressions_of, lambdas_of}
 use Rattle.sch_variable_counts.proofs.ExpressionViews.{branch_view, bind_view, fix_view, letrec_view, call_view}
 use Rattle.sch_variable_counts.proofs.CappedCounts.{one_capped, sum_small, part_taken, operand_taken}

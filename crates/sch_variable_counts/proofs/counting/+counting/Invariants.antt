@@ -1,8 +1,8 @@
 use Rattle.std.proofs.Common.{◌≡◌, drop, reverse}
 use Rattle.sch_lang.specs.Measures.{variables_each, variables_operands, variables_parts}
 use Rattle.sch_lang.specs.View.{expressions_of, lambdas_of}
+use Rattle.sch_lang.proofs.ListViews.{left, left_lambdas}
 use Rattle.sch_variable_counts.specs.Walked.{capped}
-use Rattle.sch_variable_counts.proofs.ListsLeft.{left, left_lambdas}
 use Rattle.sch_variable_counts.proofs.TakenMarks.{EachTurn, LambdasTurn}
 use Rattle.sch_variable_counts.proofs.counting.+counting.Given as goal
 

@@ -1,9 +1,9 @@
 use Rattle.std.proofs.Common.{◌≡◌, ◌≤◌, length, reverse, take}
 use Rattle.std.specs.Prelude.{◌&&◌}
 use Rattle.sch_lang.specs.View.{expressions_of, lambdas_of}
+use Rattle.sch_lang.proofs.ListViews.{left, left_lambdas}
 use Rattle.sch_variable_counts.specs.Walked.{found_each, found_lambdas}
 use Rattle.sch_variable_counts.specs.Within.{has_few_free, each_procedure_in, each_lambda}
-use Rattle.sch_variable_counts.proofs.ListsLeft.{left, left_lambdas}
 use Rattle.sch_variable_counts.proofs.free.+finding.Given as goal
 
 abbrev pub invariant-find_each-loop-left : goal.invariant-find_each-loop-left

@@ -1,7 +1,7 @@
 use Rattle.std.proofs.Common.{◌≡◌, ◌++◌, drop}
 use Rattle.std.specs.Prelude.{filter}
 use Rattle.sch_control.specs.Valid.{member_variables}
-use Rattle.sch_frames.specs.Meaning.{is_slot}
+use Rattle.sch_word.specs.values.Places.{is_slot}
 use Rattle.sch_writer.proofs.body_layout.spilled_members.Given as goal
 
 abbrev pub invariant-loop-m : goal.invariant-loop-m
