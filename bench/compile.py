@@ -101,6 +101,12 @@ def bodies(size):
     return (form * (size // len(form))).ljust(size)
 
 
+def parts(size):
+    """A text of one body of as many constants and variables as fit, whose values are dropped: 524,000 in 1 MiB."""
+    front, back = b"(define (f x)", b" 7)(display (f 0))"
+    return (front + b" 1 x" * ((size - len(front) - len(back)) // 4) + back).ljust(size)
+
+
 LARGE_TEXTS = {
     "procedures": procedures,
     "short procedures": short_procedures,
@@ -108,6 +114,7 @@ LARGE_TEXTS = {
     "nests of let*": let_stars,
     "1,000 variables": bodies,
     "cond of 1,950": long_cond,
+    "one body of parts": parts,
 }
 
 LIMIT_STATUS = 7

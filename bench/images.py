@@ -25,7 +25,7 @@ import sys
 import tempfile
 
 from listing import read_listing
-from trace import PROGRAM, Run, counted, loads, stores, text_of
+from trace import PROGRAM, TOP, Run, counted, loads, stores, text_of
 
 STEPS = 300_000
 STORES = {"save", "spill", "temp", "argument"}
@@ -277,10 +277,20 @@ def agrees(text, printed, status, options, folder):
     return not wrong, whole
 
 
+def examples():
+    """The programs of `examples/`, each with what it prints by `run`."""
+    folder = os.path.join(TOP, "examples")
+    for name in sorted(os.listdir(folder)):
+        printed, status = ends([PROGRAM, "run", name], folder)
+        with open(os.path.join(folder, name)) as file:
+            yield file.read(), printed, status, []
+
+
 def main():
     texts = TEXTS + [text for count in (0, 6, 7, 200) for text in calls(count)]
     texts += [text for count in (2, 5, 6, 7, 8, 60, 199, 300) for text in variables(count)]
     texts += [text for count in (2, 3, 4, 5, 6, 7, 9, 12, 30) for seed in range(4) for text in moved(count, seed)]
+    texts += examples()
     with tempfile.TemporaryDirectory() as folder:
         seen = [agrees(*text, folder) for text in texts]
     well = [well for well, _ in seen]

@@ -9,8 +9,9 @@ it, and only requests between the two are refused: none that makes the disk, the
 them afterwards. A call must end with 10 and its line, with nothing printed and no file of the disk changed; or with 0, and all
 is as where nothing is refused, which is what the built program does with files of the host.
 
-With `--every N` only each Nth request is refused, with `--jobs N` so many runs go on side by side. With `--host` the built program is run, on files of the host, and each request
-of its process counts. It needs gcc, and prints how many requests were refused. The end is 1 where something is otherwise.
+With `--every N` only each Nth request is refused, and with `--jobs N` so many runs go on side by side. With `--host` the built program
+is run, on files of the host, and each request of its process counts. It needs gcc, and prints how many requests were refused. The end is
+1 where something is otherwise.
 """
 import argparse
 import collections

@@ -11,7 +11,7 @@ ghost use Rattle.sch_flat.specs.Measures as measures;
 ghost use Rattle.sch_flat.specs.Measures.{weight};
 ghost use Rattle.sch_flat.specs.ProgramView.{source};
 ghost use Rattle.sch_flat.specs.Tree.{count};
-ghost use Rattle.sch_anf_laws.specs.Counted.{BindNoMore};
+ghost use Rattle.sch_anf_laws.specs.Counted.{BindNoMore, FewSequences};
 ghost use Rattle.sch_anf_laws.specs.Kept.{SameCalls, StaysCovered};
 ghost use Rattle.sch_anf_laws.specs.Normal.{normal_source};
 ghost use Rattle.sch_anf_laws.specs.SameRun.{SameRun};
@@ -62,6 +62,8 @@ pub fn normalize(alloc: Global, p: &FlatProgram) -> Result<ControlProgram, Mem>
     ensures dropped { IfOk result (λ q. dropped_of (control.source q).bodies ≡ 0) }
     // No body has more variables than its flat body may need.
     ensures variables { IfOk result (λ q. BindNoMore (source p.now) (control.source q)) }
+    // No body has more sequences, each of which has one part before the last, than the variables that its flat body may need.
+    ensures sequences { IfOk result (λ q. FewSequences (source p.now) (control.source q)) }
     // There is no more work in what it makes than `p` weighs.
     ensures work { IfOk result (λ q. codes_work (control.source q).bodies ≤ weight (source p.now)) }
 {

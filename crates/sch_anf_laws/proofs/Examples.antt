@@ -17,11 +17,11 @@ use Rattle.sch_control.specs.declared.operation.Operation.TheVariants as does
 use Rattle.sch_control.specs.Covered.{is_covered_program}
 use Rattle.sch_control.specs.Tree as to
 use Rattle.sch_control.specs.Run as control
-use Rattle.sch_control.specs.Sizes.{expression_size, expressions_size}
+use Rattle.sch_control.specs.Sizes.{expression_size, expressions_size, sequences_in}
 use Rattle.sch_control.specs.Work.{code_work}
 use Rattle.sch_anf_laws.specs.Counted.{most_variables}
 use Rattle.sch_control.specs.Sizes.{bind_within}
-use Rattle.sch_flat.specs.Measures.{weight}
+use Rattle.sch_flat.specs.Measures.{variables, weight}
 use Rattle.sch_control.specs.Valid.{is_valid, code_valid}
 use Rattle.sch_anf_laws.specs.Normal.{normal, normal_source, new_label}
 
@@ -76,6 +76,21 @@ wrapped_normal = refl
 -- (begin 1 x 2 x) for a field x of the closure: the last part is not dropped
 last_kept : normal [] true (sequence (trees (number 1 ∷ variable (flat.free 0) ∷ number 2 ∷ variable (flat.free 0) ∷ []))) [] 2 ≡ to.return (to.perform (does.Field 1 0))
 last_kept = refl
+
+-- (begin x y 0) and (begin (x) y 0) for globals x and y: a read that is dropped is the first part of a sequence, and a call
+-- that is dropped is bound
+abbrev read_twice : Tree
+read_twice = sequence (trees (global 0 ∷ global 1 ∷ number 0 ∷ []))
+
+abbrev called_and_read : Tree
+called_and_read = sequence (trees (call 0 false (global 0) (trees []) ∷ global 1 ∷ number 0 ∷ []))
+
+sequences_row : (sequences_in (normal [] false read_twice [] 2) ∷ sequences_in (normal [] false called_and_read [] 2) ∷ []) ≡ 2 ∷ 1 ∷ []
+sequences_row = refl
+
+-- the second binds the operator of its call too
+needed_row : (variables read_twice ∷ variables called_and_read ∷ []) ≡ 2 ∷ 3 ∷ []
+needed_row = refl
 
 -- an assignment of a cell in one of a cell is done, bound, and names cell and value
 nested_sets : expression_size (normal [] false (cell_set (flat.bound 0) (cell_set (flat.bound 0) (number 1))) ((0, 2) ∷ []) 3) ≡ 7

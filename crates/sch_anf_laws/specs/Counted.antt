@@ -1,8 +1,8 @@
--- How many variables the bodies of a program of the language Control have.
+-- How many variables and sequences the bodies of a program of the language Control have.
 use Rattle.std.specs.Prelude.{ℕ, ◌-◌, IsTrue, List, [], ◌∷◌, ◌++◌, map, take, drop}
 use Rattle.sch_flat.specs.Tree as flat
 use Rattle.sch_flat.specs.Measures.{variables, body_variables}
-use Rattle.sch_control.specs.Sizes.{bind_within}
+use Rattle.sch_control.specs.Sizes.{bind_within, sequences_within}
 use Rattle.sch_control.specs.Tree as control
 
 -- What is said of bodies and of forms, in the order of the bodies that are made of them: each form stands before what
@@ -24,3 +24,7 @@ most_variables p = in_order 0 (map body_variables p.bodies) (form_variables p.fo
 -- no body of a program has more variables than its flat body may need
 abbrev pub BindNoMore : flat.Source → control.Source → Type 0
 BindNoMore p q = IsTrue (bind_within q.bodies (most_variables p))
+
+-- no body of a program has more sequences than the variables that its flat body may need
+abbrev pub FewSequences : flat.Source → control.Source → Type 0
+FewSequences p q = IsTrue (sequences_within q.bodies (most_variables p))

@@ -12,8 +12,8 @@ use Rattle.sch_asm.specs.declared.item.Item.TheVariants.{Label, Plain, Jump, Jum
 use Rattle.sch_asm.specs.declared.assembly.Word.{Word}
 use Rattle.sch_asm.specs.declared.assembly.Word.TheVariants.{Fixed, Address}
 use Rattle.sch_asm.specs.declared.routine.Routine.{Routine}
-use Rattle.sch_asm.specs.declared.routine.TheConstants.{FIRST_LABEL}
-use Rattle.sch_asm.specs.Routines.{first_inner_label, label_of, routine_count}
+use Rattle.sch_asm.specs.declared.routine.TheConstants.{FIRST_INNER_LABEL, FIRST_LABEL}
+use Rattle.sch_asm.specs.Routines.{label_of, routine_count}
 
 -- ---- one item
 
@@ -118,7 +118,7 @@ is_routine l = nat_lt l routine_count
 
 -- Whether it is one inside a routine.
 abbrev pub is_inner : ℕ → Bool
-is_inner l = nat_le first_inner_label l && nat_lt l FIRST_LABEL
+is_inner l = nat_le FIRST_INNER_LABEL l && nat_lt l FIRST_LABEL
 
 -- Each label that is used is a routine's or stands in the items.
 abbrev pub AreKnown : List Item → List Word → Type 0

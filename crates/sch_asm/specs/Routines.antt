@@ -33,7 +33,3 @@ label_of (NewList which) = 18 + registers_before which
 -- Their labels are the numbers below this one.
 abbrev pub routine_count : ℕ
 routine_count = 25
-
--- Labels inside routines are from this one on.
-abbrev pub first_inner_label : ℕ
-first_inner_label = 64

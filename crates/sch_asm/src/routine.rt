@@ -8,6 +8,9 @@ use sch_word::{ARGUMENT_REGISTERS, Stop};
 /// The labels of a program's own items are this one or more. Below it are those of the routines and those inside them.
 pub const FIRST_LABEL: u32 = 1024;
 
+/// The labels inside routines are this one or more.
+pub const FIRST_INNER_LABEL: u32 = 64;
+
 /// Which operands are left over for a list, by where the first of them was handed over: from one of the six argument
 /// registers on, or in slots alone.
 #[derive(Clone, Copy)]

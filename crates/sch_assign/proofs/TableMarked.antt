@@ -12,7 +12,7 @@ use Rattle.sch_assign.proofs.Lookups.{low_first, low_next}
 use Rattle.sch_assign.proofs.Loops.{marked_size}
 use Rattle.sch_assign.proofs.kept.FreeMoved.{AllLow, low_with}
 use Rattle.sch_word.proofs.facts.NumberTests.{differ, same_test}
-use Rattle.sch_word.proofs.facts.Booleans.{or_swap, or_or, or_false}
+use Rattle.sch_word.proofs.facts.Booleans.{or_swap, or_or, or_right_false}
 
 same_either_way : (x y : ℕ) → nat_eq x y ≡ nat_eq y x
 same_either_way x y = same_test x y y x (λ e. sym e) (λ e. sym e)
@@ -20,8 +20,8 @@ same_either_way x y = same_test x y y x (λ e. sym e) (λ e. sym e)
 set_table : (bs : List Bool) (x y : ℕ) → x < length bs → table (slice_set bs x true) y ≡ (table bs y || nat_eq x y)
 set_table [] x y l = absurd (omega (arith, l))
 set_table (b ∷ bs) zero zero l = or_swap true b
-set_table (b ∷ bs) zero (suc y) l = let t : nat_eq 0 (suc y) ≡ false = differ 0 (suc y) (λ e. omega (arith, e)) in rw t (sym (or_false (table bs y)))
-set_table (b ∷ bs) (suc x) zero l = let t : nat_eq (suc x) 0 ≡ false = differ (suc x) 0 (λ e. omega (arith, e)) in rw t (sym (or_false b))
+set_table (b ∷ bs) zero (suc y) l = let t : nat_eq 0 (suc y) ≡ false = differ 0 (suc y) (λ e. omega (arith, e)) in rw t (sym (or_right_false (table bs y)))
+set_table (b ∷ bs) (suc x) zero l = let t : nat_eq (suc x) 0 ≡ false = differ (suc x) 0 (λ e. omega (arith, e)) in rw t (sym (or_right_false b))
 set_table (b ∷ bs) (suc x) (suc y) l =
     let t : nat_eq (suc x) (suc y) ≡ nat_eq x y = same_test (suc x) (suc y) x y (λ e. omega (arith, e)) (λ e. omega (arith, e)) in
     rw t (set_table bs x y (omega (arith, l)))
@@ -32,7 +32,7 @@ group_size x (suc m) bs = group_size (suc x) m (slice_set bs x true) ∙ marked_
 
 module _ (has_cell : ℕ → Bool) (n : ℕ) where
   group_table : (x m : ℕ) (bs : List Bool) (y : ℕ) → Low n x m → length bs ≡ n → table (group_marked x m bs) y ≡ (table bs y || has y (numbers x m))
-  group_table x zero bs y low e = sym (or_false (table bs y))
+  group_table x zero bs y low e = sym (or_right_false (table bs y))
   group_table x (suc m) bs y low e =
       let f : x < n = low_first has_cell n x m low in
       group_table (suc x) m (slice_set bs x true) y (low_next has_cell n x m low) (marked_size bs x ∙ e)
@@ -45,7 +45,7 @@ module _ (has_cell : ℕ → Bool) (n : ℕ) where
     pub at : (y : ℕ) → table bs' y ≡ (table bs y || f y)
 
   stayed : (bs : List Bool) → length bs ≡ n → Walked bs bs (λ y. false)
-  stayed bs e = record { size = e; at = λ y. sym (or_false (table bs y)) }
+  stayed bs e = record { size = e; at = λ y. sym (or_right_false (table bs y)) }
 
   then_walked : (bs bs' bs'' : List Bool) (f g : ℕ → Bool) → Walked bs bs' f → Walked bs' bs'' g → Walked bs bs'' (λ y. f y || g y)
   then_walked bs bs' bs'' f g h k = record { size = k.size; at = λ y. k.at y ∙ ap (λ b. b || g y) (h.at y) ∙ or_or (table bs y) (f y) (g y) }

@@ -1,5 +1,5 @@
 -- Which variables get a cell, by a table, and the table after a walk over a tree.
-use Rattle.std.specs.Prelude.{ℕ, zero, suc, Bool, true, false, List, slice_get, slice_set, Option, Some, None}
+use Rattle.std.specs.Prelude.{ℕ, zero, suc, Bool, true, List, slice_get, slice_set}
 use Rattle.sch_word.specs.values.Options.{or_false}
 use Rattle.sch_cells.specs.Tree.{Tree, Trees, Lambdas, constant, literal, variable, global, set_variable, set_global, define, branch, sequence, bind, fix, letrec, lambda, call, operation, new_cells, cell_get, cell_set, no_trees, and_tree, no_lambdas, and_lambda, count}
 

@@ -9,7 +9,7 @@ use Rattle.sch_word.specs.trees.Bindings.{numbers, scope_with}
 use Rattle.sch_cells.specs.Variables.{scope_of, cells_bound, cells_used, all_in, bound, bound_each, bound_lambdas, closed, closed_each, closed_lambdas, below}
 use Rattle.sch_cells.specs.Valid.{scoped, bound_of}
 use Rattle.sch_cells.specs.Clear.{In, Apart, Clear, ClearEach, ClearLambdas}
-use Rattle.sch_word.proofs.facts.NumberSets.{has_append}
+use Rattle.sch_word.proofs.facts.NumberSets.{has_append, in_more}
 use Rattle.sch_word.proofs.facts.Booleans.{not_true, or_left, or_right, neither, not_left, not_right}
 
 -- ## Lists that are apart
@@ -40,6 +40,11 @@ scope_has y x (suc m) S p q = scope_has y (suc x) m (x ∷ S) (not_right (nat_eq
 
 pub apart_scope : (xs : List ℕ) (x m : ℕ) (S : List ℕ) → Apart xs (numbers x m) → Apart xs S → Apart xs (scope_with x m S)
 apart_scope xs x m S p q = record { at = λ y i. scope_has y x m S (p.at y i) (q.at y i) }
+
+-- what is in a scope is in a larger one
+pub in_under : (zs : List ℕ) (y : ℕ) (S : List ℕ) → In y S → In y (scope_of zs S)
+in_under [] y S i = i
+in_under (z ∷ zs) y S i = in_under zs y (z ∷ S) (in_more y z S i)
 
 pub list_has : (y : ℕ) (zs S : List ℕ) → has y zs ≡ false → has y S ≡ false → has y (scope_of zs S) ≡ false
 list_has y [] S p q = q

@@ -5,7 +5,6 @@ use Rattle.sch_word.specs.declared.constant.Const.TheVariants.{Fixnum}
 use Rattle.sch_word.specs.declared.primitive.Primitive.{Primitive}
 use Rattle.sch_word.specs.declared.primitive.Primitive.TheVariants.{Add, Subtract, Equal, Put}
 use Rattle.sch_word.specs.values.Literals.{no_literals}
-use Rattle.sch_word.specs.runs.Runs.{Run, ended}
 use Rattle.sch_cells.specs.declared.tree.NewCell.{NewCell}
 use Rattle.sch_cells.specs.Tree.{Tree, constant, variable, set_variable, branch, sequence, bind, fix, letrec, lambda, call, operation, new_cells, cell_get, cell_set, no_lambdas, and_lambda, trees, Source}
 

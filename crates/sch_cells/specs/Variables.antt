@@ -1,5 +1,5 @@
 -- Which variables are free, which are assigned, and which are bound.
-use Rattle.std.specs.Prelude.{ℕ, zero, suc, Bool, true, false, not, ◌&&◌, ◌||◌, nat_eq, nat_lt, List, [], ◌∷◌, ◌++◌, Option, Some, None}
+use Rattle.std.specs.Prelude.{ℕ, zero, suc, Bool, true, false, ◌&&◌, ◌||◌, nat_eq, nat_lt, List, [], ◌∷◌, ◌++◌, Option, Some, None}
 use Rattle.sch_word.specs.trees.NumberSets.{has, insert, union}
 use Rattle.sch_word.specs.trees.Bindings.{numbers, scope_with, remove, without}
 use Rattle.sch_word.specs.values.CellBytes.{where_assigned}

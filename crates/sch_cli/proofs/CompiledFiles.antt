@@ -7,11 +7,17 @@ use Rattle.sch_prelude.specs.LibraryText.{library_text}
 use Rattle.sch_driver.specs.Causes.{max_source_size}
 use Rattle.sch_driver.specs.Compiled.{IsCompiled}
 use Rattle.sch_driver.specs.Headline.{IsImageOf}
+use Rattle.sch_driver.proofs.RoundSteps as driver
 use Rattle.sch_listing.specs.declared.listing.Listing.{Listing}
 use Rattle.sch_cli.specs.Builds.{HasFile, IsFileOf}
 
-pub file_of : (text file : List ℕ) (listing : Listing) (heap depth : ℕ) → length text ≤ max_source_size → IsCompiled library_text text heap depth file listing → IsFileOf text heap depth file
-file_of text file listing heap depth short compiled = record { short = short; listing = listing; compiled = compiled }
+abbrev pub file_of : (text file : List ℕ) (listing : Listing) (heap depth : ℕ) → length text ≤ max_source_size → IsCompiled library_text text heap depth file listing → IsFileOf text heap depth file
+file_of text file listing heap depth short compiled = record {
+  short = short;
+  listing = listing;
+  compiled = compiled;
+  in_time = driver.in_time library_text text heap depth file listing compiled;
+}
 
 -- such a file stands for an image, that of its program
 pub has_image : (text file bytes : List ℕ) (listing : Listing) (heap depth : ℕ) → IsCompiled library_text text heap depth file listing → bytes ≡ file → (image : Image) × StandsFor bytes image

@@ -1,6 +1,6 @@
 -- What a read of the source and the writes of the target and of its listing make of the disk, one after the other.
-use Rattle.std.proofs.Common.{◌≡◌, ℕ, ◌≤◌, List, [], ◌∷◌, Option, Some, None, Result, Ok, Err, OnOk, OnErr, IfErr, refl, sym, subst, ap, arith}
-use Rattle.std.specs.Prelude.{⊤, IsSomeAnd, IsErrAnd}
+use Rattle.std.proofs.Common.{◌≡◌, ℕ, ◌≤◌, List, [], ◌∷◌, Option, Some, None, Result, Ok, Err, OnOk, OnErr, IfErr, refl, sym, subst, arith}
+use Rattle.std.specs.Prelude.{⊤, IsSomeAnd}
 use Rattle.std.specs.FinMap.{get, insert}
 use Rattle.sch_io.proofs.PutSteps.{tells_then}
 use Rattle.sch_io.specs.Counters.{Rose, raised}
@@ -37,11 +37,6 @@ tells_so (Some b) (Some a) name bytes P h p = some_is (get b name) bytes P h p
 -- the file that was read is so
 pub file_is : (disk : DiskChange) (name bytes : List ℕ) (P : List ℕ → Type 0) → FileIs disk name (λ file. file ≡ bytes) → P bytes → FileIs disk name P
 file_is disk name bytes P h p = tells_so disk.before.files disk.after.files name bytes P h p
-
--- an answer that is this failure
-pub failed_with : {A : Type 0} (answer : Result A Failure) (why : Failure) → IsErrAnd answer (λ e. e ≡ why) → answer ≡ Err why
-failed_with (Ok x) why h = absurd h
-failed_with (Err e) why h = ap Err h
 
 -- one call is at most one
 pub at_most_one : (disk : DiskChange) → HadCalls 1 disk → HadAtMostCalls 1 disk

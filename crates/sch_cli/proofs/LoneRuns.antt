@@ -1,6 +1,5 @@
 -- A text that is run where no answers of the kernel are held ready: it ends as its program does, or its steps are spent.
-use Rattle.std.proofs.Common.{◌≡◌, ◌≤◌, ℕ, List, [], ◌++◌, length, Bool, true, false, if◌then◌else◌, drop, Option, Some, None, Result, Ok, Err, refl, sym, ap, ◌∙◌, subst}
-use Rattle.std.specs.Prelude.{IfErr, IsErrAnd}
+use Rattle.std.proofs.Common.{◌≡◌, ◌≤◌, ℕ, List, [], ◌++◌, length, Bool, true, false, if◌then◌else◌, drop, Option, Some, None, Ok, Err, refl, ap, ◌∙◌, subst}
 use Rattle.sch_word.specs.declared.answer.Answer.{Answer}
 use Rattle.sch_word.specs.runs.Runs.{ended}
 use Rattle.sch_io.specs.InMemory.{faults_met, told_bytes, told_left}
@@ -16,6 +15,7 @@ use Rattle.sch_prelude.specs.LibraryText.{library_text}
 use Rattle.sch_driver.specs.Causes.{max_source_size}
 use Rattle.sch_driver.specs.Compiled.{IsCompiled}
 use Rattle.sch_driver.specs.Headline.{IsImageOf}
+use Rattle.sch_driver.proofs.RoundSteps as driver
 use Rattle.sch_listing.specs.declared.listing.Listing.{Listing}
 use Rattle.sch_count.specs.CountsText.{counts_text}
 use Rattle.sch_count.specs.declared.counts.Counts.{Counts}
@@ -99,7 +99,12 @@ module _ (p : tree.Source) (table : List (List ℕ)) (heap depth : ℕ) (image :
 module _ (text file : List ℕ) (listing : Listing) (heap depth : ℕ) (short : length text ≤ max_source_size) (compiled : IsCompiled library_text text heap depth file listing)
     (image : Image) (stands : StandsFor file image) (steps : ℕ) (output : List ℕ) where
   abbrev made : IsFileOf text heap depth file
-  made = record { short = short; listing = listing; compiled = compiled }
+  made = record {
+    short = short;
+    listing = listing;
+    compiled = compiled;
+    in_time = driver.in_time library_text text heap depth file listing compiled;
+  }
 
   does : IsImageOf image compiled.program listing.orders heap depth
   does = does_text text heap depth image (record { file = file; made = made; stands = stands })
@@ -165,11 +170,6 @@ module _ (text file : List ℕ) (listing : Listing) (heap depth : ℕ) (short : 
 
   pub counts_never_stuck : (stuck : stuck_place.Stuck) → CountsImage image listing steps (Err (count_error.Stuck stuck)) → ⊥
   counts_never_stuck stuck counted = no_stuck_end text file listing heap depth short compiled image stands steps counted.output stuck counted.ends
-
--- what holds of a failure holds of the error that it is
-pub kept_failure : {A : Type 0} (answer : Result A Failure) (why : Failure) (P : Failure → Type 0) → IsErrAnd answer (λ e. e ≡ why) → P why → IfErr answer P
-kept_failure (Ok x) why P h p = absurd h
-kept_failure (Err e) why P h p = subst P (sym h) p
 
 -- a text that is refused comes to no exit
 pub refused_exit : (text : List ℕ) (heap depth steps : ℕ) (why : Failure) → IsRefused text depth why → HasNoExit text heap depth steps why

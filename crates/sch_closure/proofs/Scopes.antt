@@ -12,7 +12,8 @@ use Rattle.sch_cells.specs.Valid.{has_form}
 use Rattle.sch_cells.specs.Clear.{In, Apart, Clear, ClearEach, ClearLambdas}
 use Rattle.sch_closure.specs.Closed.{fields_of}
 use Rattle.sch_closure.specs.Fresh.{Fresh, FreshEach, FreshLambdas}
-use Rattle.sch_closure.proofs.Sets.{union_within, without_scope, scope_more, without_each_scope, scope_of_more}
+use Rattle.sch_cells.proofs.Clearing.{in_under}
+use Rattle.sch_closure.proofs.Sets.{union_within, without_scope, scope_more, without_each_scope}
 use Rattle.sch_word.proofs.facts.Booleans.{and_parts}
 
 abbrev pub Within : List ℕ → List ℕ → Type 0
@@ -125,7 +126,7 @@ mutual
       (fresh f fs S w c.0 q.0, fresh_each es fs S w c.1 q.1)
   fresh (operation site which es) fs S w c p = fresh_each es fs S w c p
   fresh (new_cells cs e) fs S w c p =
-      (apart_within (cells_bound cs) fs S w c.1, fresh e fs (scope_of (cells_bound cs) S) (λ y i. scope_of_more (cells_bound cs) S y (w y i)) c.2 p)
+      (apart_within (cells_bound cs) fs S w c.1, fresh e fs (scope_of (cells_bound cs) S) (λ y i. in_under (cells_bound cs) y S (w y i)) c.2 p)
   fresh (cell_get y) fs S w c p = tt
   fresh (cell_set y e) fs S w c p = fresh e fs S w c.1 p
 

@@ -81,7 +81,3 @@ pub without_each_scope : (ys xs S : List ℕ) → ((y : ℕ) → In y xs → In 
 without_each_scope [] xs S f y h = f y h
 without_each_scope (a ∷ ys) xs S f y h =
     in_cons y a S (remove_differs y a (without_each ys xs) h) (without_each_scope ys xs (a ∷ S) f y (remove_in y a (without_each ys xs) h))
-
-pub scope_of_more : (ys S : List ℕ) (y : ℕ) → In y S → In y (scope_of ys S)
-scope_of_more [] S y h = h
-scope_of_more (a ∷ ys) S y h = scope_of_more ys (a ∷ S) y (in_more y a S h)

@@ -6,9 +6,10 @@ use Rattle.std.specs.Fmt.{signed_decimal}
 use Rattle.sch_word.specs.declared.constant.Const.TheVariants.{Fixnum, Boolean, Nil}
 use Rattle.sch_word.specs.declared.primitive.Primitive.TheVariants.{Subtract, Multiply, Less, Equal, Put, IsNull}
 use Rattle.sch_word.specs.values.Literals.{no_literals}
-use Rattle.sch_word.specs.values.Values.{fixnum, boolean, procedure}
+use Rattle.sch_word.specs.values.Values.{Value, fixnum, boolean, procedure}
 use Rattle.sch_word.specs.runs.Computation.{gives}
 use Rattle.sch_word.specs.runs.Runs.{Run, End, ended, going, starting_store, starting_state}
+use Rattle.sch_word.specs.declared.mark.MarkKind.{MarkKind}
 use Rattle.sch_word.specs.declared.mark.MarkKind.TheVariants.{Save, Restore, Call, Return}
 use Rattle.sch_control.specs.declared.operation.Atom.TheVariants.{Constant, Variable}
 use Rattle.sch_control.specs.declared.operation.Operand.{Operand}
@@ -32,6 +33,9 @@ truth b = operand.Atom (Constant (Boolean b))
 
 abbrev pub held_in : {V : Type 0} → V → Operand V
 held_in v = operand.Atom (Variable v)
+
+abbrev pub value_of : ℕ → Expression
+value_of x = perform (operation.Operand (held_in x))
 
 abbrev pub shown : (site : ℕ) → Operand ℕ → Expression
 shown site o = perform (operation.Prim site Put (o ∷ []))
@@ -57,6 +61,11 @@ program globals bodies sites bound = record {
 -- the run of a program with 4,096 bytes of heap, no kernel answers, and limits of depth and entries
 abbrev pub runs : Source → (depth entries : ℕ) → Option Run
 runs p depth entries = run p 4096 depth [] entries
+
+-- the value and the marks of a result that gives one
+abbrev pub value_and_marks : Result → Option (Value × List MarkKind)
+value_and_marks (Some (gives v w)) = Some (v, w.marks)
+value_and_marks _ = None
 
 abbrev pub seen : List ℕ → (entries charged : ℕ) → End → Option Run
 seen output entries charged how = Some (record { output = output; entries = entries; charged = charged; answers = 0; end = how })

@@ -12,13 +12,10 @@ use Rattle.sch_control.specs.Tree.{Expression, perform, bind, branch, fix, call,
 use Rattle.sch_control.specs.Meaning.{no_region}
 use Rattle.sch_control.specs.flow.Live.{known, MayGive, Live, Soon, Perhaps, nothing_later}
 use Rattle.sch_control.specs.flow.Paths.{Event, Binds, References, Saves, Calls, Tails, Returns, grouping, IsPath, Meets, live, refers, soon, calls, some_call, SavesFollowed, SavesCalled}
-use Rattle.sch_control.proofs.Examples.{truth, held_in, applied}
+use Rattle.sch_control.proofs.Examples.{truth, held_in, applied, value_of}
 
 abbrev nothing_done : Expression
 nothing_done = perform (operation.Global 0)
-
-abbrev value_of : ℕ → Expression
-value_of x = perform (operation.Operand (held_in x))
 
 abbrev gives : ℕ → Expression
 gives x = return (value_of x)

@@ -8,7 +8,7 @@ use Rattle.sch_sets.specs.Members.{NumberSet}
 use Rattle.sch_sets.proofs.Membership.{contains-insert, contains-remove}
 use Rattle.sch_word.specs.trees.NumberSets.{has}
 use Rattle.sch_word.proofs.facts.Lists.{next_left}
-use Rattle.sch_word.proofs.facts.Booleans.{and_left, and_right, and_of, or_false, or_around, not_either}
+use Rattle.sch_word.proofs.facts.Booleans.{and_left, and_right, and_of, or_right_false, or_around, not_either}
 use Rattle.sch_word.proofs.facts.NumberSets.{has_append}
 use Rattle.sch_control.specs.declared.operation.Atom.{Atom}
 use Rattle.sch_control.specs.declared.operation.Atom.TheVariants.{Constant, Literal, Variable}
@@ -47,7 +47,7 @@ below_parts bound xs ys h = all_parts (λ x. nat_lt x bound) (named xs) (named y
 -- ## One atom
 
 pub with_variable : (y : ℕ) (s r : NumberSet) → r ≡ set.insert s y → IsWith (Variable y ∷ []) s r
-with_variable y s r e x = rw e (contains-insert s y x ∙ ap (λ b. b || set.contains s x) (sym (or_false (nat_eq x y))))
+with_variable y s r e x = rw e (contains-insert s y x ∙ ap (λ b. b || set.contains s x) (sym (or_right_false (nat_eq x y))))
 
 -- ## What has atoms
 

@@ -8,15 +8,10 @@ use Rattle.sch_word.specs.declared.mark.MarkKind.{MarkKind}
 use Rattle.sch_word.specs.declared.mark.MarkKind.TheVariants.{Enter, Save, Restore, Spill, Temp, Argument, Call, Return, Tail}
 use Rattle.sch_control.specs.declared.operation.Operation.TheVariants as operation
 use Rattle.sch_control.specs.Tree.{Expression, perform, bind, branch, fix, call, tail_call, return, save}
-use Rattle.sch_control.specs.Meaning.{Result, Reading, do_body, entry_environment}
+use Rattle.sch_control.specs.Meaning.{Reading, do_body, entry_environment}
 use Rattle.sch_control.specs.Run.{outcome_of, bodies_of, starting_world}
 use Rattle.sch_control.specs.Valid.{entries_of}
-use Rattle.sch_control.proofs.Examples.{truth, held_in, applied, at_start, looping}
-
--- the value and the marks of a result that gives one
-abbrev left : Result → Option (Value × List MarkKind)
-left (Some (gives v w)) = Some (v, w.marks)
-left _ = None
+use Rattle.sch_control.proofs.Examples.{truth, held_in, applied, at_start, looping, value_and_marks}
 
 -- ## Regions
 
@@ -42,7 +37,9 @@ inside_regions =
     (tail_call (applied 1 (held_in 4) (held_in 2 ∷ held_in 5 ∷ []))))))))
 
 -- done with procedures that each give themselves
-region_marks : left (do_body reading (λ self p vs depth w. Some (gives self w)) 1 inside_regions (entry_environment (procedure 0) (procedure 0 ∷ [])) at_start)
+region_marks :
+    value_and_marks (do_body reading (λ self p vs depth w. Some (gives self w)) 1 inside_regions
+    (entry_environment (procedure 0) (procedure 0 ∷ [])) at_start)
     ≡ Some (procedure 1, Save 0 ∷ Spill 3 ∷ Save 3 ∷ Save 4 ∷ Temp ∷ Call 0 ∷ Restore 0 ∷ Restore 3 ∷ Restore 4 ∷ Spill 5 ∷ Argument ∷ Tail 1 ∷ [])
 region_marks = refl
 
@@ -52,6 +49,8 @@ abbrev marks_of : Option (Value × List MarkKind) → Option (List MarkKind)
 marks_of None = None
 marks_of (Some (v, marks)) = Some marks
 
-program_marks : marks_of (left (outcome_of (entries_of looping.bodies) (bodies_of looping.bodies) 1 3 (starting_world looping.statics looping.library 4096 [] 3)))
+program_marks :
+    marks_of (value_and_marks (outcome_of (entries_of looping.bodies) (bodies_of looping.bodies) 1 3
+    (starting_world looping.statics looping.library 4096 [] 3)))
     ≡ Some (Enter 0 ∷ Call 0 ∷ Enter 1 ∷ Tail 4 ∷ Enter 2 ∷ Tail 7 ∷ Enter 1 ∷ Return ∷ [])
 program_marks = refl

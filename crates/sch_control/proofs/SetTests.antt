@@ -5,7 +5,7 @@ use Rattle.std.specs.FinSet as set
 use Rattle.std.proofs.Math.Path.{fun_ext}
 use Rattle.sch_sets.specs.Members.{NumberSet}
 use Rattle.sch_sets.proofs.Membership.{contains-empty, contains-insert, contains-union}
-use Rattle.sch_word.proofs.facts.Booleans.{or_false}
+use Rattle.sch_word.proofs.facts.Booleans.{or_right_false}
 use Rattle.sch_control.specs.declared.operation.Operation.{Operation}
 use Rattle.sch_control.specs.flow.Live.{known}
 use Rattle.sch_control.specs.flow.LiveTests.{behind, by_result}
@@ -29,4 +29,4 @@ unknown_behind o t f s e u x = ap (λ z. set.contains z x) u ∙ (contains-union
 -- the set of the return address alone
 pub link_only : (s0 s : NumberSet) → s0 ≡ set.empty → s ≡ set.insert s0 0 → (x : ℕ) → set.contains s x ≡ nat_eq x 0
 link_only s0 s none put x =
-    ap (λ q. set.contains q x) put ∙ (contains-insert s0 0 x ∙ (ap (λ z. nat_eq x 0 || z) (ap (λ q. set.contains q x) none ∙ contains-empty x) ∙ or_false (nat_eq x 0)))
+    ap (λ q. set.contains q x) put ∙ (contains-insert s0 0 x ∙ (ap (λ z. nat_eq x 0 || z) (ap (λ q. set.contains q x) none ∙ contains-empty x) ∙ or_right_false (nat_eq x 0)))

@@ -2,7 +2,7 @@
 use Rattle.std.proofs.Common.{◌≡◌, ◌+◌, refl, true, false, [], ◌∷◌, map}
 use Rattle.sch_control.specs.declared.operation.Operation.TheVariants as operation
 use Rattle.sch_control.specs.RegisterWork.{code_copies, code_done, expression_copies, expression_done}
-use Rattle.sch_control.specs.Sizes.{bind_within, dropped_in, dropped_of, most_variables, tests_in, tests_of}
+use Rattle.sch_control.specs.Sizes.{bind_within, dropped_in, dropped_of, most_variables, sequences_in, sequences_within, tests_in, tests_of}
 use Rattle.sch_control.specs.Tree as tree
 use Rattle.sch_control.specs.Work.{code_work, codes_work, expression_work}
 use Rattle.sch_control.proofs.Examples.{around, looping, number, shown, taking}
@@ -52,6 +52,9 @@ too_few_row = refl
 one_more_row : bind_within taking.bodies (3 ∷ 2 ∷ 0 ∷ []) ≡ false
 one_more_row = refl
 
+one_fewer_row : bind_within taking.bodies (3 ∷ []) ≡ false
+one_fewer_row = refl
+
 -- ## Tests and dropped atoms
 
 -- each procedure has one test, and the form none
@@ -74,3 +77,26 @@ dropped_row = refl
 
 none_dropped : dropped_of taking.bodies ≡ 0
 none_dropped = refl
+
+-- ## Sequences
+
+abbrev two : tree.Expression
+two = tree.sequence one one
+
+-- a sequence is itself one, with those of its first part and of the rest
+inner_sequences : sequences_in (tree.sequence two (tree.sequence one two)) ≡ 4
+inner_sequences = refl
+
+-- one counts wherever it stands: as the value and the body of a binding, as each part of a branch, in a group, before what
+-- ends a body, and in a region
+placed_sequences : map sequences_in (tree.bind 2 two one ∷ tree.bind 2 one two ∷ tree.branch two one one ∷ tree.branch one two one
+    ∷ tree.branch one one two ∷ tree.fix [] two ∷ tree.return two ∷ tree.end two ∷ tree.save [] two ∷ one ∷ [])
+    ≡ 1 ∷ 1 ∷ 1 ∷ 1 ∷ 1 ∷ 1 ∷ 1 ∷ 1 ∷ 1 ∷ 0 ∷ []
+placed_sequences = refl
+
+-- the form has one sequence, whose first part sets a cell, and its procedure none
+few_sequences_row : sequences_within taking.bodies (1 ∷ 0 ∷ []) ≡ true
+few_sequences_row = refl
+
+too_many_row : sequences_within taking.bodies (0 ∷ 0 ∷ []) ≡ false
+too_many_row = refl

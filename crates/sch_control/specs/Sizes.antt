@@ -1,5 +1,5 @@
--- What is counted of expressions: how much there is to do, how many tests there are, and how many atoms are dropped;
--- and how many variables bodies have.
+-- What is counted of expressions: how much there is to do, how many tests and sequences there are, and how many atoms are
+-- dropped; and how many variables and sequences bodies have.
 use Rattle.std.specs.Prelude.{ℕ, suc, ◌+◌, Bool, true, false, ◌&&◌, cond, max, nat_le, List, [], ◌∷◌, length}
 use Rattle.sch_control.specs.declared.operation.Operand.{Operand}
 use Rattle.sch_control.specs.declared.operation.Operand.TheVariants as operand
@@ -79,15 +79,36 @@ abbrev pub dropped_of : List Code → ℕ
 dropped_of [] = 0
 dropped_of (c ∷ codes) = dropped_in c.expression + dropped_of codes
 
--- ## Variables
+-- ## Sequences
+
+-- how many nodes are sequences, each of which has one part before the last
+abbrev pub sequences_in : Expression → ℕ
+sequences_in (bind x a b) = sequences_in a + sequences_in b
+sequences_in (sequence a b) = suc (sequences_in a + sequences_in b)
+sequences_in (branch a b c) = sequences_in a + (sequences_in b + sequences_in c)
+sequences_in (fix members e) = sequences_in e
+sequences_in (return e) = sequences_in e
+sequences_in (end e) = sequences_in e
+sequences_in (save saves e) = sequences_in e
+sequences_in _ = 0
+
+-- ## Bodies
 
 -- the most variables of a body, with its return address and its closure, and 0 where there is no body
 abbrev pub most_variables : List Code → ℕ
 most_variables [] = 0
 most_variables (c ∷ codes) = max c.variables (most_variables codes)
 
+-- as many bodies as numbers, and a test that each body passes with its number
+abbrev pub all_with : (test : Code → ℕ → Bool) → List Code → List ℕ → Bool
+all_with test [] [] = true
+all_with test (c ∷ codes) (n ∷ ns) = test c n && all_with test codes ns
+all_with test _ _ = false
+
 -- as many bodies as numbers, each with no more variables than its number beside the return address and the closure
 abbrev pub bind_within : List Code → List ℕ → Bool
-bind_within [] [] = true
-bind_within (c ∷ codes) (n ∷ ns) = nat_le c.variables (2 + n) && bind_within codes ns
-bind_within _ _ = false
+bind_within = all_with (λ c n. nat_le c.variables (2 + n))
+
+-- as many bodies as numbers, each with no more sequences than its number
+abbrev pub sequences_within : List Code → List ℕ → Bool
+sequences_within = all_with (λ c n. nat_le (sequences_in c.expression) n)

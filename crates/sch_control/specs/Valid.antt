@@ -6,7 +6,7 @@ use Rattle.sch_word.specs.declared.primitive.Primitive.TheVariants.{Eq, Eqv, IsB
 use Rattle.sch_word.specs.values.Primitives.{operands_of}
 use Rattle.sch_word.specs.values.Values.{is_constant}
 use Rattle.sch_word.specs.values.Literals.{count_literals, constant_known}
-use Rattle.sch_word.specs.trees.NumberSets.{has, without_repeats}
+use Rattle.sch_word.specs.trees.NumberSets.{without_repeats}
 use Rattle.sch_word.specs.runs.Runs.{statics_valid, statics_in_range}
 use Rattle.sch_word.specs.trees.Shape.{max_operands, max_variables, max_free_variables, is_width}
 use Rattle.sch_control.specs.declared.body.Entry.{Entry}

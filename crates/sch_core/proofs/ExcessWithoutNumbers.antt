@@ -8,7 +8,7 @@ use Rattle.sch_lang.specs.Variables.{free, free_each, free_lambdas, assigns, ass
 use Rattle.sch_lang.specs.Measures.{counts_nothing, onto_assigned, onto_all, bound_count, variables, variables_each, variables_operands, variables_parts, procedure}
 use Rattle.sch_variable_counts.specs.Within.{each_procedure, each_procedure_in, each_lambda, has_few_variables, has_few_free}
 use Rattle.sch_sketch.specs.Draft as draft
-use Rattle.sch_names.specs.Scope.{Names}
+use Rattle.sch_names.specs.Scope.{VariableNames}
 use Rattle.sch_sketch.specs.Draft.{Draft, Drafts, no_drafts, and_draft}
 use Rattle.sch_link_tables.specs.Assigned.{is_group}
 use Rattle.sch_link_tables.specs.Sites.{unless_group, widths, widths_of_each}
@@ -258,7 +258,7 @@ module _ (own globals symbols own' globals' symbols' : List (List ℕ)) where
         λ p. call 0 (i p) (j p)
     alike v (draft.operation q es) s l s' l' = ap (operation 0 q) (alike_each [] es (s + 1) l (s' + 1) l')
 
-    pub alike_each : (vs : Names) (es : Drafts) (s l s' l' : ℕ) → blank_each (numbered_each own globals symbols vs es s l) ≡ blank_each (numbered_each own' globals' symbols' vs es s' l')
+    pub alike_each : (vs : VariableNames) (es : Drafts) (s l s' l' : ℕ) → blank_each (numbered_each own globals symbols vs es s l) ≡ blank_each (numbered_each own' globals' symbols' vs es s' l')
     alike_each vs no_drafts s l s' l' = refl
     alike_each vs (and_draft e es) s l s' l' =
         let i = alike (first_of vs) e s l s' l' in

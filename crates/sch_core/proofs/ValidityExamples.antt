@@ -1,5 +1,5 @@
--- Small drafts: which are sound, how deep they are, what they take, and programs that are valid.
-use Rattle.std.proofs.Common.{◌≡◌, map, ℕ, true, false, [], ◌∷◌, replicate, Some, None, refl, codes, arith}
+-- Small drafts: which are sound, how deep they are, what they take, and programs that are valid; and the most that a library has.
+use Rattle.std.proofs.Common.{◌≡◌, map, ℕ, true, false, List, [], ◌∷◌, length, replicate, Some, None, refl, codes, arith}
 use Rattle.std.specs.Prelude.{pos}
 use Rattle.sch_word.specs.declared.constant.Const.TheVariants.{Nil, Symbol}
 use Rattle.sch_word.specs.declared.primitive.Primitive.TheVariants.{Cons, Car}
@@ -15,13 +15,14 @@ use Rattle.sch_sketch.specs.Sketch as sketch
 use Rattle.sch_sketch.specs.Sketch.{no_sketch, and_sketch, sequencing}
 use Rattle.sch_expansion.specs.Expands as ex
 use Rattle.sch_link_tables.specs.Programs.{Definition, program_of}
+use Rattle.sch_link_program.specs.Size.{size_of_definitions}
 use Rattle.sch_toplevel.specs.Texts.{SketchesExpand}
 use Rattle.sch_core.specs.TextForms.{Form, expression, definition, sketch_of, AreDefined, AreOfData, forms_weight}
-use Rattle.sch_core.specs.Excess.{excess}
+use Rattle.sch_core.specs.Excess.{AreFew, excess}
 use Rattle.sch_core.specs.SoundDrafts.{IsSound, levels}
-use Rattle.sch_core.specs.LibraryDefinitions.{AreOrdered, AreKnown}
+use Rattle.sch_core.specs.LibraryDefinitions.{AreDefinitions, AreOrdered, AreKnown, IsSoundLibrary, procedures_of_each}
 use Rattle.sch_sketch.specs.DraftMeasures.{size}
-use Rattle.sch_core.specs.SizesOfStatics.{statics_in}
+use Rattle.sch_core.specs.SizesOfStatics.{statics_in, statics_in_each}
 use Rattle.sch_core.specs.Quotable.{own_in_range, datum_in_range, AreQuotable}
 
 -- ## Soundness
@@ -232,3 +233,26 @@ assigned_is_valid = refl
 unknown_is_not_valid : is_valid (program_of (first ∷ []) (codes "x" ∷ []) (own_form (local 0))) ≡ false
 unfolding first own_form
 unknown_is_not_valid = refl
+
+-- ## Libraries
+
+-- as many statics, definitions and nodes as a library may have, and one more of each
+most_of_library : (ds : List Definition) → AreDefinitions ds → AreOrdered [] ds → AreFew ds → statics_in_each (procedures_of_each ds) ≡ 14680064
+    → length ds ≡ 7340032 → size_of_definitions ds ≡ 117440512 → IsSoundLibrary ds
+most_of_library ds sound ordered within statics count nodes = record {
+  sound = sound;
+  ordered = ordered;
+  few = within;
+  small = omega (arith, statics);
+  few_definitions = omega (arith, count);
+  few_nodes = omega (arith, nodes);
+}
+
+one_more_static : (ds : List Definition) → statics_in_each (procedures_of_each ds) ≡ 14680065 → IsSoundLibrary ds → ⊥
+one_more_static ds statics library = omega (arith, statics, library.small)
+
+one_more_definition : (ds : List Definition) → length ds ≡ 7340033 → IsSoundLibrary ds → ⊥
+one_more_definition ds count library = omega (arith, count, library.few_definitions)
+
+one_more_node : (ds : List Definition) → size_of_definitions ds ≡ 117440513 → IsSoundLibrary ds → ⊥
+one_more_node ds nodes library = omega (arith, nodes, library.few_nodes)

@@ -2,7 +2,7 @@
 use Rattle.std.specs.Prelude.{◌≡◌, ◌≤◌, ◌*◌, ℕ, true, List, [], ◌∷◌, ◌++◌, length, map, Some}
 use Rattle.sch_word.specs.trees.Shape.{max_levels}
 use Rattle.sch_read.specs.Valid.{max_weight}
-use Rattle.sch_names.specs.Scope.{is_among, Names}
+use Rattle.sch_names.specs.Scope.{is_among, VariableNames}
 use Rattle.sch_sketch.specs.Draft.{Draft, Drafts, lambda, no_drafts, and_draft}
 use Rattle.sch_link_tables.specs.Constants.{HasConstants}
 use Rattle.sch_link_tables.specs.Named.{own_global, library_global, globals_in, globals_in_each}
@@ -22,7 +22,7 @@ procedures_of_each [] = no_drafts
 procedures_of_each (d ∷ ds) = and_draft (procedure_of d) (procedures_of_each ds)
 
 -- there is a name for each draft, and each draft is that of a procedure
-abbrev pub AreNamedProcedures : Names → List Draft → Type 0
+abbrev pub AreNamedProcedures : VariableNames → List Draft → Type 0
 AreNamedProcedures [] [] = Unit {0}
 AreNamedProcedures (Some v ∷ vs) (e ∷ es) = IsProcedure e × AreNamedProcedures vs es
 AreNamedProcedures _ _ = ⊥

@@ -1,7 +1,6 @@
 -- A machine that is followed step by step, with the marks that it passes.
 use Rattle.std.proofs.Common.{◌≡◌, ℕ, zero, suc, ◌+◌, ◌*◌, ◌-◌, ◌<◌, ◌≤◌, ◌^◌, List, [], ◌∷◌, ◌++◌, length, Option, Some, None, Result, Ok, Err, refl, sym, ap, ◌∙◌, subst, arith, append_assoc, append-nil}
 use Rattle.std.specs.List.{flat_map}
-use Rattle.std.specs.Result.{IsErrAnd}
 use Rattle.sch_word.specs.declared.answer.Answer.{Answer}
 use Rattle.sch_word.specs.declared.mark.MarkKind.{MarkKind}
 use Rattle.sch_insn.specs.declared.state.StuckCause.{StuckCause}
@@ -243,14 +242,6 @@ counting_starts marks_at t m ob ol of h on = record {
 -- there is room for the marks of one address more
 pub one_address : (i n l : ℕ) (events : List MarkKind) → i < n → n < 2 ^ 64 → l < 2 ^ 64 → length events ≤ i * (2 ^ 64 - 1) → length events + l < 2 ^ 128 - 1
 one_address i n l events a b c d = omega (arith, a, b, c, d)
-
-pub no_memory : {A : Type 0} (r : Result A CountError) → IsErrAnd r (λ e. e ≡ count_error.Memory) → r ≡ Err count_error.Memory
-no_memory (Ok x) h = absurd h
-no_memory (Err e) h = ap Err h
-
-pub passed_on : {A : Type 0} (r : Result A CountError) (e : CountError) → IsErrAnd r (λ x. x ≡ e) → r ≡ Err e
-passed_on (Ok x) e h = absurd h
-passed_on (Err x) e h = ap Err h
 
 -- ---- a count, behind one look
 

@@ -3,7 +3,7 @@
 use Rattle.std.specs.Prelude.{◌≡◌, ℕ, ◌<◌, Bool, true, false, not, nat_eq, List, [], ◌∷◌, ◌++◌, length, Some, slice_get}
 use Rattle.std.specs.List.{cons_option, count_by, filter, list_any, sum_by}
 use Rattle.sch_word.specs.declared.mark.MarkKind.{MarkKind}
-use Rattle.sch_word.specs.declared.mark.MarkKind.TheVariants.{Enter, Save, Call}
+use Rattle.sch_word.specs.declared.mark.MarkKind.TheVariants.{Enter, Save}
 use Rattle.sch_word.specs.runs.Activations.{Activations, activations, none_yet, pass, settled, is_call}
 use Rattle.sch_count.specs.declared.row.Row.{Row}
 

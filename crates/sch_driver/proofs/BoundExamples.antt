@@ -1,5 +1,6 @@
--- Worked rows: words of frames within both bounds of a program, and past either; a small program at the greatest depth at which it
--- is small, and one more; one that is too large by its text alone; steps in round numbers, and what exits in them.
+-- Worked rows: the most labels by sites, tests and bodies; words of frames within both bounds of a program, and past either; a small
+-- program at the greatest depth at which it is small, and one more; one that is too large by its text alone; steps in round numbers,
+-- and what exits in them.
 use Rattle.std.proofs.Common.{◌≡◌, ◌≤◌, ◌+◌, ◌*◌, ℕ, zero, suc, List, [], ◌∷◌, ◌++◌, refl, sym, ap, subst, arith}
 use Rattle.std.specs.Prelude.{max, replicate, Some}
 use Rattle.sch_word.specs.declared.answer.Answer.{Answer}
@@ -9,7 +10,7 @@ use Rattle.sch_word.specs.trees.Shape.{Procedure}
 use Rattle.sch_select.proofs.programs.PathEvents.{no_exit}
 use Rattle.sch_insn.specs.Behaves.{Given, exit_of, start}
 use Rattle.sch_insn.specs.Machine.{State}
-use Rattle.sch_insn.specs.Step.{Progress, Runs, Exited, Stuck, mach, standing, step}
+use Rattle.sch_insn.specs.Step.{mach, step}
 use Rattle.sch_elf.specs.Layout.{memory}
 use Rattle.sch_elf.specs.Stands.{StandsFor}
 use Rattle.sch_elf.specs.declared.image.Image.{Image}
@@ -18,10 +19,22 @@ use Rattle.sch_lang.specs.Examples.{program, sum_line}
 use Rattle.sch_lang.specs.Measures.{bound_count, node_size, over_each, program_size, variables_each}
 use Rattle.sch_lang.specs.Run.{run}
 use Rattle.sch_lang.specs.Tree.{Source, bind, constant, count, expressions}
+use Rattle.sch_control.proofs.Examples.{looping, taking}
 use Rattle.sch_select.specs.Program.{frames_bytes, max_stack}
+use Rattle.sch_driver.specs.Assembled.{labels_bound}
 use Rattle.sch_driver.specs.Bounds.{AreWordsOf, ExitsInTime, IsSmall, round_steps}
 use Rattle.sch_driver.specs.Causes.{Means, frame_bound, text_bound}
 use Rattle.sch_listing.specs.declared.listing.Listing.{Listing}
+
+-- ---- labels
+
+-- eight sites, two tests and three bodies
+looping_labels : labels_bound looping ≡ 109
+looping_labels = refl
+
+-- three sites, no test and two bodies
+taking_labels : labels_bound taking ≡ 42
+taking_labels = refl
 
 -- ---- as many constants
 

@@ -5,7 +5,7 @@ use Rattle.std.specs.List.{flat_map}
 use Rattle.std.proofs.lemmas.Bool.{and_parts, leb-true}
 use Rattle.std.proofs.lemmas.List.{append-nil}
 use Rattle.sch_word.specs.declared.answer.Answer.{Answer}
-use Rattle.sch_word.specs.runs.ProgramLayout.{data_address, max_text_size}
+use Rattle.sch_word.specs.runs.ProgramLayout.{data_address, max_text_size, text_address}
 use Rattle.sch_word.specs.runs.Runs.{Run, Statics}
 use Rattle.sch_word.specs.values.Memory.{Segment}
 use Rattle.sch_insn.specs.declared.insn.Insn.{Insn}
@@ -26,7 +26,7 @@ use Rattle.sch_asm.proofs.Skeleton.{at_most_sum, same_append, same_shortest}
 use Rattle.sch_asm.proofs.Tables.{size_append}
 use Rattle.sch_elf.specs.declared.image.Image.{Image}
 use Rattle.sch_elf.specs.Layout.{memory}
-use Rattle.sch_elf.specs.Program.{IsProgramImage, text_address}
+use Rattle.sch_elf.specs.Program.{IsProgramImage}
 use Rattle.sch_control.specs.Sizes.{most_variables}
 use Rattle.sch_control.specs.Work.{codes_work}
 use Rattle.sch_control.specs.declared.body.Body.{Body}
@@ -112,7 +112,8 @@ framed_parts p f statics library bodies words =
     framed_of s l bs n = record { statics = s; library = l; bodies = bs; words = n }
 
 -- the items of its frame program and the routines are as long as its text
-pub size_of_frames : (p : control.Source) (f : frames.Source) (heap depth : ℕ) (items routines : List Item) → items ≡ program_code f heap depth → routines ≡ all_routines (heap_of f + heap) → f ≡ framed p
+pub size_of_frames : (p : control.Source) (f : frames.Source) (heap depth : ℕ) (items routines : List Item)
+    → items ≡ program_code f heap depth → routines ≡ all_routines (heap_of f + heap) → f ≡ framed p
     → shortest_size (items ++ routines) ≡ framed_size p
 size_of_frames p f heap depth items routines made are is_framed =
     ap (λ is. shortest_size (is ++ routines)) made
@@ -146,10 +147,13 @@ routines_stored heap_end = both_marked None (narrowed (value_code heap_end)) rou
 -- What is selected of the frames, with the routines, follows the runs of the control program, exits in time and passes
 -- the marks.
 pub assembled : (p : control.Source) (f : frames.Source) (heap depth : ℕ) (a routines : Asm) (code : List Insn) (marks : List Mark) (words text : List ℕ) (zeros : ℕ) (image : Image) (instructions : ℕ)
-    → instructions ≡ length code → SameRuns p f → f ≡ framed p → AreSelected f heap depth a → routines.items ≡ all_routines (heap_of f + heap) → IsFrameSize p f.words → frames_bytes f.words depth ≤ max_stack → length words ≡ 8 * length a.words
+    → instructions ≡ length code → SameRuns p f → f ≡ framed p → AreSelected f heap depth a
+    → routines.items ≡ all_routines (heap_of f + heap) → IsFrameSize p f.words → frames_bytes f.words depth ≤ max_stack
+    → length words ≡ 8 * length a.words
     → AreEffective routines.items → AreResolved (a.items ++ routines.items) a.words code marks words → AllValid code
     → length (flat_map spelling code) ≤ max_text_size → length (flat_map spelling code) ≡ shortest_size (a.items ++ routines.items)
-    → length (flat_map spelling code) ≤ assembled_bound p → text ≡ flat_map spelling code → zeros ≡ a.zeros → IsProgramImage text words zeros image → IsAssembled p heap depth f.words instructions marks image
+    → length (flat_map spelling code) ≤ assembled_bound p → text ≡ flat_map spelling code → zeros ≡ a.zeros
+    → IsProgramImage text words zeros image → IsAssembled p heap depth f.words instructions marks image
 assembled p f heap depth a routines code marks words text zeros image instructions counted same is_framed selected items frame stack long effective resolved valid short size bound text_is zeros_are lies =
     let many : suc (instructions_in a.items) ≤ instructions =
     subst (λ n. suc (instructions_in a.items) ≤ n) (sym counted) (resolved_many a.items routines.items a.words code marks words (heap_of f + heap) items resolved) in
@@ -214,14 +218,10 @@ unfit p words depth n (TextTooLarge bytes) frame stack size bound t =
     record { words = words; frame = frame; fits = stack; large = t.1; size = t.0 ∙ size; bound = subst (λ k. k ≤ assembled_bound p) (sym t.0) bound }
 unfit p words depth n Memory frame stack size bound t = tt
 
-pub refused_for : {A : Type 0} (p : control.Source) (depth : ℕ) (r : Result A CompileError) (cause : AsmError) → IsErrAnd r (λ e. e ≡ of_assembly cause) → IsUnfit p depth (of_assembly cause) → IfErr r (IsUnfit p depth)
+pub refused_for : {A : Type 0} (p : control.Source) (depth : ℕ) (r : Result A CompileError) (cause : AsmError)
+    → IsErrAnd r (λ e. e ≡ of_assembly cause) → IsUnfit p depth (of_assembly cause) → IfErr r (IsUnfit p depth)
 refused_for p depth (Ok a) cause h u = tt
 refused_for p depth (Err e) cause h u = subst (IsUnfit p depth) (sym h) u
-
--- what holds of a cause holds of the error that it is
-pub kept_error : {A : Type 0} (r : Result A CompileError) (cause : CompileError) (P : CompileError → Type 0) → IsErrAnd r (λ e. e ≡ cause) → P cause → IfErr r P
-kept_error (Ok a) cause P h p = tt
-kept_error (Err e) cause P h p = subst P (sym h) p
 
 -- the bound by the control program is one by the core program
 pub bound_chain : (p : lang.Source) (q : control.Source) (code : List Insn) → length (flat_map spelling code) ≤ assembled_bound q → codes_work q.bodies ≤ 7 * core.program_size p
@@ -248,7 +248,8 @@ too_large library text p q depth (compile_error.TextTooLarge bytes) means fits s
       size = unfit.size;
       bound = omega (arith, bound, size);
     }
-too_large library text p q depth (compile_error.StackTooLarge words) means fits size most unfit = record { program = p; means = means; large = unfit.0; frame = frame_chain p q words fits unfit.1 most }
+too_large library text p q depth (compile_error.StackTooLarge words) means fits size most unfit =
+    record { program = p; means = means; large = unfit.0; frame = frame_chain p q words fits unfit.1 most }
 too_large library text p q depth compile_error.Memory means fits size most unfit = tt
 too_large library text p q depth (compile_error.Read part e) means fits size most unfit = absurd unfit
 too_large library text p q depth (compile_error.Core part e) means fits size most unfit = absurd unfit

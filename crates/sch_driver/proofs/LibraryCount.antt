@@ -4,9 +4,8 @@ use Rattle.std.specs.Prelude.{◌==◌, ◌||◌, if◌then◌else◌}
 use Rattle.sch_link_program.proofs.FewDefinitions.{kept_shorter}
 use Rattle.sch_lang.specs.Tree as lang
 use Rattle.sch_lang.specs.Tree.{count_lambdas}
-use Rattle.sch_names.specs.Scope.{is_among}
-use Rattle.sch_link_tables.specs.Named.{firsts, globals_in_each, library_global, symbols_in_each}
-use Rattle.sch_link_tables.specs.Programs.{Definition, globals_of_each, held, kept, named, procedures, program_with, symbols_of_each, with_definition}
+use Rattle.sch_link_tables.specs.Named.{firsts, globals_in_each, symbols_in_each}
+use Rattle.sch_link_tables.specs.Programs.{Definition, globals_of_each, held, kept, named, procedures, program_with, symbols_of_each}
 use Rattle.sch_read.specs.Grammar.{Token, Open, Close, Dot, parenthesis, quote_mark, Datum, Data, none, cons, ReadsOne, ReadsMany, plain, listed, with_dot, elements, quotes, end, more}
 use Rattle.sch_read.specs.Lexer.Cut.{Cuts, nothing, lexeme}
 use Rattle.sch_read.specs.Lexer.Letters.{is_white}

@@ -25,7 +25,9 @@ bodies_valid (b ∷ bs) = and_from _ _ (and_from _ _ b.scoped (and_from _ _ b.nu
 
 -- a control program fits a core program, by what the passes say of it
 pub program_fits : (p : lang.Source) (q : ControlProgram) → source q ≡ control_of p → RunsAs p (source q) → IsTrue (is_covered_program (source q))
-    → (source q).statics ≡ p.statics → length (source q).library ≡ lang.count_lambdas p.library → map (λ c. c.name) (source q).bodies ≡ map (λ b. b.name) (bodies_of p) → IsTrue (bind_within (source q).bodies (map (λ b. b.variables) (bodies_of p)))
+    → (source q).statics ≡ p.statics → length (source q).library ≡ lang.count_lambdas p.library
+    → map (λ c. c.name) (source q).bodies ≡ map (λ b. b.name) (bodies_of p)
+    → IsTrue (bind_within (source q).bodies (map (λ b. b.variables) (bodies_of p)))
     → ((n : ℕ) → count_by (λ at. nat_eq at.0 n) (sites_of_each (source q).bodies) ≡ count_by (λ x. nat_eq x n) (measures.call_sites_of p))
     → tests_of (source q).bodies ≡ measures.tests_of p → dropped_of (source q).bodies ≤ measures.dropped_of p → FitsProgram p (source q)
 program_fits p q made runs covered statics library names variables calls tests dropped =

@@ -6,7 +6,6 @@ use Rattle.std.proofs.lemmas.List.Elements.{filter-append}
 use Rattle.sch_insn.specs.declared.insn.Arg.TheVariants as arg
 use Rattle.sch_insn.specs.declared.insn.Insn.{Insn}
 use Rattle.sch_insn.specs.declared.insn.Insn.TheVariants as insn
-use Rattle.sch_insn.specs.declared.register.TheConstants.{RBP}
 use Rattle.sch_insn.specs.Spelling.{spelling}
 use Rattle.sch_insn.proofs.SegmentContents.{spelling_some}
 use Rattle.sch_asm.specs.declared.item.Item.{Item}
@@ -14,6 +13,7 @@ use Rattle.sch_asm.specs.declared.item.Item.TheVariants.{Label, Plain, Jump, Jum
 use Rattle.sch_asm.specs.declared.item.Mark as mark
 use Rattle.sch_word.specs.declared.mark.MarkKind.{MarkKind}
 use Rattle.sch_word.specs.declared.mark.MarkKind.TheVariants as kind
+use Rattle.sch_word.specs.declared.registers.TheConstants.{FRAME_REGISTER}
 use Rattle.sch_asm.specs.Codes.{Codes}
 use Rattle.sch_asm.specs.Stands.{GoesTo, BranchesTo, marks_at}
 use Rattle.sch_asm.proofs.Standing.{Look, ahead, here, nothing, one_more}
@@ -28,7 +28,7 @@ IsQuiet i =
     (loads_frame (Plain i) ≡ false) × (checks_operator (Plain i) ≡ false) × (returns (Plain i) ≡ false)
     × ((n t : ℕ) → GoesTo i n t → ⊥) × ((c n t : ℕ) → BranchesTo c i n t → ⊥)
 
-quiet : (i : Insn) → (writes_at RBP i ≡ false) ⊎ IsQuiet i
+quiet : (i : Insn) → (writes_at FRAME_REGISTER i ≡ false) ⊎ IsQuiet i
 quiet (insn.MovTo (arg.Reg d) r) = inl refl
 quiet (insn.MovTo (arg.Base b) r) = inr (refl, refl, refl, (λ n t h. absurd h), (λ c n t h. absurd h))
 quiet (insn.MovTo (arg.Base8 b d) r) = inr (refl, refl, refl, (λ n t h. absurd h), (λ c n t h. absurd h))
@@ -95,19 +95,19 @@ none_waits i writes moves loads checks leaves w (kind.Tail site) b wait h = let 
 -- ---- one instruction
 
 -- an instruction that writes no frame, before which no store is marked
-unmarked : (i : Insn) (w : List MarkKind) → writes_at RBP i ≡ false → Wait w None → HasStoreMark i w
+unmarked : (i : Insn) (w : List MarkKind) → writes_at FRAME_REGISTER i ≡ false → Wait w None → HasStoreMark i w
 unmarked i w silent none = record { written = λ t. absurd cc; unwritten = λ f. inl none }
 
 -- an instruction that is a load, a check or a return
 stays_quiet : (i : Insn) (w : List MarkKind) → filter is_store w ≡ [] → (IsQuiet i → ⊥) → HasStoreMark i w
 stays_quiet i w none loud = by (quiet i)
   where
-    by : (writes_at RBP i ≡ false) ⊎ IsQuiet i → HasStoreMark i w
+    by : (writes_at FRAME_REGISTER i ≡ false) ⊎ IsQuiet i → HasStoreMark i w
     by (inl silent) = unmarked i w silent none
     by (inr q) = absurd (loud q)
 
 -- an instruction that writes a frame under a mark of a store
-stores : (i : Insn) (w : List MarkKind) (m : MarkKind) → writes_at RBP i ≡ true → filter is_store w ≡ m ∷ [] → HasStoreMark i w
+stores : (i : Insn) (w : List MarkKind) (m : MarkKind) → writes_at FRAME_REGISTER i ≡ true → filter is_store w ≡ m ∷ [] → HasStoreMark i w
 stores i w m writes one = record { written = λ t. (m, one); unwritten = λ f. absurd cc }
 
 marked : (i : Insn) (w : List MarkKind) (m : MarkKind) → Wait w (Some m) → IsTrue (stands_before m (Plain i)) → HasStoreMark i w
@@ -142,8 +142,8 @@ module _ (all : List mark.Mark) (place_of : ℕ → ℕ) where
       each is a (w ++ m ∷ []) (waiting_mark m) code h.0 (one_waits w m wait) s (one_more all w a m marks h.0 look h.1) h.2
   each (Mark n ∷ is) a w (Some m) code marks wait s look h = absurd (none_waits (Mark n) refl refl refl refl refl w m (stores_marked None is) wait s)
   each (Plain i ∷ is) a w None code marks wait s look h =
-      let parts = and_parts (not (writes_at RBP i)) (stores_marked None is) s in
-      next i a w is code h.0 marks (unmarked i w (not-true (writes_at RBP i) parts.0) wait) look h.1 h.2
+      let parts = and_parts (not (writes_at FRAME_REGISTER i)) (stores_marked None is) s in
+      next i a w is code h.0 marks (unmarked i w (not-true (writes_at FRAME_REGISTER i) parts.0) wait) look h.1 h.2
       (each is (a + length (spelling i)) [] None h.0 marks refl parts.1 (ahead all w a (length (spelling i)) marks look (spelling_some i)) h.2)
   each (Plain i ∷ is) a w (Some m) code marks wait s look h =
       let parts = and_parts (stands_before m (Plain i)) (stores_marked None is) s in
@@ -181,10 +181,14 @@ both_marked None [] ys s t = t
 both_marked (Some m) [] ys s t = absurd cc
 both_marked None (Mark m ∷ xs) ys s t = both_marked (waiting_mark m) xs ys s t
 both_marked None (Label l ∷ xs) ys s t = both_marked None xs ys s t
-both_marked None (Plain i ∷ xs) ys s t = let parts = and_parts (not (writes_at RBP i)) (stores_marked None xs) s in and_from (not (writes_at RBP i)) (stores_marked None (xs ++ ys)) parts.0 (both_marked None xs ys parts.1 t)
+both_marked None (Plain i ∷ xs) ys s t =
+    let parts = and_parts (not (writes_at FRAME_REGISTER i)) (stores_marked None xs) s in
+    and_from (not (writes_at FRAME_REGISTER i)) (stores_marked None (xs ++ ys)) parts.0 (both_marked None xs ys parts.1 t)
 both_marked None (Jump l ∷ xs) ys s t = both_marked None xs ys s t
 both_marked None (JumpIf c l ∷ xs) ys s t = both_marked None xs ys s t
 both_marked None (LoadLabel r l ∷ xs) ys s t = both_marked None xs ys s t
 both_marked None (LoadWord r l ∷ xs) ys s t = both_marked None xs ys s t
 both_marked None (StoreWord l r ∷ xs) ys s t = both_marked None xs ys s t
-both_marked (Some m) (i ∷ xs) ys s t = let parts = and_parts (stands_before m i) (stores_marked None xs) s in and_from (stands_before m i) (stores_marked None (xs ++ ys)) parts.0 (both_marked None xs ys parts.1 t)
+both_marked (Some m) (i ∷ xs) ys s t =
+    let parts = and_parts (stands_before m i) (stores_marked None xs) s in
+    and_from (stands_before m i) (stores_marked None (xs ++ ys)) parts.0 (both_marked None xs ys parts.1 t)

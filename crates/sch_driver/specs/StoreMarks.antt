@@ -3,8 +3,8 @@
 use Rattle.std.specs.Prelude.{◌≡◌, ◌+◌, ◌⊎◌, ℕ, Bool, true, false, List, [], ◌∷◌, length, filter}
 use Rattle.sch_word.specs.declared.mark.MarkKind.{MarkKind}
 use Rattle.sch_word.specs.declared.mark.MarkKind.TheVariants as mark
+use Rattle.sch_word.specs.declared.registers.TheConstants.{FRAME_REGISTER}
 use Rattle.sch_insn.specs.declared.insn.Insn.{Insn}
-use Rattle.sch_insn.specs.declared.register.TheConstants.{RBP}
 use Rattle.sch_insn.specs.Spelling.{spelling}
 use Rattle.sch_select.specs.MarkedStores.{writes_at}
 
@@ -19,8 +19,8 @@ is_store _ = false
 -- An instruction with the marks of its address: where it writes memory through RBP it has exactly one mark of a store, and any
 -- other one has none, but for an operand that is set aside in a register.
 pub record HasStoreMark (i : Insn) (kinds : List MarkKind) : Type 0 where
-  pub written : writes_at RBP i ≡ true → (m : MarkKind) × (filter is_store kinds ≡ m ∷ [])
-  pub unwritten : writes_at RBP i ≡ false → (filter is_store kinds ≡ []) ⊎ (filter is_store kinds ≡ mark.Temp ∷ [])
+  pub written : writes_at FRAME_REGISTER i ≡ true → (m : MarkKind) × (filter is_store kinds ≡ m ∷ [])
+  pub unwritten : writes_at FRAME_REGISTER i ≡ false → (filter is_store kinds ≡ []) ⊎ (filter is_store kinds ≡ mark.Temp ∷ [])
 
 -- so it is of each instruction, where they follow one another from an address on
 abbrev pub StoresMarked : (marks_at : ℕ → List MarkKind) → (address : ℕ) → List Insn → Type 0

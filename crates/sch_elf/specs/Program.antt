@@ -1,21 +1,8 @@
 -- How the image of a compiled program lies in memory.
 use Rattle.std.specs.Prelude.{◌≡◌, ℕ, List, [], ◌∷◌, true, false}
-use Rattle.sch_word.specs.runs.ProgramLayout as layout
+use Rattle.sch_word.specs.runs.ProgramLayout.{text_address, data_address}
 use Rattle.sch_elf.specs.declared.image.Segment.{Segment}
 use Rattle.sch_elf.specs.declared.image.Image.{Image}
-
--- where the text lies, and is entered; where the data lie; and the most bytes of a text and of data
-abbrev pub text_address : ℕ
-text_address = layout.text_address
-
-abbrev pub data_address : ℕ
-data_address = layout.data_address
-
-abbrev pub max_text_size : ℕ
-max_text_size = layout.max_text_size
-
-abbrev pub max_data_size : ℕ
-max_data_size = layout.max_data_size
 
 -- the text, which can be read and executed
 abbrev pub text_segment : List ℕ → Segment

@@ -20,5 +20,4 @@ pub use laws::{
 };
 pub use program_segments::program_image;
 pub use read::read_image;
-pub use sch_word::{DATA_ADDRESS, TEXT_ADDRESS};
 pub use write::write_image;

@@ -1,7 +1,8 @@
 //! The image of a compiled program.
 
 ghost use Rattle.std.specs.Prelude.{◌≡◌, ◌≤◌, ◌+◌, [], ◌∷◌, length, IfOk};
-ghost use Rattle.sch_elf.specs.Program.{data_address, data_segment, max_data_size, max_text_size, text_address, text_segment, IsProgramImage};
+ghost use Rattle.sch_word.specs.runs.ProgramLayout.{max_data_size, max_text_size, text_address};
+ghost use Rattle.sch_elf.specs.Program.{data_segment, text_segment, IsProgramImage};
 
 use crate::image::{Image, Segment};
 use sch_word::{Bytes, DATA_ADDRESS, List, Mem, TEXT_ADDRESS};

@@ -4,7 +4,6 @@ use Rattle.sch_word.specs.declared.constant.Const.TheVariants.{Fixnum}
 use Rattle.sch_word.specs.declared.primitive.Primitive.{Primitive}
 use Rattle.sch_word.specs.declared.primitive.Primitive.TheVariants.{Add, Subtract, Equal, Put}
 use Rattle.sch_word.specs.values.Literals.{no_literals}
-use Rattle.sch_word.specs.runs.Runs.{Run, ended}
 use Rattle.sch_flat.specs.Tree.{Variable, bound, free, Made, Tree, Body, Source, constant, variable, branch, sequence, make_closure, fix_closures, call, operation, new_cells, cell_get, cell_set, trees}
 use Rattle.sch_flat.specs.Valid.{is_closed, is_formed, within_levels, in_order, sited, statics_known}
 

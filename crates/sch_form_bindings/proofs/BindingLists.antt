@@ -8,7 +8,7 @@ use Rattle.sch_read.specs.Grammar.{Data, none, cons, list, atom, symbol}
 use Rattle.sch_read.specs.Grammar as grammar
 use Rattle.sch_read.specs.Views.{tree_of, data_of}
 use Rattle.sch_sketch.specs.declared.sketch.Sketch as code
-use Rattle.sch_names.specs.Scope.{Names}
+use Rattle.sch_names.specs.Scope.{VariableNames}
 use Rattle.sch_sketch.specs.Sketch.{Sketches}
 use Rattle.sch_sketch.specs.Sketch as words
 use Rattle.sch_sketch.specs.SketchView.{sketch_of, ahead}
@@ -38,7 +38,7 @@ pub inits_stop : (items : List Datum) (i : ℕ) (d : Datum) (ks : List code.Sket
 inits_stop items i d ks l e b more = rw (next_left items i d l e) (ap (ahead ks) (no_inits (tree_of d) (data_of (drop (suc i) items)) more b))
 
 -- names so far, and those of the rest
-pub bound_next : (items : List Datum) (i : ℕ) (d : Datum) (vs vs' : List (Option (Bor (List ℕ)))) (x : Bor (List ℕ)) (r : Names) {init : grammar.Datum} {p q : ℕ} → i < length items → d ≡ get_or items i d →
+pub bound_next : (items : List Datum) (i : ℕ) (d : Datum) (vs vs' : List (Option (Bor (List ℕ)))) (x : Bor (List ℕ)) (r : VariableNames) {init : grammar.Datum} {p q : ℕ} → i < length items → d ≡ get_or items i d →
     IsBinding (tree_of d) x.now init p q → vs' ≡ vs ++ Some x ∷ [] → given_names vs ++ bound (data_of (drop i items)) ≡ r → given_names vs' ++ bound (data_of (drop (i + 1) items)) ≡ r
 bound_next items i d vs vs' x r l e b p k =
     let k' = rw (next_left items i d l e, b) at k in rw (add-one, p, map-append, append_assoc) k'

@@ -6,7 +6,7 @@ use Rattle.sch_read.specs.Grammar.{Datum, Data, atom, list, none, cons, symbol}
 use Rattle.sch_read.specs.Parts.{how_many}
 use Rattle.sch_names.specs.ScopeView.{given_names}
 use Rattle.sch_sketch.specs.declared.sketch.Sketch as code
-use Rattle.sch_names.specs.Scope.{Names}
+use Rattle.sch_names.specs.Scope.{VariableNames}
 use Rattle.sch_sketch.specs.Draft.{local}
 use Rattle.sch_sketch.specs.Sketch.{Kind, Sketches, text, leaf, node, calling}
 use Rattle.sch_sketch.specs.SketchView.{sketch_of, sketches_of, ahead}
@@ -58,7 +58,7 @@ steps_end at ks e more = rw e refl
 
 -- ## Names
 
-pub stepped_next : {xs bs zs : Data} {d i : Datum} {p q : ℕ} (vs vs' : List (Option (Bor (List ℕ)))) (x : Bor (List ℕ)) (r : Names) → xs ≡ cons d bs → IsStart d x.now i zs p q → vs' ≡ vs ++ Some x ∷ [] →
+pub stepped_next : {xs bs zs : Data} {d i : Datum} {p q : ℕ} (vs vs' : List (Option (Bor (List ℕ)))) (x : Bor (List ℕ)) (r : VariableNames) → xs ≡ cons d bs → IsStart d x.now i zs p q → vs' ≡ vs ++ Some x ∷ [] →
     given_names vs ++ stepped xs ≡ r → given_names vs' ++ stepped bs ≡ r
 stepped_next vs vs' x r e b p k = let k' = rw (joined e b) at k in rw (p, map-append, append_assoc) k'
 
@@ -77,6 +77,6 @@ pub again_made : (at n : ℕ) (bs : Data) (ks ks' ks0 : List code.Sketch) (k : c
     sketch_of k ≡ leaf at (local n) → n ≡ how_many bs → kind ≡ calling [] → node kind at (sketches_of ks') ≡ again at bs
 again_made at n bs ks ks' ks0 k {kind} z e h v m w = let x = made_after ks ks' ks0 k (steps at bs) z e h in rw (x, v, m, w) refl
 
-pub do_made : (at : ℕ) (bs : Data) (a : Datum) (rs es : Data) (ks ks' ks0 : List code.Sketch) (k : code.Sketch) {vs ws : Names} → are_rounds bs ≡ true → ks0 ≡ [] → ks ≡ ks0 ++ k ∷ [] →
+pub do_made : (at : ℕ) (bs : Data) (a : Datum) (rs es : Data) (ks ks' ks0 : List code.Sketch) (k : code.Sketch) {vs ws : VariableNames} → are_rounds bs ≡ true → ks0 ≡ [] → ks ≡ ks0 ++ k ∷ [] →
     ((more : Sketches) → ahead ks' more ≡ ahead ks (starts bs more)) → sketch_of k ≡ rounds at bs a rs es → vs ≡ stepped bs → ws ≡ vs → node (calling ws) at (sketches_of ks') ≡ do_form at bs a rs es
 do_made at bs a rs es ks ks' ks0 k t z e h v n w = let x = made_after ks ks' ks0 k (starts bs) z e h in rw (t, x, v, w, n) refl

@@ -1,7 +1,7 @@
 -- The rows of bindings make sound sketches.
 use Rattle.std.proofs.Common.{◌≡◌, ◌&&◌, ℕ, suc, Bool, false, List, ◌∷◌, length, Some, refl, ap}
 use Rattle.sch_read.specs.Grammar.{Data, atom, list, none, cons, symbol}
-use Rattle.sch_names.specs.Scope.{Scope, onto, Names}
+use Rattle.sch_names.specs.Scope.{Scope, onto, VariableNames}
 use Rattle.sch_sketch.specs.declared.sketch.Row.TheVariants.{Body}
 use Rattle.sch_sketch.specs.Sketch.{Kind, Sketches, text as datum, rest, node, no_sketch, and_sketch, how_many_parts, binding, calling}
 use Rattle.sch_sketch.specs.Soundness.{IsSound, AreSound}
@@ -29,7 +29,7 @@ are_inits bs = record { ahead = inits_ahead bs; count = inits_count bs; all = in
 
 -- ## Bindings
 
-looping_sound : (s : Scope) (at : ℕ) (f : List ℕ) (vs : Names) (es : Data) → IsSound s (looping at f vs es)
+looping_sound : (s : Scope) (at : ℕ) (f : List ℕ) (vs : VariableNames) (es : Data) → IsSound s (looping at f vs es)
 looping_sound s at f vs es = (refl, (refl, ((refl, (tt, (tt, tt))), (near (Some f) s, tt))))
 
 all_in : (k : Kind) (first : Bool) (s : Scope) (ks : Sketches) → AllSound ks → AreSound k first s ks

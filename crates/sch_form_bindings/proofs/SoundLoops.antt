@@ -4,7 +4,7 @@ use Rattle.std.proofs.lemmas.Bool.{and_parts}
 use Rattle.sch_read.specs.Grammar.{Datum, Data, atom, list, dotted, vector, none, cons, boolean, integer, character, symbol}
 use Rattle.sch_read.specs.Grammar as grammar
 use Rattle.sch_read.specs.Parts.{how_many}
-use Rattle.sch_names.specs.Scope.{Scope, Names}
+use Rattle.sch_names.specs.Scope.{Scope, VariableNames}
 use Rattle.sch_sketch.specs.Draft.{local}
 use Rattle.sch_sketch.specs.Sketch.{leaf, no_sketch, calling, sequencing}
 use Rattle.sch_sketch.specs.Small.{one}
@@ -12,7 +12,7 @@ use Rattle.sch_sketch.specs.Soundness.{IsSound, AreSound}
 use Rattle.sch_sketch.proofs.SmallSound.{onto_length, choice_by, near, call_sound, texts_sound, texts_count}
 use Rattle.sch_form_bindings.specs.Loops.{are_steps, stepped, starts, steps, step, again, next_round, result, round, rounds, are_rounds, do_form, row_do}
 
-starts_sound : (vs : Names) (s : Scope) (bs : Data) → AreSound (calling vs) false s (starts bs no_sketch)
+starts_sound : (vs : VariableNames) (s : Scope) (bs : Data) → AreSound (calling vs) false s (starts bs no_sketch)
 starts_sound vs s (cons (list p (cons (atom q (symbol x)) (cons i xs))) bs) = (tt, starts_sound vs s bs)
 starts_sound vs s _ = tt
 

@@ -2,7 +2,7 @@
 use Rattle.std.specs.Prelude.{ℕ, Bool, true, false, cond, ◌&&◌, List, [], ◌∷◌, Some}
 use Rattle.sch_read.specs.Grammar.{Data, atom, list, none, cons, symbol}
 use Rattle.sch_read.specs.Parts.{how_many, offset}
-use Rattle.sch_names.specs.Scope.{Scope, onto, Names}
+use Rattle.sch_names.specs.Scope.{Scope, onto, VariableNames}
 use Rattle.sch_sketch.specs.declared.fault.Fault.TheVariants.{BadForm}
 use Rattle.sch_sketch.specs.declared.sketch.Row.TheVariants.{Body, Nest}
 use Rattle.sch_sketch.specs.Draft.{local}
@@ -18,7 +18,7 @@ abbrev pub is_binding_form : Scope → Data → Data → Bool
 is_binding_form s bs es = are_bindings bs && (are_distinct (bound bs) && is_body (onto (bound bs) s) es)
 
 -- the procedure of a `let` with a name, in the scope of that name
-abbrev pub looping : ℕ → List ℕ → Names → Data → Sketch
+abbrev pub looping : ℕ → List ℕ → VariableNames → Data → Sketch
 looping at f vs es = node (recurring (Some f ∷ []) true) at (two (node (abstracting vs false) at (body at es)) (leaf at (local 0)))
 
 abbrev pub row_named : Scope → ℕ → List ℕ → Data → Sketch

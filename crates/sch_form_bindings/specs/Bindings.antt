@@ -1,7 +1,7 @@
 -- Lists of bindings (R5RS 4.2.2).
 use Rattle.std.specs.Prelude.{Bool, true, false, [], ◌∷◌, Some}
 use Rattle.sch_read.specs.Grammar.{Datum, Data, atom, list, none, cons, symbol}
-use Rattle.sch_names.specs.Scope.{Names}
+use Rattle.sch_names.specs.Scope.{VariableNames}
 use Rattle.sch_sketch.specs.Sketch.{Sketches, text, and_sketch}
 
 -- the first datum of a list that has one
@@ -15,7 +15,7 @@ IsNoBinding (list at (cons (atom q (symbol x)) (cons i none))) = ⊥
 IsNoBinding _ = Unit {0}
 
 -- the variables of `((v i)..)`, and its inits and then others
-abbrev pub bound : Data → Names
+abbrev pub bound : Data → VariableNames
 bound (cons (list at (cons (atom q (symbol x)) (cons i none))) bs) = Some x ∷ bound bs
 bound _ = []
 

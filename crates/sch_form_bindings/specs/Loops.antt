@@ -5,7 +5,7 @@ use Rattle.sch_read.specs.Parts.{how_many}
 use Rattle.sch_names.specs.declared.keyword.Keyword.TheVariants.{Begin}
 use Rattle.sch_sketch.specs.declared.fault.Fault.TheVariants.{BadForm}
 use Rattle.sch_sketch.specs.declared.sketch.Row.TheVariants.{Form}
-use Rattle.sch_names.specs.Scope.{Names}
+use Rattle.sch_names.specs.Scope.{VariableNames}
 use Rattle.sch_sketch.specs.Draft.{local}
 use Rattle.sch_sketch.specs.Sketch.{Sketch, Sketches, text, rest, wrong, leaf, node, no_sketch, and_sketch, choosing, sequencing, recurring, abstracting, calling, nothing}
 use Rattle.sch_sketch.specs.Small.{one, two, three, texts, fresh}
@@ -28,7 +28,7 @@ are_steps none = true
 are_steps (cons (list p (cons (atom q (symbol x)) (cons i xs))) bs) = is_step_end xs && are_steps bs
 are_steps _ = false
 
-abbrev pub stepped : Data → Names
+abbrev pub stepped : Data → VariableNames
 stepped (cons (list p (cons (atom q (symbol x)) (cons i xs))) bs) = Some x ∷ stepped bs
 stepped _ = []
 

@@ -4,7 +4,7 @@ use Rattle.sch_read.specs.Grammar.{Datum, Data, atom, list, dotted, vector, none
 use Rattle.sch_read.specs.Grammar as grammar
 use Rattle.sch_names.specs.declared.keyword.Keyword.TheVariants.{Begin}
 use Rattle.sch_names.specs.Words.{keyword_of}
-use Rattle.sch_names.specs.Scope.{Scope, onto, Names}
+use Rattle.sch_names.specs.Scope.{Scope, onto, VariableNames}
 use Rattle.sch_sketch.specs.declared.sketch.Row.TheVariants.{Form}
 use Rattle.sch_sketch.specs.Measure.{datum_measure, data_measure, sketch_measure, sketches_measure}
 use Rattle.sch_sketch.specs.Sketch.{Sketches, rest}
@@ -18,7 +18,7 @@ use Rattle.sch_form_bodies.specs.Bodies.{row_body, procedure, row_lambda, method
 
 -- ## Bodies
 
-either_measure : (b : Bool) (vs ws : Names) (ks ls : Sketches) (r : ℕ) → length vs + sketches_measure ks ≤ r → length ws + sketches_measure ls ≤ r →
+either_measure : (b : Bool) (vs ws : VariableNames) (ks ls : Sketches) (r : ℕ) → length vs + sketches_measure ks ≤ r → length ws + sketches_measure ls ≤ r →
     length (cond b vs ws) + sketches_measure (cond b ks ls) ≤ r
 either_measure true vs ws ks ls r h h' = h
 either_measure false vs ws ks ls r h h' = h'
@@ -45,10 +45,10 @@ mutual
       omega (arith, length-append (names_in d) (names_of_each ds), definition_measure d (inits_of_each ds ks), definitions_measure ds ks)
 
 -- what the definitions of a body and the expressions after them take, together
-abbrev head_measure : Names → Sketches → Data → ℕ
+abbrev head_measure : VariableNames → Sketches → Data → ℕ
 head_measure vs ks es = length vs + sketches_measure ks + data_measure es
 
-head_either : (b : Bool) (vs ws : Names) (ks ls : Sketches) (es fs : Data) (r : ℕ) → head_measure vs ks es ≤ r → head_measure ws ls fs ≤ r →
+head_either : (b : Bool) (vs ws : VariableNames) (ks ls : Sketches) (es fs : Data) (r : ℕ) → head_measure vs ks es ≤ r → head_measure ws ls fs ≤ r →
     head_measure (cond b vs ws) (cond b ks ls) (cond b es fs) ≤ r
 head_either true vs ws ks ls es fs r h h' = h
 head_either false vs ws ks ls es fs r h h' = h'

@@ -4,7 +4,7 @@ use Rattle.std.proofs.lemmas.Bool.{and_parts}
 use Rattle.sch_read.specs.Grammar.{Datum, Data, atom, list, dotted, vector, none, cons, boolean, integer, character, symbol}
 use Rattle.sch_read.specs.Grammar as grammar
 use Rattle.sch_names.specs.Words.{keyword_of}
-use Rattle.sch_names.specs.Scope.{Scope, onto, Names}
+use Rattle.sch_names.specs.Scope.{Scope, onto, VariableNames}
 use Rattle.sch_sketch.specs.Sketch.{Sketch, Sketches, no_sketch, and_sketch, how_many_parts, abstracting}
 use Rattle.sch_sketch.specs.Soundness.{IsSound, IsSoundKind}
 use Rattle.sch_sketch.proofs.SmallSound.{choice, choice_by}
@@ -18,7 +18,7 @@ use Rattle.sch_sketch.proofs.GroupsOfInits.{AreInits, group_sound}
 
 -- ## Definitions
 
-cond_inits : (b : Bool) (v : Option (List ℕ)) (ws : Names) (k : Sketch) (is : Sketches → Sketches) → ((s : Scope) → IsSound s k) → AreInits ws is →
+cond_inits : (b : Bool) (v : Option (List ℕ)) (ws : VariableNames) (k : Sketch) (is : Sketches → Sketches) → ((s : Scope) → IsSound s k) → AreInits ws is →
     AreInits (cond b (v ∷ []) ws) (λ ks. cond b (and_sketch k ks) (is ks))
 cond_inits true v ws k is h i = record { ahead = λ ks. refl; count = refl; all = (h, tt) }
 cond_inits false v ws k is h i = i
@@ -26,7 +26,7 @@ cond_inits false v ws k is h i = i
 no_inits : AreInits [] (λ ks. ks)
 no_inits = record { ahead = λ ks. refl; count = refl; all = tt }
 
-more_inits : (vs ws : Names) (is js : Sketches → Sketches) → AreInits vs is → AreInits ws js → AreInits (vs ++ ws) (λ ks. is (js ks))
+more_inits : (vs ws : VariableNames) (is js : Sketches → Sketches) → AreInits vs is → AreInits ws js → AreInits (vs ++ ws) (λ ks. is (js ks))
 more_inits vs ws is js i j = record {
   ahead = λ ks.
       let x : is (js ks) ≡ join (is no_sketch) (join (js no_sketch) ks) = i.ahead (js ks) ∙ ap (join (is no_sketch)) (j.ahead ks) in
@@ -57,7 +57,7 @@ mutual
   definitions_inits none = no_inits
   definitions_inits (cons d ds) = more_inits (names_in d) (names_of_each ds) (inits_in d) (inits_of_each ds) (definition_inits d) (definitions_inits ds)
 
-head_inits : (b : Bool) (vs : Names) (is : Sketches → Sketches) → AreInits vs is → AreInits (cond b vs []) (λ ks. cond b (is ks) ks)
+head_inits : (b : Bool) (vs : VariableNames) (is : Sketches → Sketches) → AreInits vs is → AreInits (cond b vs []) (λ ks. cond b (is ks) ks)
 head_inits true vs is i = i
 head_inits false vs is i = no_inits
 

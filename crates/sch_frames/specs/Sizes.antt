@@ -1,8 +1,8 @@
 -- Sizes of instructions and of frames, and how much there is to do in them.
-use Rattle.std.specs.Prelude.{ℕ, suc, ◌+◌, max, Bool, false, cond, List, [], ◌∷◌, length, Option, Some, None}
+use Rattle.std.specs.Prelude.{ℕ, suc, ◌+◌, max, Bool, false, cond, List, [], ◌∷◌, length}
 use Rattle.std.specs.List.{list_any}
+use Rattle.sch_word.specs.trees.Shape.{max_operands}
 use Rattle.sch_control.specs.RegisterWork.{entry_done}
-use Rattle.sch_control.specs.declared.body.Entry.{Entry}
 use Rattle.sch_control.specs.AtomsAndSites.{member_atoms}
 use Rattle.sch_control.specs.Sizes.{operation_size}
 use Rattle.sch_frames.specs.declared.instruction.Instruction.{Instruction}
@@ -25,9 +25,10 @@ spreads _ = false
 abbrev pub code_spreads : Code → Bool
 code_spreads c = list_any spreads c.instructions
 
--- the fewest words that the largest frame counts with where a call spreads its last operand
+-- the fewest words that the largest frame counts with where a call spreads its last operand: those of the most operands,
+-- and 16
 abbrev pub spread_words : ℕ
-spread_words = 216
+spread_words = max_operands + 16
 
 -- The words that the largest frame of some bodies counts with: a list that is spread needs more than its frame may have.
 abbrev pub frame_words : List Code → ℕ

@@ -1,6 +1,6 @@
 -- Variables whose places differ lie apart in the frame, and what a body is entered with comes where nothing else stands.
 use Rattle.std.proofs.Common.{◌≡◌, ◌≢◌, ℕ, zero, suc, ◌+◌, ◌<◌, ◌≤◌, List, [], ◌∷◌, length, Option, Some, Bool, true, false, cond, refl, sym, ap, ◌∙◌, subst, arith}
-use Rattle.std.specs.Prelude.{◌-◌, nat_lt, slice_get}
+use Rattle.std.specs.Prelude.{nat_lt, slice_get}
 use Rattle.std.proofs.lemmas.Bool.{eqb-true}
 use Rattle.sch_word.proofs.facts.Booleans.{false_true}
 use Rattle.sch_word.specs.declared.place.Place.{Place}
@@ -12,7 +12,6 @@ use Rattle.sch_control.specs.flow.Live.{Live, nothing_later}
 use Rattle.sch_control.specs.flow.Places.{arrival, place_of, stays, formals_of}
 use Rattle.sch_word.specs.values.Places.{same_place, closure_place, link_place, is_slot}
 use Rattle.sch_layout.specs.BodyLayout.{arrived}
-use Rattle.sch_layout.specs.BodyLayout as layout
 use Rattle.sch_layout.specs.Laws.{EntersSlots}
 use Rattle.sch_layout.specs.SharedPlaces.{Alone, Arrives}
 use Rattle.sch_word.proofs.facts.Places.{place_itself, places_same}
@@ -24,18 +23,6 @@ pub listed_at : (places : List Place) (x : ℕ) → x < length places → slice_
 listed_at [] x lt = absurd (omega (arith, lt))
 listed_at (p ∷ places) zero lt = refl
 listed_at (p ∷ places) (suc x) lt = listed_at places x (omega (arith, lt))
-
--- where the layout of a body has what arrives, and where the places of its variables have it
-pub arrival_same : (k : ℕ) → arrival k ≡ layout.arrival k
-arrival_same zero = refl
-arrival_same (suc zero) = refl
-arrival_same (suc (suc zero)) = refl
-arrival_same (suc (suc (suc zero))) = refl
-arrival_same (suc (suc (suc (suc zero)))) = refl
-arrival_same (suc (suc (suc (suc (suc zero))))) = refl
-arrival_same (suc (suc (suc (suc (suc (suc k)))))) = ap Slot behind where
-  behind : k ≡ suc (suc (suc (suc (suc (suc k))))) - 6
-  behind = omega arith
 
 module _ (entry : Option Entry) (e : Expression) (places : List Place) where
   pub place_is : (x : ℕ) → x < length places → place entry e places x ≡ place_of places x
@@ -76,9 +63,7 @@ module _ (entry : Option Entry) (e : Expression) (places : List Place) (whole : 
   enters (suc zero) lt = stays_there closure
   enters (suc (suc k)) lt =
       let two : 2 + k ≡ suc (suc k) = omega arith in
-      subst (λ n. Enters (layout.arrival k) (place_of places n)) two
-      (enters_as (layout.arrival k) (place_of places (2 + k))
-      (ap (λ p. stays p (place_of places (2 + k))) (sym (arrival_same k)) ∙ formals k (omega (arith, lt))))
+      subst (λ n. Enters (arrival k) (place_of places n)) two (enters_as (arrival k) (place_of places (2 + k)) (formals k (omega (arith, lt))))
 
   lies_at : (x : ℕ) → x < 2 + formals_of entry → lies x ≡ place_of places x
   lies_at x lt = place_is entry e places x (let w = whole in omega (arith, lt, w))

@@ -67,8 +67,14 @@ module _ (used : ℕ) (lives : ℕ → Place) where
 
     pub within_calls : (e : Expression) → calls_end used lives e ≤ bound → EachCall (λ tail a. call_end used lives tail a ≤ bound) e
     within_calls (perform o) h = tt
-    within_calls (bind x a b) h = let l = le-max_left (calls_end used lives a) (calls_end used lives b) in let r = le-max_right (calls_end used lives a) (calls_end used lives b) in (within_calls a (omega (arith, l, h)), within_calls b (omega (arith, r, h)))
-    within_calls (sequence a b) h = let l = le-max_left (calls_end used lives a) (calls_end used lives b) in let r = le-max_right (calls_end used lives a) (calls_end used lives b) in (within_calls a (omega (arith, l, h)), within_calls b (omega (arith, r, h)))
+    within_calls (bind x a b) h =
+        let l = le-max_left (calls_end used lives a) (calls_end used lives b) in
+        let r = le-max_right (calls_end used lives a) (calls_end used lives b) in
+        (within_calls a (omega (arith, l, h)), within_calls b (omega (arith, r, h)))
+    within_calls (sequence a b) h =
+        let l = le-max_left (calls_end used lives a) (calls_end used lives b) in
+        let r = le-max_right (calls_end used lives a) (calls_end used lives b) in
+        (within_calls a (omega (arith, l, h)), within_calls b (omega (arith, r, h)))
     within_calls (branch a b c) h =
         let l = le-max_left (calls_end used lives a) (max (calls_end used lives b) (calls_end used lives c)) in
         let r = le-max_right (calls_end used lives a) (max (calls_end used lives b) (calls_end used lives c)) in
@@ -123,7 +129,9 @@ module _ (used : ℕ) (lives : ℕ → Place) (tail : Bool) (a : Application ℕ
   pub call_low : call_end used lives tail a ≤ begins + suc (length a.operands)
   call_low =
       end_within (begins + suc (length a.operands)) begins (call_moves used lives tail a)
-      (subst (EachMove (IsAsideBefore (begins + suc (length a.operands)))) (sym (moves_back (arguments_at lives a) (call_targets tail a) (acts asided (all_choices (call_arguments lives a) (call_targets tail a)))))
+      (subst (EachMove (IsAsideBefore (begins + suc (length a.operands))))
+      (sym (moves_back (arguments_at lives a) (call_targets tail a)
+      (acts asided (all_choices (call_arguments lives a) (call_targets tail a)))))
       (each_act (arguments_at lives a) (call_targets tail a) (IsAsideBefore (begins + suc (length a.operands))) (λ p. slot_end p ≤ begins + suc (length a.operands))
       (λ k lt. omega arith) (λ k p lt t. t) (λ k p q lt t s. s) (λ k p lt t. omega arith)
       (acts asided (all_choices (call_arguments lives a) (call_targets tail a)))
@@ -164,7 +172,8 @@ module _ (entry : Option Entry) (e : Expression) (places : List Place) (room : H
       (omega arith)
 
   -- it is within what homes and operands, or slots of variables and operands, have together
-  pub call_within : (bound : ℕ) → homes_end entry e places + max_operands ≤ bound → suc (max_operands + first_home entry e places) ≤ bound → call_end (homes_end entry e places) (place entry e places) tail a ≤ bound
+  pub call_within : (bound : ℕ) → homes_end entry e places + max_operands ≤ bound → suc (max_operands + first_home entry e places) ≤ bound
+      → call_end (homes_end entry e places) (place entry e places) tail a ≤ bound
   call_within bound homes slots =
       let reach = call_reach in
       let f = spare.asides_few used low lives (λ x. x < length places) (lives_before entry e places) (first_low entry e places room) tail a reads in

@@ -64,7 +64,8 @@ module _ (lives : ℕ → Place) where
   moves_whole end tail a args operands count first to spare free steps moves ea eo ec et es ef er em ms =
       let n : count ≡ suc (length a.operands) = omega (arith, ec, eo) in
       let to_is : to ≡ targets tail (suc (length a.operands)) = et ∙ ap (targets tail) n in
-      let spare_is : spare ≡ spare_registers (call_arguments lives a) (targets tail (suc (length a.operands))) = es ∙ (ap (λ ts. spare_registers ts to) ea ∙ ap (spare_registers (call_arguments lives a)) to_is) in
+      let spare_is : spare ≡ spare_registers (call_arguments lives a) (targets tail (suc (length a.operands))) =
+      es ∙ (ap (λ ts. spare_registers ts to) ea ∙ ap (spare_registers (call_arguments lives a)) to_is) in
       let first_is : first ≡ first_temporary end (length a.operands) = ef ∙ ap (first_temporary end) eo in
       ms ∙ ap (map (move_of (arguments_at lives a)))
       (em ∙ (ap (λ ts. made ts to free) ea ∙ (ap (λ to. made (call_arguments lives a) to free) to_is ∙ ap (made (call_arguments lives a) (targets tail (suc (length a.operands))))

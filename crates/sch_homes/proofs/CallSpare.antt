@@ -43,7 +43,7 @@ slot_target tail (suc (suc (suc zero))) le = absurd (omega (arith, le))
 slot_target tail (suc (suc (suc (suc zero)))) le = absurd (omega (arith, le))
 slot_target tail (suc (suc (suc (suc (suc zero))))) le = absurd (omega (arith, le))
 slot_target tail (suc (suc (suc (suc (suc (suc zero)))))) le = absurd (omega (arith, le))
-slot_target true (suc (suc (suc (suc (suc (suc (suc k))))))) le = (suc (suc (suc (suc (suc (suc k))))) - 6, (refl, inl (refl, omega arith)))
+slot_target true (suc (suc (suc (suc (suc (suc (suc k))))))) le = (k, (refl, inl (refl, omega arith)))
 slot_target false (suc (suc (suc (suc (suc (suc (suc k))))))) le = (next_frame + (suc (suc (suc (suc (suc (suc k))))) - 6), (refl, inr (omega arith)))
 
 -- a slot behind those that a tail call hands over in, and before those of the next frame, is none
@@ -73,7 +73,7 @@ target_off tail (suc (suc (suc (suc (suc (suc zero)))))) m operands lt le low = 
   by : (tail : Bool) → same_place (target tail next_frame 6) (Slot m) ≡ false
   by true = refl
   by false = refl
-target_off true (suc (suc (suc (suc (suc (suc (suc k))))))) m operands lt le low = ne_eqb (suc (suc (suc (suc (suc (suc k))))) - 6) m (λ e. omega (arith, e, lt, le))
+target_off true (suc (suc (suc (suc (suc (suc (suc k))))))) m operands lt le low = ne_eqb k m (λ e. omega (arith, e, lt, le))
 target_off false (suc (suc (suc (suc (suc (suc (suc k))))))) m operands lt le low = ne_eqb (next_frame + (suc (suc (suc (suc (suc (suc k))))) - 6)) m (λ e. omega (arith, e, low))
 
 module _ (tail : Bool) (count : ℕ) where

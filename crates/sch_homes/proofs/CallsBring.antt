@@ -110,7 +110,10 @@ module _ (entry : Option Entry) (e : Expression) (places : List Place) (room : H
       test = is_spare (call_arguments lives a) (call_targets tail a)
 
       less : u < suc (length a.operands)
-      less = let n = spare.free_many end (first_home entry e places) lives Low (lives_before entry e places) first_low tail a reads in let m = spare.args_count end (first_home entry e places) lives Low (lives_before entry e places) first_low tail a reads in omega (arith, lt, n, m)
+      less =
+          let n = spare.free_many end (first_home entry e places) lives Low (lives_before entry e places) first_low tail a reads in
+          let m = spare.args_count end (first_home entry e places) lives Low (lives_before entry e places) first_low tail a reads in
+          omega (arith, lt, n, m)
 
       at : place_at free u ≡ temporary (spare_registers (call_arguments lives a) (call_targets tail a)) first u
       at = spare.free_at end (first_home entry e places) lives Low (lives_before entry e places) first_low tail a reads u less
@@ -151,7 +154,9 @@ module _ (entry : Option Entry) (e : Expression) (places : List Place) (room : H
           omega (arith, lt, n, m, f)
 
     target_at : (k : ℕ) → k < length (call_arguments lives a) → place_at (call_targets tail a) k ≡ target tail next_frame k
-    target_at k lt = let m = spare.args_count end (first_home entry e places) lives Low (lives_before entry e places) first_low tail a reads in spare.target_at tail (suc (length a.operands)) k (omega (arith, lt, m))
+    target_at k lt =
+        let m = spare.args_count end (first_home entry e places) lives Low (lives_before entry e places) first_low tail a reads in
+        spare.target_at tail (suc (length a.operands)) k (omega (arith, lt, m))
 
     pub brings : (Free : Place → Type 0) → ((p : Place) → IsAmong (call_free (homes_end entry e places) (place entry e places) tail a) p → Free p) → Brings (homes_plan entry e places) tail Free a
     brings Free f = record {

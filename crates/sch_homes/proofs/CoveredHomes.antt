@@ -20,7 +20,8 @@ use Rattle.sch_layout.specs.BodyLayout.{Plan, arrived, under}
 use Rattle.sch_layout.proofs.EntryCopies.{entering_has, spill_has}
 use Rattle.sch_layout.proofs.layouts.CoveredSlots.{covered_steers, covered_unplaced, lay_begins, parts_covered}
 use Rattle.sch_layout.proofs.layouts.InstructionTests.{Passes, Steers, Unplaced, entering_passes, lay_passes, unplaced_carries}
-use Rattle.sch_layout.proofs.layouts.SettledSlots.{few_fields, last_may, low_steers, low_unplaced, may_wait, parts_low, parts_plain, parts_stand, plain_steers, plain_unplaced, stand_steers, stand_unplaced}
+use Rattle.sch_layout.proofs.layouts.SettledSlots.{few_fields, last_may, low_steers, low_unplaced, may_wait, parts_low, parts_plain}
+use Rattle.sch_layout.proofs.layouts.SettledSlots.{parts_stand, plain_steers, plain_unplaced, stand_steers, stand_unplaced}
 use Rattle.sch_paths.proofs.paths.UnlistedPaths.{positioned_erased}
 use Rattle.sch_homes.specs.Homes.{homes_code, homes_plan, place}
 use Rattle.sch_homes.specs.Laws.{IsPlaced}
@@ -59,7 +60,14 @@ module _ (c : control.Code) (e : Expression) (places : List Place) (p : IsPlaced
       let parts = and_parts (has_covered_formals c.entry) (is_covered c.expression) covered in
       and_from _ _ parts.0
       (and_from _ _ (passes is_covered_instruction covered_steers covered_unplaced (parts_covered plan (homes_takes c.entry e places) e (sym (covered_erased e) ∙ (ap is_covered p.body ∙ parts.1))))
-      (and_from _ _ (passes instruction_low low_steers low_unplaced (parts_low plan (homes_takes c.entry e places) (fields_of c.entry) (few_fields c.entry (and_parts (entry_shaped c.entry) (shaped c.expression) p.shaped).0) e (sym (each_erased _ e) ∙ (ap (fields_there (fields_of c.entry)) p.body ∙ p.fields))))
+      (and_from _ _ (passes instruction_low low_steers low_unplaced
+      (parts_low plan (homes_takes c.entry e places) (fields_of c.entry)
+      (few_fields c.entry (and_parts (entry_shaped c.entry) (shaped c.expression) p.shaped).0) e
+      (sym (each_erased _ e) ∙ (ap (fields_there (fields_of c.entry)) p.body ∙ p.fields))))
       (and_from _ _ (passes (may_stand (is_form c.entry)) (stand_steers (is_form c.entry)) (stand_unplaced (is_form c.entry))
-      (parts_stand plan (homes_takes c.entry e places) (is_form c.entry) e (last_position c.entry) (last_may c.entry) (sym (positioned_erased e (last_position c.entry)) ∙ (ap (λ z. positioned z (last_position c.entry)) p.body ∙ (and_parts (is_bare c.expression) _ ends).1))))
-      (and_from _ _ (passes plain_instruction plain_steers plain_unplaced (parts_plain plan (homes_takes c.entry e places) e)) (may_wait (homes_code c.entry e places).instructions homes_begin (settled Other (homes_code c.entry e places).instructions stand))))))
+      (parts_stand plan (homes_takes c.entry e places) (is_form c.entry) e (last_position c.entry) (last_may c.entry)
+      (sym (positioned_erased e (last_position c.entry))
+      ∙ (ap (λ z. positioned z (last_position c.entry)) p.body ∙ (and_parts (is_bare c.expression) _ ends).1))))
+      (and_from _ _ (passes plain_instruction plain_steers plain_unplaced (parts_plain plan (homes_takes c.entry e places) e))
+      (may_wait (homes_code c.entry e places).instructions homes_begin
+      (settled Other (homes_code c.entry e places).instructions stand))))))

@@ -59,20 +59,27 @@ homes_takes entry e places tail a =
     let l = length_operands (place entry e places) (a.operator ∷ a.operands) in
     subst (EachMove (λ m. Taken (arguments_at (place entry e places) a) m.from)) (sym (moves_back os to (acts free (all_choices args to))))
     (each_act os to (λ m. Taken (arguments_at (place entry e places) a) m.from) (λ p. Unit {0})
-    (λ k lt. inl (k, argument_there os k (omega (arith, lt, many, l)))) (λ k p lt t. inl (k, argument_there os k (omega (arith, lt, many, l)))) (λ k p q lt t s. inr (p, refl)) (λ k p lt t. inr (p, refl))
+    (λ k lt. inl (k, argument_there os k (omega (arith, lt, many, l))))
+    (λ k p lt t. inl (k, argument_there os k (omega (arith, lt, many, l)))) (λ k p q lt t s. inr (p, refl)) (λ k p lt t. inr (p, refl))
     (acts free (all_choices args to)) (acts_used args to free (λ p. Unit {0}) (λ v lt. tt)))
 
 pub frame_does : (c : control.Code) (e : Expression) (places : List Place) → IsPlaced c e places → EachSoonRestored e → FrameOf c (homes_code c.entry e places)
 frame_does c e places p soon = record {
   entry = refl;
   does = λ callee callee' follow depth self arguments l s marks marks'.
-      subst (λ r. EndsAs r (execute_each callee' depth (entering (homes_plan c.entry e places) c.entry (lay (homes_plan c.entry e places) e no_region 0 None [])) None (beginning c.entry self arguments) (world s marks')))
-      (sym (subst (λ z. do_body plain callee depth z (control_run.beginning c.entry self arguments) (world s marks) ≡ do_body (silent (λ x. is_slot ((homes_plan c.entry e places).place x))) callee depth e (control_run.beginning c.entry self arguments) (world s marks)) p.body
-      (silently (λ x. is_slot ((homes_plan c.entry e places).place x)) callee depth no_region e (soon_saved (λ x. is_slot ((homes_plan c.entry e places).place x)) e p.saved soon fresh) (soon_restored (λ x. is_slot ((homes_plan c.entry e places).place x)) e soon) fresh (control_run.beginning c.entry self arguments) (world s marks))))
+      subst (λ r. EndsAs r (execute_each callee' depth (entering (homes_plan c.entry e places) c.entry
+      (lay (homes_plan c.entry e places) e no_region 0 None [])) None (beginning c.entry self arguments) (world s marks')))
+      (sym (subst (λ z. do_body plain callee depth z (control_run.beginning c.entry self arguments) (world s marks)
+      ≡ do_body (silent (λ x. is_slot ((homes_plan c.entry e places).place x))) callee depth e (control_run.beginning c.entry self arguments) (world s marks)) p.body
+      (silently (λ x. is_slot ((homes_plan c.entry e places).place x)) callee depth no_region e
+      (soon_saved (λ x. is_slot ((homes_plan c.entry e places).place x)) e p.saved soon fresh)
+      (soon_restored (λ x. is_slot ((homes_plan c.entry e places).place x)) e soon) fresh (control_run.beginning c.entry self arguments)
+      (world s marks))))
       (body_does (homes_plan c.entry e places) c.entry e (homes_placed c e places p).0 uses callee callee' follow depth self arguments l s marks marks');
   names = λ names h.
       entering_passes (homes_plan c.entry e places) (instruction_known names) (known_steers names) c.entry (λ x lt e. refl) _
-      (lay_passes (homes_plan c.entry e places) (instruction_known names) (known_steers names) (unplaced_carries (homes_plan c.entry e places) (instruction_known names) (known_steers names) (unplaced_known names)) e
+      (lay_passes (homes_plan c.entry e places) (instruction_known names) (known_steers names)
+      (unplaced_carries (homes_plan c.entry e places) (instruction_known names) (known_steers names) (unplaced_known names)) e
       (parts_named (homes_plan c.entry e places) (homes_takes c.entry e places) names e (sym (each_erased _ e) ∙ (ap (each_part _) p.body ∙ h))) no_region 0 None [] refl);
 } where
   fresh : Fresh e nothing_later

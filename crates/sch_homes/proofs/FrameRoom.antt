@@ -56,7 +56,8 @@ count_shift test (suc n) = by (test (suc n)) (test 0) (count_shift test n) where
 count_more : (test other : ℕ → Bool) → ((x : ℕ) → test x ≡ true → other x ≡ true) → (n : ℕ) → count_below test n ≤ count_below other n
 count_more test other f zero = omega arith
 count_more test other f (suc n) = by (test n) (other n) refl refl (count_more test other f n) where
-  by : (t r : Bool) → test n ≡ t → other n ≡ r → count_below test n ≤ count_below other n → cond t (suc (count_below test n)) (count_below test n) ≤ cond r (suc (count_below other n)) (count_below other n)
+  by : (t r : Bool) → test n ≡ t → other n ≡ r → count_below test n ≤ count_below other n
+      → cond t (suc (count_below test n)) (count_below test n) ≤ cond r (suc (count_below other n)) (count_below other n)
   by true true e i le = omega (arith, le)
   by true false e i le = absurd (let h = sym i ∙ f n e in cc)
   by false true e i le = omega (arith, le)
@@ -159,7 +160,9 @@ module _ (c : control.Code) (e : Expression) (places : List Place) (p : IsPlaced
         let behind : 2 + (length argument_registers + k) ≡ 2 + length argument_registers + k = omega arith in
         let past : suc (suc (suc (suc (suc (suc k))))) ≡ length argument_registers + k = omega arith in
         subst (λ n. is_slot (place_of places n) ≡ true) behind
-        (in_slot_by k (place_of places (2 + (length argument_registers + k))) (subst (λ n. stays (arrival n) (place_of places (2 + (length argument_registers + k))) ≡ true) (sym past) (p.formals (length argument_registers + k) (omega (arith, lt)))))
+        (in_slot_by k (place_of places (2 + (length argument_registers + k)))
+        (subst (λ n. stays (arrival n) (place_of places (2 + (length argument_registers + k))) ≡ true) (sym past)
+        (p.formals (length argument_registers + k) (omega (arith, lt)))))
 
     by : (t : Bool) → nat_lt (length argument_registers) (formals_of c.entry) ≡ t → late_slots c.entry ≤ count_slots places
     by true h =

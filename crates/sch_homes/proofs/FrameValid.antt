@@ -33,7 +33,9 @@ use Rattle.sch_layout.proofs.EachCall.{EachCall, both_calls, each_call}
 use Rattle.sch_layout.proofs.EntryCopies.{entering_has, spill_has}
 use Rattle.sch_layout.proofs.MovesHave.{Fits, is_target}
 use Rattle.sch_layout.proofs.does.OperationsFollow.{have_left, have_right}
-use Rattle.sch_layout.proofs.layouts.InstructionTests.{CallFits, Passes, calls_placed, entering_passes, lay_passes, not_both, operand_placed, parts_shaped, placed_steers, shaped_steers, slot_target, target_fits, unplaced_carries, unplaced_shaped}
+use Rattle.sch_layout.proofs.layouts.InstructionTests.{CallFits, Passes, calls_placed, entering_passes, lay_passes, not_both}
+use Rattle.sch_layout.proofs.layouts.InstructionTests.{operand_placed, parts_shaped, placed_steers, shaped_steers, slot_target}
+use Rattle.sch_layout.proofs.layouts.InstructionTests.{target_fits, unplaced_carries, unplaced_shaped}
 use Rattle.sch_layout.proofs.layouts.LabelsOnce.{Right, lay_below, right}
 use Rattle.sch_layout.proofs.marks.MarksStand.{laid_stands}
 use Rattle.sch_paths.proofs.paths.UnlistedPaths.{positioned_erased}
@@ -159,9 +161,15 @@ module _ (c : control.Code) (e : Expression) (places : List Place) (p : IsPlaced
 
       in_free : (v : ℕ) → v < length (asides_in (all_choices args to)) → v < length free
       in_free v lt =
-          let n = spare.free_many (homes_end c.entry e places) (first_home c.entry e places) lives Low (lives_before c.entry e places) (first_low c.entry e places (has_room c e places p)) tail a low in
-          let m = spare.args_count (homes_end c.entry e places) (first_home c.entry e places) lives Low (lives_before c.entry e places) (first_low c.entry e places (has_room c e places p)) tail a low in
-          let f = spare.asides_few (homes_end c.entry e places) (first_home c.entry e places) lives Low (lives_before c.entry e places) (first_low c.entry e places (has_room c e places p)) tail a low in
+          let n =
+          spare.free_many (homes_end c.entry e places) (first_home c.entry e places) lives Low (lives_before c.entry e places)
+          (first_low c.entry e places (has_room c e places p)) tail a low in
+          let m =
+          spare.args_count (homes_end c.entry e places) (first_home c.entry e places) lives Low (lives_before c.entry e places)
+          (first_low c.entry e places (has_room c e places p)) tail a low in
+          let f =
+          spare.asides_few (homes_end c.entry e places) (first_home c.entry e places) lives Low (lives_before c.entry e places)
+          (first_low c.entry e places (has_room c e places p)) tail a low in
           omega (arith, lt, n, m, f)
 
     to_fits : (k : ℕ) → k < length args → is_target next_frame words (place_at to k) ≡ true
@@ -240,7 +248,8 @@ module _ (c : control.Code) (e : Expression) (places : List Place) (p : IsPlaced
       right (homes_plan c.entry e places) e no_region 0 None [] (λ l h h'. refl) tt (record { once = refl; ahead = refl }) in
       let same : labels_in (homes_code c.entry e places).instructions ≡ labels_in (lay (homes_plan c.entry e places) e no_region 0 None []) =
       entering_has (homes_plan c.entry e places) (λ is. labels_in is ≡ labels_in (lay (homes_plan c.entry e places) e no_region 0 None [])) c.entry
-      (λ x lt n rest h. spill_has (λ m. labels_in (under m (Copy (place c.entry e places x) (arrived x)) rest) ≡ labels_in (lay (homes_plan c.entry e places) e no_region 0 None [])) (homes_plan c.entry e places) x h h) laid refl in
+      (λ x lt n rest h. spill_has (λ m. labels_in (under m (Copy (place c.entry e places x) (arrived x)) rest)
+      ≡ labels_in (lay (homes_plan c.entry e places) e no_region 0 None [])) (homes_plan c.entry e places) x h h) laid refl in
       let ahead : jumps_ahead (homes_code c.entry e places).instructions ≡ true = entering_has (homes_plan c.entry e places) (λ is. jumps_ahead is ≡ true) c.entry
       (λ x lt n rest h. spill_has (λ m. jumps_ahead (under m (Copy (place c.entry e places x) (arrived x)) rest) ≡ true) (homes_plan c.entry e places) x h h) laid r.ahead in
       and_from _ _

@@ -42,7 +42,8 @@ all_in kept [] f = refl
 all_in kept (x ∷ xs) f = and_from _ _ (f x (or_left (nat_eq x x) _ (same x))) (all_in kept xs (λ y h. f y (or_right (nat_eq y x) _ h)))
 
 -- where what the regions of an expression save is kept, and what regions round it save
-pub kept_in : (kept : ℕ → Bool) (e : Expression) (inside : ℕ → Bool) → ((x : ℕ) → is_saved e x ≡ true → kept x ≡ true) → ((x : ℕ) → inside x ≡ true → kept x ≡ true) → restores_saved e inside ≡ true → KeptIn kept e
+pub kept_in : (kept : ℕ → Bool) (e : Expression) (inside : ℕ → Bool) → ((x : ℕ) → is_saved e x ≡ true → kept x ≡ true)
+    → ((x : ℕ) → inside x ≡ true → kept x ≡ true) → restores_saved e inside ≡ true → KeptIn kept e
 kept_in kept (perform o) inside f g h = tt
 kept_in kept (bind y a b) inside f g h =
     let parts = and_parts (restores_saved a inside) _ h in
@@ -112,7 +113,8 @@ module _ (plan : Plan) (test : Instruction → Bool) (steers : Steers test) (kep
   lay_passes (return e) k p inside g n to rest h = lay_passes e k p inside g _ _ _ (and_from _ _ (steers.marks mark.Return refl) (and_from _ _ steers.return h))
   lay_passes (end e) k p inside g n to rest h = lay_passes e k p.1 inside g _ _ _ (and_from _ _ p.0 h)
   lay_passes (fix members e) k p inside g n to rest h =
-      and_from _ _ p.0 (stored_pass (filter inside (member_variables members)) (all_passing inside kept (member_variables members) g) (lay plan e inside n to rest) (lay_passes e k p.1 inside g n to rest h))
+      and_from _ _ p.0 (stored_pass (filter inside (member_variables members)) (all_passing inside kept (member_variables members) g)
+      (lay plan e inside n to rest) (lay_passes e k p.1 inside g n to rest h))
   lay_passes (call a restores) k p inside g n to rest h =
       p.0 _ (and_from _ _ (steers.marks (mark.Call a.site) refl) (and_from _ _ p.1 (loaded_pass restores k (leave to rest) (leave_pass plan test steers to rest h))))
   lay_passes (tail_call a) k p inside g n to rest h = p.0 _ (and_from _ _ (steers.marks (mark.Tail a.site) refl) (and_from _ _ p.1 h))

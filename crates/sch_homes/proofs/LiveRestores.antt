@@ -68,7 +68,8 @@ module _ {N : ℕ} where
   may_give_as (End' p e) r g = tt
   may_give_as (Save' saves p e) r g = may_give_as e r g
 
-  pub restores_live : (e : Exp (Restoring N)) (Met Met' : Type 0) (L M : Later) → (Met → Met') → ((x : ℕ) (t : Bool) → L x t → M x t) → LiveSets (restored_listed e) Met L → RestoresLive (restored e) Met' M
+  pub restores_live : (e : Exp (Restoring N)) (Met Met' : Type 0) (L M : Later) → (Met → Met') → ((x : ℕ) (t : Bool) → L x t → M x t)
+      → LiveSets (restored_listed e) Met L → RestoresLive (restored e) Met' M
   restores_live (Do o) Met Met' L M g f h = tt
   restores_live (Bind' y p a q b) Met Met' L M g f h = (
     restores_live a Met Met' (λ x t. Across y x (Live x (restored_listed b) (L x))) (λ x t. Across y x (Live x (restored b) (M x))) g

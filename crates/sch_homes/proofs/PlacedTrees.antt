@@ -53,7 +53,8 @@ module _ (entry : Option Entry) (whole : Expression) (places : List Place) (room
   perhaps_is_low L low x l = perhaps_low (length places) some x (L x) (low x) l
 
   -- what is restored is live then, and so it is alone in its place
-  restored_alone : (inside : ℕ → Bool) (Met : Type 0) (L : Later) → LowLater L → (Met → flow.Apart lives (λ x. Perhaps (L x))) → (xs : List ℕ) → list_all inside xs ≡ true → EachHas (λ x. Met × Perhaps (L x)) xs
+  restored_alone : (inside : ℕ → Bool) (Met : Type 0) (L : Later) → LowLater L → (Met → flow.Apart lives (λ x. Perhaps (L x)))
+      → (xs : List ℕ) → list_all inside xs ≡ true → EachHas (λ x. Met × Perhaps (L x)) xs
       → EachHas (λ x. (inside x ≡ true) × Alone (homes_plan entry whole places) (λ x. Perhaps (L x)) x) xs
   restored_alone inside Met L low apart [] i h = tt
   restored_alone inside Met L low apart (y ∷ ys) i h =
@@ -81,7 +82,8 @@ module _ (entry : Option Entry) (whole : Expression) (places : List Place) (room
   placed_tree (branch a b c) Met inside L u f low alone apart restores saved fresh =
       let parts = and_parts (restores_saved a inside) _ saved in
       let arms = and_parts (restores_saved b inside) _ parts.1 in (
-        placed_tree a Met inside (λ x t. MatchBool t (Live x b (L x)) (Live x c (L x))) u.0 f.0 (λ x t l. by x t (live_is_low b L u.1.0 low x) (live_is_low c L u.1.1 low x) l) alone.0 apart.0 restores.0 parts.0 fresh.0,
+        placed_tree a Met inside (λ x t. MatchBool t (Live x b (L x)) (Live x c (L x))) u.0 f.0
+            (λ x t l. by x t (live_is_low b L u.1.0 low x) (live_is_low c L u.1.1 low x) l) alone.0 apart.0 restores.0 parts.0 fresh.0,
         (
           placed_tree b (Met × MayGive a true) inside L u.1.0 f.1.0 low alone.1.0 apart.1.0 restores.1.0 arms.0 fresh.1.0,
           placed_tree c (Met × MayGive a false) inside L u.1.1 f.1.1 low alone.1.1 apart.1.1 restores.1.1 arms.1 fresh.1.1,

@@ -140,7 +140,8 @@ module _ (os : List (Operand Place)) (targets : List Place) where
     within T (across k p q) h = h.0
     within T (onward k p) h = h.0
 
-    all_carry : (T : Place → Type 0) (start : Contents) (list : List Act) (c : Contents) → AllByRecursion (IsAct args T) list → EachBrings targets given start c list → Carries t os start c (map act_move list)
+    all_carry : (T : Place → Type 0) (start : Contents) (list : List Act) (c : Contents) → AllByRecursion (IsAct args T) list
+        → EachBrings targets given start c list → Carries t os start c (map act_move list)
     all_carry T start [] c each h = tt
     all_carry T start (a ∷ list) c each h =
         let lt = within T a each.0 in

@@ -109,7 +109,9 @@ module _ (test : Place → Bool) (first : ℕ) where
   once : (u v : ℕ) → temporary spare first u ≡ temporary spare first v → u ≡ v
   once u v e = by (is_temporary u) (is_temporary v) where
     by : IsTemporary u → IsTemporary v → u ≡ v
-    by (register r i t h) (register q j s k) = apart_once spare (filter_apart test (map Reg argument_registers) registers_apart) u v (Reg r) (Reg q) i j (sym (at_register u r i) ∙ (e ∙ at_register v q j))
+    by (register r i t h) (register q j s k) =
+        apart_once spare (filter_apart test (map Reg argument_registers) registers_apart) u v (Reg r) (Reg q) i j
+        (sym (at_register u r i) ∙ (e ∙ at_register v q j))
     by (register r i t h) (slot le j) = absurd (let bad = sym (at_register u r i) ∙ (e ∙ at_slot v j) in cc)
     by (slot le i) (register q j s k) = absurd (let bad = sym (at_slot u i) ∙ (e ∙ at_register v q j) in cc)
     by (slot le i) (slot more j) =

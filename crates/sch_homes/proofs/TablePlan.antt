@@ -6,7 +6,7 @@ use Rattle.std.proofs.lemmas.Bool.{ltb-false, ltb-true}
 use Rattle.std.proofs.lemmas.Option.{slice_get_past}
 use Rattle.sch_word.specs.declared.place.Place.{Place}
 use Rattle.sch_word.specs.declared.place.Place.TheVariants.{Slot}
-use Rattle.sch_word.proofs.facts.Booleans.{or_false}
+use Rattle.sch_word.proofs.facts.Booleans.{or_right_false}
 use Rattle.sch_word.proofs.facts.Lists.{get_front, get_seam}
 use Rattle.sch_control.specs.declared.body.Entry.{Entry}
 use Rattle.sch_control.specs.Tree.{Expression}
@@ -80,7 +80,7 @@ module _ (entry : Option Entry) (e : Expression) (places : List Place) where
   -- where a set that was empty has gained what is saved, a test of the set is the test for a home
   pub homes_by : (saved old : ℕ → Bool) → ((x : ℕ) → saved x ≡ (is_saved e x || old x)) → ((x : ℕ) → old x ≡ false)
       → (λ x. in_register (slice_get places x) && saved x) ≡ has_home entry e places
-  homes_by saved old h none = fun_ext (λ x. ap (λ b. in_register (slice_get places x) && b) (h x ∙ ap (λ b. is_saved e x || b) (none x) ∙ or_false (is_saved e x)))
+  homes_by saved old h none = fun_ext (λ x. ap (λ b. in_register (slice_get places x) && b) (h x ∙ ap (λ b. is_saved e x || b) (none x) ∙ or_right_false (is_saved e x)))
 
   -- with homes from behind the slots on, the table and the size of the frame are those of the body
   pub room_is : (late first end words : ℕ) (read : List Place) (saved : ℕ → Bool) (homes : List (Option ℕ))

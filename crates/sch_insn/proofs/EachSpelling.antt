@@ -1,6 +1,6 @@
 -- The spellings that GNU as 2.40 gives for instructions of every form, with registers and operands of every
 -- kind, and bytes that are no instruction of the table.
-use Rattle.std.proofs.Common.{◌≡◌, ℕ, [], ◌∷◌, Option, Some, None, refl}
+use Rattle.std.proofs.Common.{◌≡◌, ℕ, [], ◌∷◌, Option, None, refl}
 use Rattle.std.specs.Prelude.{pos, negsuc}
 use Rattle.sch_insn.specs.declared.insn.Arg.TheVariants.{Reg, Base, Base8, Base32, Rip}
 use Rattle.sch_insn.specs.declared.insn.Insn.{Insn}
@@ -9,6 +9,7 @@ use Rattle.sch_insn.specs.declared.register.TheConstants.{RAX, RCX, RBX, RSP, RB
 use Rattle.sch_insn.specs.declared.condition.TheConstants.{O, NO, B, AE, E, NE, BE, A, S, NS, L, GE, LE, G}
 use Rattle.sch_insn.specs.Spelling.{spelling}
 use Rattle.sch_insn.specs.Decode.{operand_of, wide_of, narrow_of, long_of, rexed_of, escaped_of, decode}
+use Rattle.sch_insn.proofs.OnAnswer.{answer}
 
 spelled :
     (spelling (MovTo (Reg RAX) RAX) ≡ 0x48 ∷ 0x89 ∷ 0xC0 ∷ [])
@@ -154,19 +155,16 @@ short_jumps :
     × (spelling (JumpIf8 G (pos 8)) ≡ 0x7F ∷ 0x08 ∷ [])
 short_jumps = (refl, refl, refl, refl, refl, refl, refl, refl, refl, refl, refl, refl, refl, refl, refl, refl, refl)
 
-abbrev read : Insn → ℕ → Option (Insn × ℕ)
-read i n = Some (i, n)
-
 -- A number in one byte and in four: two instructions, each read as itself.
 both_read :
-    (decode (0x48 ∷ 0x83 ∷ 0xF8 ∷ 0x80 ∷ []) ≡ read (CmpNumber8 (Reg RAX) (negsuc 127)) 4)
-    × (decode (0x48 ∷ 0x81 ∷ 0xF8 ∷ 0x80 ∷ 0xFF ∷ 0xFF ∷ 0xFF ∷ []) ≡ read (CmpNumber (Reg RAX) (negsuc 127)) 7)
-    × (decode (0x4D ∷ 0x8B ∷ 0x4C ∷ 0x24 ∷ 0xF8 ∷ 0xFF ∷ 0xFF ∷ 0xFF ∷ []) ≡ read (MovFrom R9 (Base8 R12 (negsuc 7))) 5)
-    × (decode (0x4D ∷ 0x8B ∷ 0x8C ∷ 0x24 ∷ 0xF8 ∷ 0xFF ∷ 0xFF ∷ 0xFF ∷ []) ≡ read (MovFrom R9 (Base32 R12 (negsuc 7))) 8)
-    × (decode (0xEB ∷ 0x80 ∷ 0xFF ∷ 0xFF ∷ 0xFF ∷ []) ≡ read (Jump8 (negsuc 127)) 2)
-    × (decode (0xE9 ∷ 0x80 ∷ 0xFF ∷ 0xFF ∷ 0xFF ∷ []) ≡ read (Jump (negsuc 127)) 5)
-    × (decode (0x7C ∷ 0x7F ∷ []) ≡ read (JumpIf8 L (pos 127)) 2)
-    × (decode (0x0F ∷ 0x8C ∷ 0x7F ∷ 0x00 ∷ 0x00 ∷ 0x00 ∷ []) ≡ read (JumpIf L (pos 127)) 6)
+    (decode (0x48 ∷ 0x83 ∷ 0xF8 ∷ 0x80 ∷ []) ≡ answer (CmpNumber8 (Reg RAX) (negsuc 127)) 4)
+    × (decode (0x48 ∷ 0x81 ∷ 0xF8 ∷ 0x80 ∷ 0xFF ∷ 0xFF ∷ 0xFF ∷ []) ≡ answer (CmpNumber (Reg RAX) (negsuc 127)) 7)
+    × (decode (0x4D ∷ 0x8B ∷ 0x4C ∷ 0x24 ∷ 0xF8 ∷ 0xFF ∷ 0xFF ∷ 0xFF ∷ []) ≡ answer (MovFrom R9 (Base8 R12 (negsuc 7))) 5)
+    × (decode (0x4D ∷ 0x8B ∷ 0x8C ∷ 0x24 ∷ 0xF8 ∷ 0xFF ∷ 0xFF ∷ 0xFF ∷ []) ≡ answer (MovFrom R9 (Base32 R12 (negsuc 7))) 8)
+    × (decode (0xEB ∷ 0x80 ∷ 0xFF ∷ 0xFF ∷ 0xFF ∷ []) ≡ answer (Jump8 (negsuc 127)) 2)
+    × (decode (0xE9 ∷ 0x80 ∷ 0xFF ∷ 0xFF ∷ 0xFF ∷ []) ≡ answer (Jump (negsuc 127)) 5)
+    × (decode (0x7C ∷ 0x7F ∷ []) ≡ answer (JumpIf8 L (pos 127)) 2)
+    × (decode (0x0F ∷ 0x8C ∷ 0x7F ∷ 0x00 ∷ 0x00 ∷ 0x00 ∷ []) ≡ answer (JumpIf L (pos 127)) 6)
 unfolding operand_of wide_of narrow_of long_of rexed_of escaped_of
 both_read = (refl, refl, refl, refl, refl, refl, refl, refl)
 

@@ -1,7 +1,12 @@
 -- What holds of an answer, where there is one: lemmas that follow a definition made of `cond` and
 -- `when_some`, branch by branch.
-use Rattle.std.proofs.Common.{◌≡◌, Bool, true, false, cond, Option, Some, None, refl, subst}
+use Rattle.std.proofs.Common.{◌≡◌, ℕ, Bool, true, false, cond, Option, Some, None, refl, subst}
 use Rattle.sch_word.specs.values.Options.{when_some}
+use Rattle.sch_insn.specs.declared.insn.Insn.{Insn}
+
+-- the answer that is an instruction, with how many bytes it has
+abbrev pub answer : Insn → ℕ → Option (Insn × ℕ)
+answer i n = Some (i, n)
 
 pub record OnAnswer {A : Type 0} (P : A → Type 0) (o : Option A) : Type 0 where
   pub by : (v : A) → o ≡ Some v → P v

@@ -16,6 +16,7 @@ use Rattle.sch_insn.specs.Spelling.{one_byte, four_bytes, eight_bytes, high_bit,
 use Rattle.sch_insn.specs.Decode.{number_of_1, number_of_4, number_of_8, sib_size, arg_of, operand_of, count_of, wide_of, narrow_of, long_of, whole_word_of, full_of, rexed_of, is_jump_if, escaped_of, decode}
 use Rattle.sch_word.specs.values.Options.{when_some}
 use Rattle.sch_insn.proofs.Lists.{drop_1}
+use Rattle.sch_insn.proofs.OnAnswer.{answer}
 
 -- Tests of numbers, as `decode` makes them.
 pub not_below : (a b : ℕ) → b ≤ a → nat_lt a b ≡ false
@@ -179,9 +180,6 @@ wide_read op m r rest e1 e2 e3 h hr =
     ∙ last_branch (op / 8 == 23) (op == 153) (op == 15) _ _ _ _ e1 e2 e3
     ∙ ap (λ o. when_some o (λ p. wide_of op p.0 p.1 (p.2 + 2) (drop (p.2 + 1) (op ∷ bs)))) (operand_read m r rest h)
     ∙ ap (λ l. wide_of op r m (k + 2) l) (drop_1 k op bs ∙ drop_at (operand r m) rest k refl)
-
-abbrev answer : Insn → ℕ → Option (Insn × ℕ)
-answer i n = Some (i, n)
 
 sized : (i : Insn) {a b : ℕ} → a ≡ b → answer i a ≡ answer i b
 sized i e = ap (answer i) e

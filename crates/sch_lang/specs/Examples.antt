@@ -5,7 +5,7 @@ use Rattle.sch_word.specs.declared.primitive.Primitive.{Primitive}
 use Rattle.sch_word.specs.declared.primitive.Primitive.TheVariants.{Eq, Cons, Car, Cdr, SetCar, Add, Subtract, Quotient, Modulo, Equal, StringSet, MakeVector, VectorRef, Put, SymbolLength}
 use Rattle.sch_word.specs.values.Literals.{text, list, elements, no_literals, and_literal}
 use Rattle.sch_word.specs.values.Literals as literals
-use Rattle.sch_word.specs.runs.Runs.{Run, ended, going}
+use Rattle.sch_word.specs.runs.Runs.{Run, going}
 use Rattle.sch_word.specs.runs.Orders.{in_text_order}
 use Rattle.sch_lang.specs.Tree.{Expression, constant, literal, local, global, set_local, set_global, define, branch, sequence, bind, fix, letrec, lambda, call, operation, no_lambdas, and_lambda, expressions, Source}
 use Rattle.sch_lang.specs.Run.{run}

@@ -26,7 +26,7 @@ use Rattle.sch_control.specs.Tree as control
 use Rattle.sch_control.specs.Meaning.{Callee, Environment, Result, World, do_body, no_region}
 use Rattle.sch_control.specs.Tree.{Expression, perform, bind, sequence, branch, fix, call, tail_call, return, end, save}
 use Rattle.sch_control.specs.Valid as control_valid
-use Rattle.sch_control.proofs.Examples.{applied, form, held_in, lambda, number, program, seen, straight_program}
+use Rattle.sch_control.proofs.Examples.{applied, form, held_in, lambda, number, program, seen, straight_program, value_and_marks}
 use Rattle.sch_frames.specs.declared.instruction.Instruction.{Instruction}
 use Rattle.sch_frames.specs.declared.instruction.Instruction.TheVariants.{Do, Store, Copy, Pass, Fix, Call, Tail, Return, End, IfFalse, Jump, Label, Mark}
 use Rattle.sch_frames.specs.Covered.{is_covered_code, is_covered_program, each_begins}
@@ -295,14 +295,10 @@ layout_does callee e = execute_each callee 1 (lay placed e no_region 0 None []) 
 abbrev wrong_both : Expression → Type 0
 wrong_both e = (body_does gives_nothing e ≡ None) × (layout_does gives_nothing e ≡ None)
 
--- the value that a body gives, and the marks
-abbrev pub given : Result → Option (Value × List MarkKind)
-given (Some (gives v w)) = Some (v, w.marks)
-given r = None
-
 -- the body has the marks of calls and returns alone
 abbrev given_both : Callee → Expression → Value → (marks laid : List MarkKind) → Type 0
-given_both callee e v marks laid = (given (body_does callee e) ≡ Some (v, marks)) × (given (layout_does callee e) ≡ Some (v, laid))
+given_both callee e v marks laid =
+    (value_and_marks (body_does callee e) ≡ Some (v, marks)) × (value_and_marks (layout_does callee e) ≡ Some (v, laid))
 
 abbrev only_call : List MarkKind
 only_call = mark.Call 0 ∷ mark.Return ∷ []

@@ -22,7 +22,7 @@ use Rattle.sch_control.specs.Operations.{Procedure, operand_value}
 use Rattle.sch_control.specs.Valid.{member_variables}
 use Rattle.sch_word.specs.trees.NumberSets.{has}
 use Rattle.sch_control.specs.Tree.{Expression, perform, bind, fix, call, return, save}
-use Rattle.sch_control.proofs.Examples.{applied, held_in, number}
+use Rattle.sch_control.proofs.Examples.{applied, held_in, number, value_and_marks}
 use Rattle.sch_frames.specs.declared.instruction.Instruction.TheVariants.{Do, Store, Copy, Call, Return, Mark}
 use Rattle.sch_frames.specs.Does.{EndsAs, CalleesFollow, world}
 use Rattle.sch_frames.specs.Meaning.{Frame, execute_each}
@@ -34,7 +34,7 @@ use Rattle.sch_control.proofs.VariableLists.{each_at}
 use Rattle.sch_layout.specs.SharedPlaces.{Arrives, Brings, FreeInCall, HomeApart, Homes, Placed}
 use Rattle.sch_layout.proofs.does.LayoutDoes.{Kept, same}
 use Rattle.sch_layout.proofs.does.PlacesAgree.{Agrees}
-use Rattle.sch_layout.proofs.LayoutExamples.{begun, given, gives_first, holding, variables}
+use Rattle.sch_layout.proofs.LayoutExamples.{begun, gives_first, holding, variables}
 use Rattle.sch_layout.proofs.MoveExamples.{given_by}
 use Rattle.sch_layout.proofs.SlotPlan.{aside_moves}
 
@@ -183,10 +183,10 @@ abbrev five : Value
 five = constant_value (Fixnum (pos 5))
 
 abbrev body_gives : Expression → Option (Value × List MarkKind)
-body_gives e = given (do_body (unmarked_reading sharing) gives_first 1 e variables begun)
+body_gives e = value_and_marks (do_body (unmarked_reading sharing) gives_first 1 e variables begun)
 
 abbrev layout_gives : Expression → Option (Value × List MarkKind)
-layout_gives e = given (execute_each gives_first 1 (lay sharing e no_region 0 None []) None holding begun)
+layout_gives e = value_and_marks (execute_each gives_first 1 (lay sharing e no_region 0 None []) None holding begun)
 
 shared_rows :
     (body_gives one_after_the_other ≡ Some (five, mark.Call 0 ∷ mark.Return ∷ []))

@@ -1,8 +1,9 @@
 -- Where the arguments of a call go: each to a place of its own.
 use Rattle.std.proofs.Common.{◌≡◌, ◌≢◌, ℕ, zero, suc, ◌+◌, Option, Some, None, Bool, true, false, cond, refl, sym, ap, ◌∙◌, subst, arith}
-use Rattle.std.specs.Prelude.{nat_eq}
+use Rattle.std.specs.Prelude.{◌-◌, nat_eq}
 use Rattle.std.proofs.lemmas.Bool.{ne_eqb}
-use Rattle.sch_word.specs.declared.place.Place.TheVariants.{Reg}
+use Rattle.sch_word.specs.declared.place.Place.TheVariants.{Reg, Slot}
+use Rattle.sch_control.specs.flow.Places.{arrival}
 use Rattle.sch_frames.specs.Meaning.{argument_register, argument_slot}
 use Rattle.sch_word.specs.values.Places.{same_place}
 use Rattle.sch_frames.proofs.FramePlaces.{slot_of}
@@ -35,13 +36,27 @@ not_closure = each_register (λ k r. nat_eq r 14 ≡ false) refl refl refl refl 
 not_closure' : (k r : ℕ) → argument_register k ≡ Some r → nat_eq 14 r ≡ false
 not_closure' = each_register (λ k r. nat_eq 14 r ≡ false) refl refl refl refl refl refl
 
+-- an operand arrives in the register that it is handed over in, or else in its slot
+pub arrival_by : (k : ℕ) → arrival k ≡ in_either (argument_register k) (argument_slot k)
+arrival_by zero = refl
+arrival_by (suc zero) = refl
+arrival_by (suc (suc zero)) = refl
+arrival_by (suc (suc (suc zero))) = refl
+arrival_by (suc (suc (suc (suc zero)))) = refl
+arrival_by (suc (suc (suc (suc (suc zero))))) = refl
+arrival_by (suc (suc (suc (suc (suc (suc k)))))) = ap Slot behind where
+  behind : k ≡ suc (suc (suc (suc (suc (suc k))))) - 6
+  behind = omega arith
+
 -- where the slots of operands begin
 abbrev first_slot : (tail : Bool) → (limit : ℕ) → ℕ
 first_slot true limit = 0
 first_slot false limit = limit
 
 target_by : (tail : Bool) (limit k : ℕ) → target tail limit (suc k) ≡ in_either (argument_register k) (first_slot tail limit + argument_slot k)
-target_by true limit k = ap (in_either (argument_register k)) (omega arith)
+target_by true limit k = arrival_by k ∙ ap (in_either (argument_register k)) at_zero where
+  at_zero : argument_slot k ≡ first_slot true limit + argument_slot k
+  at_zero = omega arith
 target_by false limit k = refl
 
 pub targets_apart : (tail : Bool) (limit k m : ℕ) → k ≢ m → same_place (target tail limit k) (target tail limit m) ≡ false

@@ -21,6 +21,7 @@ use Rattle.sch_control.specs.declared.operation.Application.{Application}
 use Rattle.sch_control.specs.Meaning.{Reading, heads, with_region}
 use Rattle.sch_control.specs.Tree.{Expression, perform, bind, sequence, branch, fix, call, tail_call, return, end, save}
 use Rattle.sch_control.specs.Valid.{member_variables}
+use Rattle.sch_control.specs.flow.Places.{arrival}
 use Rattle.sch_frames.specs.declared.instruction.Instruction.{Instruction}
 use Rattle.sch_frames.specs.declared.instruction.Instruction.TheVariants.{Do, Store, Copy, Pass, Fix, Call, Tail, Return, End, IfFalse, Jump, Label, Mark}
 use Rattle.sch_layout.specs.Moves.{Move}
@@ -104,10 +105,6 @@ module _ (place : ℕ → Place) where
 abbrev pub in_either : Option ℕ → ℕ → Place
 in_either (Some r) j = Reg r
 in_either None j = Slot j
-
--- where an argument arrives
-abbrev pub arrival : ℕ → Place
-arrival k = in_either (argument_register k) (argument_slot k)
 
 -- where argument k of a call is wanted: the operator, and then operands; the slots of the next frame begin at a limit
 abbrev pub target : (tail : Bool) → (limit : ℕ) → ℕ → Place

@@ -14,7 +14,7 @@ use Rattle.sch_lang.specs.View.{expression, expressions_of}
 use Rattle.sch_lang.proofs.ListViews.{expressions_of_list}
 use Rattle.sch_read.specs.Grammar.{Datum}
 use Rattle.sch_sketch.specs.declared.draft.Draft as code
-use Rattle.sch_names.specs.Scope.{Names}
+use Rattle.sch_names.specs.Scope.{VariableNames}
 use Rattle.sch_sketch.specs.Draft.{Draft, Drafts, branch, bind, letrec, call, operation, count}
 use Rattle.sch_sketch.specs.DraftMeasures.{size, size_each}
 use Rattle.sch_sketch.specs.DraftView.{draft_of, drafts_of}
@@ -53,16 +53,16 @@ module _ (own globals symbols : List (List ℕ)) (v : Option (List ℕ)) {d : Dr
       z ≡ numbered own globals symbols None c s2 l2 → q ≡ numbered own globals symbols v d s l
   branch_made s1 l1 s2 l2 h m p i j q k n r = rw (h, m, p, q, r, k, n, i, j) refl
 
-  pub bind_made : {vs : Names} {es : Drafts} {e : Draft} {x : Expression} {xs : Expressions} (site s1 l1 s2 l2 : ℕ) → d ≡ bind vs es e → q ≡ tree.bind site xs x → site ≡ s → s1 ≡ s + 1 → l1 ≡ l →
+  pub bind_made : {vs : VariableNames} {es : Drafts} {e : Draft} {x : Expression} {xs : Expressions} (site s1 l1 s2 l2 : ℕ) → d ≡ bind vs es e → q ≡ tree.bind site xs x → site ≡ s → s1 ≡ s + 1 → l1 ≡ l →
       xs ≡ numbered_each own globals symbols vs es s1 l1 → s2 ≡ s1 + length (widths_of_each es) → l2 ≡ l1 + length (quotes_in_each es) → x ≡ numbered own globals symbols None e s2 l2 → q ≡ numbered own globals symbols v d s l
   bind_made site s1 l1 s2 l2 h m t i j p k n r = rw (h, m, t, p, r, k, n, i, j) refl
 
-  pub letrec_made : {vs : Names} {g group : Bool} {es : Drafts} {e : Draft} {x : Expression} {xs : Expressions} (site s1 l1 s2 l2 : ℕ) → d ≡ letrec vs g es e → q ≡ grouped group site xs x → group ≡ is_group g es e →
+  pub letrec_made : {vs : VariableNames} {g group : Bool} {es : Drafts} {e : Draft} {x : Expression} {xs : Expressions} (site s1 l1 s2 l2 : ℕ) → d ≡ letrec vs g es e → q ≡ grouped group site xs x → group ≡ is_group g es e →
       site ≡ s → s1 ≡ s + length (unless_group group (count es)) → l1 ≡ l → xs ≡ numbered_each own globals symbols vs es s1 l1 → s2 ≡ s1 + length (widths_of_each es) → l2 ≡ l1 + length (quotes_in_each es) →
       x ≡ numbered own globals symbols None e s2 l2 → q ≡ numbered own globals symbols v d s l
   letrec_made site s1 l1 s2 l2 h m w t i j p k n r = rw (h, m, t, p, r, k, n, i, j, w) refl
 
-  pub call_made : {vs : Names} {f : Draft} {es : Drafts} {x : Expression} {xs : Expressions} (site s1 l1 s2 l2 : ℕ) → d ≡ call vs f es → q ≡ tree.call site x xs → site ≡ s → s1 ≡ s + 1 → l1 ≡ l →
+  pub call_made : {vs : VariableNames} {f : Draft} {es : Drafts} {x : Expression} {xs : Expressions} (site s1 l1 s2 l2 : ℕ) → d ≡ call vs f es → q ≡ tree.call site x xs → site ≡ s → s1 ≡ s + 1 → l1 ≡ l →
       x ≡ numbered own globals symbols None f s1 l1 → s2 ≡ s1 + length (widths f) → l2 ≡ l1 + length (quotes_in f) → xs ≡ numbered_each own globals symbols vs es s2 l2 → q ≡ numbered own globals symbols v d s l
   call_made site s1 l1 s2 l2 h m t i j p k n r = rw (h, m, t, p, r, k, n, i, j) refl
 
@@ -76,16 +76,16 @@ module _ {d : Draft} (s : List ℕ) {s1 s2 s3 : List ℕ} where
   pub branch_sites : {a b c : Draft} → d ≡ branch a b c → s1 ≡ s ++ widths a → s2 ≡ s1 ++ widths b → s3 ≡ s2 ++ widths c → s3 ≡ s ++ widths d
   branch_sites {a} {b} {c} h p q r = rw h (then_sites s (widths a) (widths b ++ widths c) p (then_sites s1 (widths b) (widths c) q r))
 
-  pub bind_sites : {vs : Names} {es : Drafts} {e : Draft} {n : ℕ} → d ≡ bind vs es e → n ≡ count es → s1 ≡ s ++ n ∷ [] → s2 ≡ s1 ++ widths_of_each es → s3 ≡ s2 ++ widths e → s3 ≡ s ++ widths d
+  pub bind_sites : {vs : VariableNames} {es : Drafts} {e : Draft} {n : ℕ} → d ≡ bind vs es e → n ≡ count es → s1 ≡ s ++ n ∷ [] → s2 ≡ s1 ++ widths_of_each es → s3 ≡ s2 ++ widths e → s3 ≡ s ++ widths d
   bind_sites {es = es} {e} {n} h w p q r =
       rw h (subst (λ n. s3 ≡ s ++ n ∷ (widths_of_each es ++ widths e)) w (then_sites s (n ∷ []) (widths_of_each es ++ widths e) p (then_sites s1 (widths_of_each es) (widths e) q r)))
 
-  pub letrec_sites : {vs : Names} {g group : Bool} {es : Drafts} {e : Draft} {n : ℕ} → d ≡ letrec vs g es e → group ≡ is_group g es e → n ≡ count es → s1 ≡ s ++ unless_group group n → s2 ≡ s1 ++ widths_of_each es →
+  pub letrec_sites : {vs : VariableNames} {g group : Bool} {es : Drafts} {e : Draft} {n : ℕ} → d ≡ letrec vs g es e → group ≡ is_group g es e → n ≡ count es → s1 ≡ s ++ unless_group group n → s2 ≡ s1 ++ widths_of_each es →
       s3 ≡ s2 ++ widths e → s3 ≡ s ++ widths d
   letrec_sites {group = group} {es} {e} {n} h w k p q r =
       rw (h, sym w, sym k) (then_sites s (unless_group group n) (widths_of_each es ++ widths e) p (then_sites s1 (widths_of_each es) (widths e) q r))
 
-  pub call_sites : {vs : Names} {f : Draft} {es : Drafts} {n : ℕ} → d ≡ call vs f es → n ≡ count es → s1 ≡ s ++ suc n ∷ [] → s2 ≡ s1 ++ widths f → s3 ≡ s2 ++ widths_of_each es → s3 ≡ s ++ widths d
+  pub call_sites : {vs : VariableNames} {f : Draft} {es : Drafts} {n : ℕ} → d ≡ call vs f es → n ≡ count es → s1 ≡ s ++ suc n ∷ [] → s2 ≡ s1 ++ widths f → s3 ≡ s2 ++ widths_of_each es → s3 ≡ s ++ widths d
   call_sites {f = f} {es} {n} h w p q r =
       rw h (subst (λ n. s3 ≡ s ++ suc n ∷ (widths f ++ widths_of_each es)) w (then_sites s (suc n ∷ []) (widths f ++ widths_of_each es) p (then_sites s1 (widths f) (widths_of_each es) q r)))
 
@@ -98,13 +98,13 @@ module _ (f : Datum → Literal) {d : Draft} (s : List Literal) {s1 s2 s3 : List
   pub branch_literals : {a b c : Draft} → d ≡ branch a b c → s1 ≡ s ++ map f (quotes_in a) → s2 ≡ s1 ++ map f (quotes_in b) → s3 ≡ s2 ++ map f (quotes_in c) → s3 ≡ s ++ map f (quotes_in d)
   branch_literals {a} {b} {c} h p q r = rw h (then_literals f (quotes_in a) (quotes_in b ++ quotes_in c) s p (then_literals f (quotes_in b) (quotes_in c) s1 q r))
 
-  pub bind_literals : {vs : Names} {es : Drafts} {e : Draft} → d ≡ bind vs es e → s1 ≡ s → s2 ≡ s1 ++ map f (quotes_in_each es) → s3 ≡ s2 ++ map f (quotes_in e) → s3 ≡ s ++ map f (quotes_in d)
+  pub bind_literals : {vs : VariableNames} {es : Drafts} {e : Draft} → d ≡ bind vs es e → s1 ≡ s → s2 ≡ s1 ++ map f (quotes_in_each es) → s3 ≡ s2 ++ map f (quotes_in e) → s3 ≡ s ++ map f (quotes_in d)
   bind_literals {es = es} {e} h z p q = rw (h, sym z) (then_literals f (quotes_in_each es) (quotes_in e) s1 p q)
 
-  pub letrec_literals : {vs : Names} {g : Bool} {es : Drafts} {e : Draft} → d ≡ letrec vs g es e → s1 ≡ s → s2 ≡ s1 ++ map f (quotes_in_each es) → s3 ≡ s2 ++ map f (quotes_in e) → s3 ≡ s ++ map f (quotes_in d)
+  pub letrec_literals : {vs : VariableNames} {g : Bool} {es : Drafts} {e : Draft} → d ≡ letrec vs g es e → s1 ≡ s → s2 ≡ s1 ++ map f (quotes_in_each es) → s3 ≡ s2 ++ map f (quotes_in e) → s3 ≡ s ++ map f (quotes_in d)
   letrec_literals {es = es} {e} h z p q = rw (h, sym z) (then_literals f (quotes_in_each es) (quotes_in e) s1 p q)
 
-  pub call_literals : {vs : Names} {g : Draft} {es : Drafts} → d ≡ call vs g es → s1 ≡ s → s2 ≡ s1 ++ map f (quotes_in g) → s3 ≡ s2 ++ map f (quotes_in_each es) → s3 ≡ s ++ map f (quotes_in d)
+  pub call_literals : {vs : VariableNames} {g : Draft} {es : Drafts} → d ≡ call vs g es → s1 ≡ s → s2 ≡ s1 ++ map f (quotes_in g) → s3 ≡ s2 ++ map f (quotes_in_each es) → s3 ≡ s ++ map f (quotes_in d)
   call_literals {g = g} {es} h z p q = rw (h, sym z) (then_literals f (quotes_in g) (quotes_in_each es) s1 p q)
 
 -- ## Names
@@ -140,14 +140,14 @@ onto_more : (es : List Expression) (e : Expression) (rest : Expressions) → ont
 onto_more [] e rest = refl
 onto_more (a ∷ es) e rest = ap (and_expression a) (onto_more es e rest)
 
-others_at : (n : ℕ) (vs : Names) → others_of (drop n vs) ≡ drop (suc n) vs
+others_at : (n : ℕ) (vs : VariableNames) → others_of (drop n vs) ≡ drop (suc n) vs
 others_at zero [] = refl
 others_at zero (v ∷ vs) = refl
 others_at (suc n) [] = refl
 others_at (suc n) (v ∷ vs) = others_at n vs
 
 module _ (own globals symbols : List (List ℕ)) where
-  pub next_numbered : (vs : Names) (es : List code.Draft) (i : ℕ) (v : Option (List ℕ)) (e : code.Draft) (all : List Exp) (q : Exp) (s l s' l' : ℕ) (r : Expressions) → i < length es → e ≡ get_or es i e → v ≡ first_of (drop i vs) →
+  pub next_numbered : (vs : VariableNames) (es : List code.Draft) (i : ℕ) (v : Option (List ℕ)) (e : code.Draft) (all : List Exp) (q : Exp) (s l s' l' : ℕ) (r : Expressions) → i < length es → e ≡ get_or es i e → v ≡ first_of (drop i vs) →
       expression q ≡ numbered own globals symbols v (draft_of e) s l → s' ≡ s + length (widths (draft_of e)) → l' ≡ l + length (quotes_in (draft_of e)) →
       onto (map expression all) (numbered_each own globals symbols (drop i vs) (drafts_of (drop i es)) s l) ≡ r →
       onto (map expression (all ++ q ∷ [])) (numbered_each own globals symbols (drop (i + 1) vs) (drafts_of (drop (i + 1) es)) s' l') ≡ r
@@ -155,7 +155,7 @@ module _ (own globals symbols : List (List ℕ)) where
       let k' = rw (next_draft es i e here is, others_at i vs, sym w) at k in
       rw (add-one, map-append, onto_more, m, p, n) k'
 
-  pub end_numbered : (vs : Names) (es : List code.Draft) (i : ℕ) (all : List Exp) (s l : ℕ) (r : Expressions) → length es ≤ i →
+  pub end_numbered : (vs : VariableNames) (es : List code.Draft) (i : ℕ) (all : List Exp) (s l : ℕ) (r : Expressions) → length es ≤ i →
       onto (map expression all) (numbered_each own globals symbols vs (drafts_of (drop i es)) s l) ≡ r → expressions_of all ≡ r
   end_numbered vs es i all s l r here k =
       let k' = rw (no_draft es i here) at k in

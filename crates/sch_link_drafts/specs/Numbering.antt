@@ -5,7 +5,7 @@ use Rattle.sch_word.specs.values.LiteralView.{literal}
 use Rattle.sch_lang.specs.Tree.{Expression, Expressions}
 use Rattle.sch_read.specs.Grammar.{Datum}
 use Rattle.sch_names.specs.NamesView.{names_of}
-use Rattle.sch_names.specs.Scope.{Names}
+use Rattle.sch_names.specs.Scope.{VariableNames}
 use Rattle.sch_sketch.specs.Draft.{Draft, Drafts}
 use Rattle.sch_link_tables.specs.declared.tables.Output.{Output}
 use Rattle.sch_link_tables.specs.Quoted.{literal_of}
@@ -22,7 +22,7 @@ expression_with tables out v e =
     numbered (names_of tables.own.now) (names_of tables.globals.now) (names_of tables.symbols.now) v e (length out.sites) (length out.literals)
 
 -- the expressions of drafts that are the inits of variables of these names
-abbrev pub expressions_with : Numbers → Output → Names → Drafts → Expressions
+abbrev pub expressions_with : Numbers → Output → VariableNames → Drafts → Expressions
 expressions_with tables out vs es =
     numbered_each (names_of tables.own.now) (names_of tables.globals.now) (names_of tables.symbols.now) vs es (length out.sites) (length out.literals)
 

@@ -5,7 +5,7 @@ use Rattle.sch_word.specs.trees.Shape.{constant_in_range}
 use Rattle.sch_lang.specs.Tree as tree
 use Rattle.sch_lang.specs.Tree.{Expression, Expressions, no_expressions, and_expression, Lambdas}
 use Rattle.sch_lang.specs.Measures.{over, over_each, over_lambdas, shape}
-use Rattle.sch_names.specs.Scope.{Names}
+use Rattle.sch_names.specs.Scope.{VariableNames}
 use Rattle.sch_sketch.specs.Draft.{Draft, Drafts, constant, symbol, literal, local, global, set_local, set_global, define, branch, sequence, bind, letrec, lambda, call, operation, no_drafts, and_draft, count}
 use Rattle.sch_link_tables.specs.Assigned.{is_group}
 use Rattle.sch_link_tables.specs.Constants.{HasConstants, HaveConstants}
@@ -60,7 +60,7 @@ module _ (own globals symbols : List (List ℕ)) where
         and_from _ _ (constants_kept None f (s + 1) l h.0) (all_constants_kept vs es (s + 1 + length (widths f)) (l + length (quotes_in f)) h.1)
     constants_kept v (operation p es) s l h = all_constants_kept [] es (s + 1) l h
 
-    all_constants_kept : (vs : Names) (es : Drafts) (s l : ℕ) → HaveConstants es → ranged_each (numbered_each own globals symbols vs es s l) ≡ true
+    all_constants_kept : (vs : VariableNames) (es : Drafts) (s l : ℕ) → HaveConstants es → ranged_each (numbered_each own globals symbols vs es s l) ≡ true
     all_constants_kept vs no_drafts s l h = refl
     all_constants_kept vs (and_draft e es) s l h =
         and_from _ _ (constants_kept (first_of vs) e s l h.0) (all_constants_kept (others_of vs) es (s + length (widths e)) (l + length (quotes_in e)) h.1)

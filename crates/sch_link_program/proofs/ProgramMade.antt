@@ -14,7 +14,7 @@ use Rattle.sch_lang.specs.SourceView.{source_of}
 use Rattle.sch_lang.specs.Valid.{constants_in_range, in_range, shaped, within_limits, sites_once, statics_known, is_valid}
 use Rattle.sch_sketch.specs.Draft.{Drafts}
 use Rattle.sch_names.specs.NamesView.{with_name}
-use Rattle.sch_names.specs.Scope.{is_among, Names}
+use Rattle.sch_names.specs.Scope.{is_among, VariableNames}
 use Rattle.sch_link_tables.specs.Named.{firsts, library_global, globals_in_each, symbols_in_each}
 use Rattle.sch_link_tables.specs.Numbered.{numbered_each}
 use Rattle.sch_link_tables.specs.Quoted.{literal_of, quotes_in_each}
@@ -52,7 +52,7 @@ both_listed a b z p q = q ∙ ap (λ n. n ++ b) (p ∙ ap (λ n. n ++ a) z)
 
 module _ (ds : List Definition) (own held : List (List ℕ)) (forms : Drafts) (globals symbols : List (List ℕ)) where
   module _ (g : globals ≡ firsts [] (globals_of_each ds ++ globals_in_each own forms)) (s : symbols ≡ firsts [] (symbols_of_each ds ++ symbols_in_each forms)) where
-    pub assembled : (symbol_list global_list : List (List ℕ)) (lits0 lits1 lits2 : List Lit) (sites0 sites1 sites2 : List ℕ) (starting : List (Option ℕ)) (library : List Lambda) (made : List Exp) (vs : Names) →
+    pub assembled : (symbol_list global_list : List (List ℕ)) (lits0 lits1 lits2 : List Lit) (sites0 sites1 sites2 : List ℕ) (starting : List (Option ℕ)) (library : List Lambda) (made : List Exp) (vs : VariableNames) →
         symbol_list ≡ symbols → global_list ≡ globals → lits0 ≡ [] → sites0 ≡ [] → vs ≡ [] →
         lambdas_of library ≡ procedures globals symbols ds (length sites0) (length lits0) → sites1 ≡ sites0 ++ widths_of_definitions ds → map literal lits1 ≡ map literal lits0 ++ map (literal_of symbols) (quotes_of_each ds) →
         expressions_of made ≡ numbered_each own globals symbols vs forms (length sites1) (length lits1) → sites2 ≡ sites1 ++ widths_of_each forms →

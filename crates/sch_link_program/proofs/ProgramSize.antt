@@ -11,7 +11,7 @@ use Rattle.sch_link_tables.specs.Assigned.{is_group}
 use Rattle.sch_link_tables.specs.Named.{firsts, library_global, globals_in_each, symbols_in_each}
 use Rattle.sch_link_tables.specs.Quoted.{quotes_in, quotes_in_each}
 use Rattle.sch_link_tables.specs.Sites.{unless_group, widths, widths_of_each}
-use Rattle.sch_names.specs.Scope.{is_among, Names}
+use Rattle.sch_names.specs.Scope.{is_among, VariableNames}
 use Rattle.sch_link_tables.specs.Numbered.{numbered, numbered_each, grouped, procedures_of, first_of, others_of}
 use Rattle.sch_link_tables.specs.Programs.{Definition, kept, held, named, with_definition, globals_of_each, symbols_of_each, quotes_of_each, widths_of_definitions, procedures, program_with, program_of}
 use Rattle.sch_sketch.specs.DraftMeasures.{size, size_each}
@@ -33,7 +33,7 @@ grouped_nodes true site es e = omega (arith, procedures_nodes es, procedures_cou
     procedures_nodes (and_expression e es) = omega (arith, procedures_nodes es)
 
 module _ (own globals symbols : List (List ℕ)) where
-  pub count_numbered : (es : Drafts) (vs : Names) (s l : ℕ) → tree.count (numbered_each own globals symbols vs es s l) ≡ count es
+  pub count_numbered : (es : Drafts) (vs : VariableNames) (s l : ℕ) → tree.count (numbered_each own globals symbols vs es s l) ≡ count es
   count_numbered no_drafts vs s l = refl
   count_numbered (and_draft e es) vs s l = ap suc (count_numbered es (others_of vs) (s + length (widths e)) (l + length (quotes_in e)))
 
@@ -76,7 +76,7 @@ module _ (own globals symbols : List (List ℕ)) where
         omega (arith, numbered_size None f (s + 1) l, numbered_sizes vs es (s + 1 + length (widths f)) (l + length (quotes_in f)))
     numbered_size v (operation p es) s l = omega (arith, numbered_sizes [] es (s + 1) l)
 
-    pub numbered_sizes : (vs : Names) (es : Drafts) (s l : ℕ) → nodes_each (numbered_each own globals symbols vs es s l) ≤ size_each es
+    pub numbered_sizes : (vs : VariableNames) (es : Drafts) (s l : ℕ) → nodes_each (numbered_each own globals symbols vs es s l) ≤ size_each es
     numbered_sizes vs no_drafts s l = omega arith
     numbered_sizes vs (and_draft e es) s l =
         omega (arith, numbered_size (first_of vs) e s l, numbered_sizes (others_of vs) es (s + length (widths e)) (l + length (quotes_in e)))

@@ -1,5 +1,5 @@
 -- Small programs: what is kept of a library, and which numbers are given.
-use Rattle.std.proofs.Common.{◌≡◌, true, false, List, [], ◌∷◌, Some, None, refl, codes}
+use Rattle.std.proofs.Common.{◌≡◌, ℕ, ◌+◌, true, false, List, [], ◌∷◌, length, Some, None, refl, codes, arith}
 use Rattle.sch_word.specs.declared.constant.Const.TheVariants.{Nil, Symbol, Unspecified}
 use Rattle.sch_word.specs.values.Literals as words
 use Rattle.sch_lang.specs.Tree as tree
@@ -7,6 +7,8 @@ use Rattle.sch_read.specs.Grammar.{atom, list, dotted, none, cons, symbol as sym
 use Rattle.sch_sketch.specs.Draft.{Draft, Drafts, constant, symbol, literal, local, global, set_local, define, branch, sequence, bind, letrec, lambda, call, no_drafts, and_draft}
 use Rattle.sch_link_tables.specs.Named.{own_global, library_global}
 use Rattle.sch_link_tables.specs.Numbered.{numbered}
+use Rattle.sch_link_tables.specs.Room.{HasRoom}
+use Rattle.sch_link_tables.specs.declared.tables.Output.{Output}
 use Rattle.sch_link_tables.specs.Programs.{Definition, kept, seen, held, names_of_each, program_of}
 
 -- three definitions, of which the second names the first, and the third is hidden
@@ -146,3 +148,13 @@ operands_have_names : numbered [] [] [] None (call (Some (codes "g") ∷ []) one
     (tree.and_expression (tree.lambda (codes "g") 0 false (tree.call 5 (tree.local 0) tree.no_expressions))
     (tree.and_expression (tree.lambda (codes "lambda") 0 false (tree.call 6 (tree.local 0) tree.no_expressions)) tree.no_expressions))
 operands_have_names = refl
+
+-- with 2^32 - 1 sites and literals, those of some nodes among them, there is room, and with one more of either there is none
+last_room : (out : Output) (nodes : ℕ) → length out.sites + nodes ≡ 4294967295 → length out.literals + nodes ≡ 4294967295 → HasRoom out nodes
+last_room out nodes s l = record { sites = omega (arith, s); literals = omega (arith, l) }
+
+one_more_site : (out : Output) (nodes : ℕ) → length out.sites + nodes ≡ 4294967296 → HasRoom out nodes → ⊥
+one_more_site out nodes s room = omega (arith, s, room.sites)
+
+one_more_literal : (out : Output) (nodes : ℕ) → length out.literals + nodes ≡ 4294967296 → HasRoom out nodes → ⊥
+one_more_literal out nodes l room = omega (arith, l, room.literals)

@@ -6,7 +6,7 @@ use Rattle.sch_word.specs.trees.Bindings.{numbers}
 use Rattle.sch_word.specs.trees.Assigned.{marked}
 use Rattle.sch_word.proofs.facts.AssignedMarks.{all_marked, marked_none, marked_twice, then_marked, inside_marked}
 use Rattle.sch_sketch.specs.declared.draft.Draft as code
-use Rattle.sch_names.specs.Scope.{Names}
+use Rattle.sch_names.specs.Scope.{VariableNames}
 use Rattle.sch_sketch.specs.Draft.{Draft, Drafts, set_local, branch, bind, letrec, lambda, call, count}
 use Rattle.sch_sketch.specs.DraftView.{draft_of, drafts_of}
 use Rattle.sch_link_tables.specs.Assigned.{assigns, assigns_each}
@@ -21,17 +21,17 @@ module _ {d : Draft} (from : ℕ) (bs : List Bool) {cs ds : List Bool} where
   branch_marked {a} {b} {c} h p q r =
       rw h (then_marked (assigns a) (λ i. assigns b i || assigns c i) from bs p (then_marked (assigns b) (assigns c) from cs q r))
 
-  pub bind_marked : {vs : Names} {es : Drafts} {b : Draft} (m n : ℕ) → d ≡ bind vs es b → cs ≡ marked (assigns_each es) from bs → n ≡ count es → m ≡ from + n → ds ≡ marked (assigns b) m cs → ds ≡ marked (assigns d) from bs
+  pub bind_marked : {vs : VariableNames} {es : Drafts} {b : Draft} (m n : ℕ) → d ≡ bind vs es b → cs ≡ marked (assigns_each es) from bs → n ≡ count es → m ≡ from + n → ds ≡ marked (assigns b) m cs → ds ≡ marked (assigns d) from bs
   bind_marked {es = es} {b} m n h p w i q =
       rw h (then_marked (assigns_each es) (λ j. assigns b (j + count es)) from bs p (inside_marked (assigns b) (count es) from m cs (i ∙ ap (λ k. from + k) w) q))
 
-  pub letrec_marked : {vs : Names} {g : Bool} {es : Drafts} {b : Draft} (m n : ℕ) → d ≡ letrec vs g es b → n ≡ count es → m ≡ from + n → cs ≡ marked (assigns_each es) m bs → ds ≡ marked (assigns b) m cs → ds ≡ marked (assigns d) from bs
+  pub letrec_marked : {vs : VariableNames} {g : Bool} {es : Drafts} {b : Draft} (m n : ℕ) → d ≡ letrec vs g es b → n ≡ count es → m ≡ from + n → cs ≡ marked (assigns_each es) m bs → ds ≡ marked (assigns b) m cs → ds ≡ marked (assigns d) from bs
   letrec_marked {es = es} {b} m n h w i p q =
       let k : m ≡ from + count es = i ∙ ap (λ k. from + k) w in
       rw h (then_marked (λ j. assigns_each es (j + count es)) (λ j. assigns b (j + count es)) from bs
       (inside_marked (assigns_each es) (count es) from m bs k p) (inside_marked (assigns b) (count es) from m cs k q))
 
-  pub call_marked : {vs : Names} {f : Draft} {es : Drafts} → d ≡ call vs f es → cs ≡ marked (assigns f) from bs → ds ≡ marked (assigns_each es) from cs → ds ≡ marked (assigns d) from bs
+  pub call_marked : {vs : VariableNames} {f : Draft} {es : Drafts} → d ≡ call vs f es → cs ≡ marked (assigns f) from bs → ds ≡ marked (assigns_each es) from cs → ds ≡ marked (assigns d) from bs
   call_marked {f = f} {es} h p q = rw h (then_marked (assigns f) (assigns_each es) from bs p q)
 
 module _ {d : Draft} (from : ℕ) (bs : List Bool) {cs : List Bool} where

@@ -4,7 +4,7 @@ use Rattle.sch_word.specs.declared.constant.Const.TheVariants.{Symbol}
 use Rattle.sch_lang.specs.Tree as tree
 use Rattle.sch_lang.specs.Tree.{Expression, Expressions, Lambdas, no_expressions, and_expression, no_lambdas, and_lambda}
 use Rattle.sch_names.specs.NamesView.{number_of}
-use Rattle.sch_names.specs.Scope.{Names}
+use Rattle.sch_names.specs.Scope.{VariableNames}
 use Rattle.sch_sketch.specs.Draft.{Draft, Drafts, constant, symbol, literal, local, global, set_local, set_global, define, branch, sequence, bind, letrec, lambda, call, operation, no_drafts, and_draft, count}
 use Rattle.sch_link_tables.specs.Named.{global_of}
 use Rattle.sch_link_tables.specs.Quoted.{quotes_in, quotes_in_each}
@@ -17,11 +17,11 @@ body_name (Some x) = x
 body_name None = codes "lambda"
 
 -- the first of some names, and those after it; where there is none, the variable has no name
-abbrev pub first_of : Names → Option (List ℕ)
+abbrev pub first_of : VariableNames → Option (List ℕ)
 first_of [] = None
 first_of (v ∷ vs) = v
 
-abbrev pub others_of : Names → Names
+abbrev pub others_of : VariableNames → VariableNames
 others_of [] = []
 others_of (v ∷ vs) = vs
 
@@ -63,7 +63,7 @@ module _ (own globals symbols : List (List ℕ)) where
         tree.call s (numbered None f (s + 1) l) (numbered_each vs es (s + 1 + length (widths f)) (l + length (quotes_in f)))
     numbered v (operation p es) s l = tree.operation s p (numbered_each [] es (s + 1) l)
 
-    pub numbered_each : Names → Drafts → (s l : ℕ) → Expressions
+    pub numbered_each : VariableNames → Drafts → (s l : ℕ) → Expressions
     numbered_each vs no_drafts s l = no_expressions
     numbered_each vs (and_draft e es) s l =
         and_expression (numbered (first_of vs) e s l) (numbered_each (others_of vs) es (s + length (widths e)) (l + length (quotes_in e)))

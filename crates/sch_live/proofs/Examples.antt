@@ -5,14 +5,11 @@ use Rattle.sch_word.specs.trees.NumberSets.{has}
 use Rattle.sch_control.specs.declared.operation.Operation.TheVariants as operation
 use Rattle.sch_control.specs.Tree.{Expression, perform, bind, branch, call, return}
 use Rattle.sch_control.specs.flow.Live.{Perhaps, nothing_later}
-use Rattle.sch_control.proofs.Examples.{truth, held_in, applied}
+use Rattle.sch_control.proofs.Examples.{truth, held_in, applied, value_of}
 use Rattle.sch_live.specs.BackwardSets.{ListsAllLive}
 use Rattle.sch_live.specs.LiveListed.{lists_in_order, live_listed}
 use Rattle.sch_live.specs.Reached.{gives, where_reached}
 use Rattle.sch_control.specs.flow.Reads.{VariablesBelow}
-
-abbrev value_of : ℕ → Expression
-value_of x = perform (operation.Operand (held_in x))
 
 abbrev constant : Bool → Expression
 constant b = perform (operation.Operand (truth b))

@@ -7,15 +7,15 @@ use Rattle.sch_names.specs.Words.{keyword_of}
 use Rattle.sch_names.specs.Operations.{operation_of}
 
 -- The names of variables. One that a rewriting adds has none, so no name of the text means it.
-abbrev pub Names : Type 0
-Names = List (Option (List ℕ))
+abbrev pub VariableNames : Type 0
+VariableNames = List (Option (List ℕ))
 
 -- the variables that are bound, the nearest first: a list of bindings
 abbrev pub Scope : Type 0
-Scope = Names
+Scope = VariableNames
 
 -- variables of these names, the last of them nearest
-abbrev pub onto : Names → Scope → Scope
+abbrev pub onto : VariableNames → Scope → Scope
 onto [] s = s
 onto (v ∷ vs) s = onto vs (v ∷ s)
 

@@ -1,4 +1,4 @@
--- The bodies of a control program: their names, and the most variables of one.
+-- The bodies of a control program: their names, how many variables and sequences each has, and the most variables of one.
 use Rattle.std.proofs.Common.{◌≡◌, ℕ, ◌+◌, ◌-◌, ◌≤◌, true, List, [], ◌∷◌, ◌++◌, map, take, drop, refl, sym, ap, ◌∙◌, arith}
 use Rattle.std.specs.Prelude.{nat_le}
 use Rattle.std.proofs.lemmas.Bool.{leb-true}
@@ -14,8 +14,8 @@ use Rattle.sch_control.specs.Sizes.{most_variables}
 use Rattle.sch_lang.specs.Bodies.{largest}
 use Rattle.sch_closure.specs.Closed.{closed_source}
 use Rattle.sch_closure.specs.Kept.{procedure_of, procedures_in, flat_forms, forms_in}
-use Rattle.sch_control.specs.Sizes.{bind_within}
-use Rattle.sch_anf_laws.specs.Counted.{in_order, form_variables, BindNoMore}
+use Rattle.sch_control.specs.Sizes.{bind_within, sequences_within}
+use Rattle.sch_anf_laws.specs.Counted.{in_order, form_variables, BindNoMore, FewSequences}
 use Rattle.sch_anf_laws.specs.Normal.{normal_bodies, normal_source, procedure_code, form_code}
 use Rattle.sch_passes.proofs.BodyOrder.{bodies_in_order, map_in_order}
 
@@ -73,7 +73,7 @@ names_in_order f =
 pub names_kept : (f : Source) (q : control.Source) (bodies : List Procedure) → q ≡ normal_source f → in_flat_order f ≡ bodies → map (λ c. c.name) q.bodies ≡ map (λ b. b.name) bodies
 names_kept f q bodies made order = ap (λ s. map code_name s.bodies) made ∙ names_in_order f ∙ ap (map procedure_name) order
 
--- ## Variables
+-- ## Variables and sequences
 
 abbrev procedure_variables : Procedure → ℕ
 procedure_variables p = p.variables
@@ -106,3 +106,8 @@ each_within f q bodies within order = ap (λ l. bind_within q.bodies l) (sym (ap
 
 pub variables_kept : (f : Source) (q : control.Source) (bodies : List Procedure) → BindNoMore f q → in_flat_order f ≡ bodies → most_variables q.bodies ≤ 2 + largest bodies
 variables_kept f q bodies within order = within_largest q.bodies bodies (each_within f q bodies within order)
+
+pub sequences_kept : (f : Source) (q : control.Source) (bodies : List Procedure) → FewSequences f q → in_flat_order f ≡ bodies
+    → sequences_within q.bodies (map (λ b. b.variables) bodies) ≡ true
+sequences_kept f q bodies few order =
+    ap (λ l. sequences_within q.bodies l) (sym (ap (map procedure_variables) order) ∙ counts_in_order f) ∙ few

@@ -1,4 +1,5 @@
--- The bodies of a small program before and after all passes: their names in order, and how many variables each has.
+-- The bodies of a small program before and after all passes: their names in order, and how many variables and sequences each
+-- has.
 use Rattle.std.proofs.Common.{◌≡◌, ℕ, refl, true, false, List, Some, None, [], ◌∷◌, map, pos}
 use Rattle.std.specs.Prelude.{codes}
 use Rattle.sch_word.specs.declared.primitive.Primitive.TheVariants.{Car}
@@ -49,6 +50,11 @@ variables_before = refl
 variables_after : map (λ c. c.variables) (control_of small).bodies ≡ 3 ∷ 5 ∷ 3 ∷ 4 ∷ 2 ∷ 2 ∷ 4 ∷ 4 ∷ 4 ∷ 2 ∷ []
 unfolding control_of
 variables_after = refl
+
+-- the assignment in make stands in a sequence, before what makes the closure
+sequences_after : map (λ c. sizes.sequences_in c.expression) (control_of small).bodies ≡ 0 ∷ 0 ∷ 0 ∷ 1 ∷ 0 ∷ 0 ∷ 0 ∷ 0 ∷ 0 ∷ 0 ∷ []
+unfolding control_of
+sequences_after = refl
 
 most_variables_row : (most_variables small ∷ sizes.most_variables (control_of small).bodies ∷ []) ≡ 3 ∷ 5 ∷ []
 unfolding control_of

@@ -7,7 +7,7 @@ ghost use Rattle.sch_control.specs.Covered.{is_covered_program};
 ghost use Rattle.sch_control.specs.Fits.{table_fits};
 ghost use Rattle.sch_control.specs.ProgramView as control_view;
 ghost use Rattle.sch_control.specs.Sizes as sizes;
-ghost use Rattle.sch_control.specs.Sizes.{bind_within, dropped_of, tests_of};
+ghost use Rattle.sch_control.specs.Sizes.{bind_within, dropped_of, sequences_within, tests_of};
 ghost use Rattle.sch_control.specs.Valid.{sites_of_each};
 ghost use Rattle.sch_control.specs.Work.{codes_work};
 ghost use Rattle.sch_lang.specs.Bodies.{bodies_of, most_variables};
@@ -65,6 +65,10 @@ pub fn control_program(alloc: Global, p: &Program) -> Result<ControlProgram, Mem
         count_by (λ at. nat_eq at.0 n) (sites_of_each (control_view.source q).bodies) ≡ count_by (λ x. nat_eq x n) (measures.call_sites_of (source p.now))) }
     // Each body has at most two variables more than the body of `p` at its place may need.
     ensures each_variables { IfOk result (λ q. IsTrue (bind_within (control_view.source q).bodies (map (λ b. b.variables) (bodies_of (source p.now))))) }
+    // Each body has at most as many sequences, each of which has one part before the last, as variables that the body of `p`
+    // at its place may need.
+    ensures sequences { IfOk result (λ q.
+        IsTrue (sequences_within (control_view.source q).bodies (map (λ b. b.variables) (bodies_of (source p.now))))) }
 {
     let renamed = rename(alloc, p)?;
     let converted = convert_assign(alloc, &renamed)?;

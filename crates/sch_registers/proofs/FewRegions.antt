@@ -6,7 +6,7 @@ use Rattle.std.specs.List.{list_all}
 use Rattle.sch_word.specs.declared.place.Place.{Place}
 use Rattle.sch_word.specs.trees.Bindings.{numbers}
 use Rattle.sch_word.specs.trees.NumberSets.{has, unless, without_repeats}
-use Rattle.sch_word.proofs.facts.Booleans.{and_left, and_of, and_right, false_true, not_true, or_false}
+use Rattle.sch_word.proofs.facts.Booleans.{and_left, and_of, and_right, false_true, not_true, or_right_false}
 use Rattle.sch_control.specs.AtomsAndSites.{application_atoms, member_atoms, operation_atoms}
 use Rattle.sch_control.specs.Meaning.{binds, heads, no_region, with_region}
 use Rattle.sch_control.specs.RegisterWork.{most_kept}
@@ -61,7 +61,7 @@ met_called x inside (branch a b c) Met L sets es r path h = elim (call_in x es p
 met_called x inside (fix members e) Met L sets es r path h =
     met_called x inside e Met L sets path.0 r path.1 (call_behind x es (grouping inside members) path.0 path.2 (grouping_calls x inside members) h)
 met_called x inside (call a listed) Met L sets es r path h =
-    ((sets x).0 (sym (or_false (has x listed)) ∙ (call_behind x es (map References (named (application_atoms a))) _ path (references_call x (named (application_atoms a))) h))).0
+    ((sets x).0 (sym (or_right_false (has x listed)) ∙ (call_behind x es (map References (named (application_atoms a))) _ path (references_call x (named (application_atoms a))) h))).0
 met_called x inside (tail_call a) Met L sets es r path h =
     absurd (false_true (call_behind x es (map References (named (application_atoms a))) _ path (references_call x (named (application_atoms a))) h) refl)
 met_called x inside (return e) Met L sets es r path h = met_called x inside e Met _ sets path.0 path.1 path.2 (in_front x es path.0 _ path.3 refl h)

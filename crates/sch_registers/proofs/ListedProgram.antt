@@ -18,6 +18,7 @@ use Rattle.sch_control.specs.flow.Bare.{erased, unlisted}
 use Rattle.sch_control.specs.flow.LiveTests.{is_live, Behind}
 use Rattle.sch_frames.specs.Meaning.{argument_register, argument_slot}
 use Rattle.sch_layout.specs.BodyLayout.{in_either, target}
+use Rattle.sch_layout.proofs.Targets.{arrival_by}
 use Rattle.sch_shuffle.specs.Assignment.{place_at}
 use Rattle.sch_shuffle.specs.CycleSearch.{all_rings, cycles, places_at}
 use Rattle.sch_orders.specs.declared.listed_call.ListedCall.{ListedCall}
@@ -104,7 +105,7 @@ module _ (test : Place → Bool) (slots : (j : ℕ) → test (Slot j) ≡ true) 
 
   target_passes : (tail : Bool) (limit k : ℕ) → test (target tail limit k) ≡ true
   target_passes tail limit zero = closure
-  target_passes true limit (suc k) = either_passes (argument_register k) k (argument_slot k) refl
+  target_passes true limit (suc k) = ap test (arrival_by k) ∙ either_passes (argument_register k) k (argument_slot k) refl
   target_passes false limit (suc k) = either_passes (argument_register k) k (limit + argument_slot k) refl
 
   targets_pass : (tail : Bool) (count from : ℕ) → list_all test (map (target tail next_frame) (numbers from count)) ≡ true

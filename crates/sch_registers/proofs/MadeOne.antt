@@ -14,7 +14,6 @@ use Rattle.sch_control.proofs.VariableLists.{each_more}
 use Rattle.sch_word.specs.values.Places.{same_place, is_slot}
 use Rattle.sch_frames.specs.Tree as frames
 use Rattle.sch_layout.specs.BodyLayout.{Plan}
-use Rattle.sch_layout.specs.BodyLayout as layout
 use Rattle.sch_layout.specs.Laws.{Laid}
 use Rattle.sch_word.proofs.facts.Places.{places_same}
 use Rattle.sch_paths.specs.Exact.{EagerRestores}
@@ -26,7 +25,7 @@ use Rattle.sch_regs.proofs.ApartAtPoints.{each_binding}
 use Rattle.sch_saves.specs.Promises.{EachSaveFollowed}
 use Rattle.sch_homes.specs.Homes.{homes_plan, lives_in}
 use Rattle.sch_homes.specs.Laws.{IsPlaced}
-use Rattle.sch_homes.proofs.BodyPlaces.{arrival_same, from_register}
+use Rattle.sch_homes.proofs.BodyPlaces.{from_register}
 use Rattle.sch_homes.proofs.FrameRoom.{first_there}
 use Rattle.sch_homes.proofs.HomesPlaced.{homes_placed}
 use Rattle.sch_registers.proofs.GreedyMade.{greedy_calls}
@@ -90,16 +89,16 @@ module _ (c : control.Code) (tree : Expression) (places : List Place) (p : IsPla
 
   -- what is entered with stays where it arrives
   entered_at : (k : ℕ) → k < formals_of c.entry → place_of places (2 + k) ≡ arrival k → plan.place (2 + k) ≡ arrival k
-  entered_at k lt given = subst (λ n. plan.place n ≡ arrival k) (sym two) (by (same_place (plan.place (suc (suc k))) (layout.arrival k)) refl) where
+  entered_at k lt given = subst (λ n. plan.place n ≡ arrival k) (sym two) (by (same_place (plan.place (suc (suc k))) (arrival k)) refl) where
     two : 2 + k ≡ suc (suc k)
     two = omega arith
 
-    by : (t : Bool) → same_place (plan.place (suc (suc k))) (layout.arrival k) ≡ t → plan.place (suc (suc k)) ≡ arrival k
-    by true same = places_same (plan.place (suc (suc k))) (layout.arrival k) same ∙ sym (arrival_same k)
+    by : (t : Bool) → same_place (plan.place (suc (suc k))) (arrival k) ≡ t → plan.place (suc (suc k)) ≡ arrival k
+    by true same = places_same (plan.place (suc (suc k))) (arrival k) same
     by false other =
         let first = first_there c tree places p in
-        let r = is_register (layout.arrival k) (from_register c.entry tree places first p.link p.closure p.formals (suc (suc k)) (omega (arith, lt)) other) in
-        kept (suc (suc k)) r.0 (ap (place_of places) (sym two) ∙ (given ∙ (arrival_same k ∙ r.1))) ∙ sym (arrival_same k ∙ r.1)
+        let r = is_register (arrival k) (from_register c.entry tree places first p.link p.closure p.formals (suc (suc k)) (omega (arith, lt)) other) in
+        kept (suc (suc k)) r.0 (ap (place_of places) (sym two) ∙ (given ∙ r.1)) ∙ sym r.1
 
   full_there : (live : ℕ → Type 0) (y : ℕ) → InSlotWhenFull (place_of places) live y → InSlotWhenFull plan.place live y
   full_there live y h s = each_more (HeldBy (place_of places) live y) (HeldBy plan.place live y) (λ r h. more r h) argument_registers (h (spilled y s)) where

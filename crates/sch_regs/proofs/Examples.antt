@@ -9,7 +9,7 @@ use Rattle.sch_control.specs.declared.body.Entry.{Entry}
 use Rattle.sch_control.specs.declared.operation.Operation.TheVariants as operation
 use Rattle.sch_control.specs.Meaning.{Callee, Environment, Reading, Result, do_body, entry_environment}
 use Rattle.sch_control.specs.Tree.{Expression, perform, bind, sequence, branch, call, tail_call, return, end, save}
-use Rattle.sch_control.proofs.Examples.{truth, held_in, applied, at_start}
+use Rattle.sch_control.proofs.Examples.{truth, held_in, applied, at_start, value_of}
 use Rattle.sch_control.specs.flow.Live.{Live}
 use Rattle.sch_control.specs.flow.LiveTests.{is_live}
 use Rattle.sch_control.specs.flow.Middle.{restoring, silent}
@@ -48,9 +48,6 @@ other_one = refl
 
 -- ## Bodies
 
-abbrev get : ℕ → Expression
-get x = perform (operation.Operand (held_in x))
-
 abbrev nothing : Expression
 nothing = perform operation.UnsetCell
 
@@ -60,10 +57,10 @@ with_formals n = Some (record { formals = n; rest = false; fields = 0 })
 -- An arm to which no way comes: the formal is read in that arm alone, so it is not live at the binding of variable 3, and
 -- both have one place, though both are live as that arm begins.
 abbrev arm : Expression
-arm = sequence (get 2) (return (get 3))
+arm = sequence (value_of 2) (return (value_of 3))
 
 abbrev never : Expression
-never = bind 3 nothing (branch (perform (operation.Operand (truth true))) (return (get 3)) arm)
+never = bind 3 nothing (branch (perform (operation.Operand (truth true))) (return (value_of 3)) arm)
 
 never_places : places (with_formals 1) 4 never ≡ Reg 15 ∷ Reg 14 ∷ Reg 3 ∷ Reg 3 ∷ []
 never_places = refl
@@ -73,7 +70,8 @@ both_live = (refl, refl)
 
 -- Seven variables are live at once: one of them has a slot. The eighth has a register again, as the first is not live behind it.
 abbrev behind_seven : Expression
-behind_seven = bind 9 (get 2) (tail_call (applied 0 (held_in 3) (held_in 4 ∷ held_in 5 ∷ held_in 6 ∷ held_in 7 ∷ held_in 8 ∷ held_in 9 ∷ [])))
+behind_seven =
+    bind 9 (value_of 2) (tail_call (applied 0 (held_in 3) (held_in 4 ∷ held_in 5 ∷ held_in 6 ∷ held_in 7 ∷ held_in 8 ∷ held_in 9 ∷ [])))
 
 abbrev seven : Expression
 seven = bind 2 nothing (bind 3 nothing (bind 4 nothing (bind 5 nothing (bind 6 nothing (bind 7 nothing (bind 8 nothing behind_seven))))))
@@ -99,7 +97,7 @@ after_call_places : places (with_formals 2) 5 after_call ≡ Reg 15 ∷ Reg 14 �
 after_call_places = refl
 
 -- a form has no formals
-form_places : places None 4 (bind 2 nothing (bind 3 (get 2) (end (get 3)))) ≡ Reg 15 ∷ Reg 14 ∷ Reg 3 ∷ Reg 3 ∷ []
+form_places : places None 4 (bind 2 nothing (bind 3 (value_of 2) (end (value_of 3)))) ≡ Reg 15 ∷ Reg 14 ∷ Reg 3 ∷ Reg 3 ∷ []
 form_places = refl
 
 -- ## Slots
@@ -133,7 +131,7 @@ seven_full =
       )
 
 -- a slot is refused to a variable while a register is free
-free_register : SlotsWhenFull (λ x. Slot 0) (bind 2 nothing (end (get 2))) → ⊥
+free_register : SlotsWhenFull (λ x. Slot 0) (bind 2 nothing (end (value_of 2))) → ⊥
 free_register h =
     let w = (h.0 refl).0 in
     let e : Slot 0 ≡ Reg 3 = w.1.1.1 in
@@ -143,7 +141,7 @@ free_register h =
 
 -- A form that reads variable 2 behind a call, which overwrites it. The called procedure gives itself.
 abbrev read_behind : (restores : List ℕ) → Expression
-read_behind restores = save (2 ∷ []) (bind 3 (call (applied 0 (held_in 2) []) restores) (end (get 2)))
+read_behind restores = save (2 ∷ []) (bind 3 (call (applied 0 (held_in 2) []) restores) (end (value_of 2)))
 
 abbrev callee : Callee
 callee self p vs depth w = Some (gives self w)

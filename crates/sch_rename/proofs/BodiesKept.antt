@@ -6,7 +6,7 @@ use Rattle.sch_lang.specs.Tree.{Expression, Expressions, Lambdas, Source, consta
 use Rattle.sch_lang.specs.Variables.{assigns}
 use Rattle.sch_lang.specs.Meaning.{onto}
 use Rattle.sch_lang.proofs.Environments.{onto_more}
-use Rattle.sch_word.specs.trees.VariableCounts.{three_each, one_unless}
+use Rattle.sch_word.specs.trees.VariableCounts.{one_unless}
 use Rattle.sch_lang.specs.Measures.{variables, variables_each, variables_operands, variables_parts, onto_assigned, onto_all, bound_count, counts_nothing, procedure, procedures}
 use Rattle.sch_lang.specs.Bodies.{form, bodies, bodies_each, bodies_lambdas, bodies_forms, bodies_of}
 use Rattle.sch_word.proofs.facts.Lists.{append_same, cons_same}

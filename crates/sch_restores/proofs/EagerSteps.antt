@@ -9,7 +9,7 @@ use Rattle.sch_sets.specs.Members.{NumberSet}
 use Rattle.sch_sets.proofs.Membership.{contains-empty, contains-intersection, contains-remove, contains-union}
 use Rattle.sch_word.specs.trees.Bindings.{numbers}
 use Rattle.sch_word.specs.trees.NumberSets.{has, unless, without_repeats}
-use Rattle.sch_word.proofs.facts.Booleans.{and_left, or_swap, or_false, not_either}
+use Rattle.sch_word.proofs.facts.Booleans.{and_left, or_swap, or_right_false, not_either}
 use Rattle.sch_word.proofs.facts.Lists.{all_passing}
 use Rattle.sch_control.specs.declared.operation.Application.{Application}
 use Rattle.sch_control.specs.declared.operation.Atom.{Atom}
@@ -92,7 +92,7 @@ made_given n n' i i' t t' f f' r e e' p q k l is h =
 -- behind a call nothing counts
 pub read_alone : (atoms : List (Atom ℕ)) (none m : NumberSet) → none ≡ set.empty → IsWith atoms none m → (x : ℕ) → set.contains m x ≡ has x (named atoms)
 read_alone atoms none m e w x =
-    w x ∙ (ap (λ z. has x (named atoms) || set.contains z x) e ∙ (ap (λ b. has x (named atoms) || b) (contains-empty x) ∙ or_false (has x (named atoms))))
+    w x ∙ (ap (λ z. has x (named atoms) || set.contains z x) e ∙ (ap (λ b. has x (named atoms) || b) (contains-empty x) ∙ or_right_false (has x (named atoms))))
 
 -- but the return address
 pub read_and_return : (atoms : List (Atom ℕ)) (none link m : NumberSet) → none ≡ set.empty → link ≡ set.insert none 0 → IsWith atoms link m
@@ -207,7 +207,7 @@ pub with_heads : (saves : List ℕ) (none all unbound heads old new : NumberSet)
     → (x : ℕ) → set.contains new x ≡ ((has x saves && set.contains unbound x) || set.contains old x)
 with_heads saves none all unbound heads old new e put met joined x =
     let there : set.contains all x ≡ has x saves
-    = put x ∙ (ap (λ z. has x saves || set.contains z x) e ∙ (ap (λ b. has x saves || b) (contains-empty x) ∙ or_false (has x saves))) in
+    = put x ∙ (ap (λ z. has x saves || set.contains z x) e ∙ (ap (λ b. has x saves || b) (contains-empty x) ∙ or_right_false (has x saves))) in
     ap (λ z. set.contains z x) joined ∙ (contains-union heads old x
     ∙ ap (λ b. b || set.contains old x) (ap (λ z. set.contains z x) met ∙ (contains-intersection all unbound x ∙ ap (λ b. b && set.contains unbound x) there)))
 

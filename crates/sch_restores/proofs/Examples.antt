@@ -4,11 +4,8 @@ use Rattle.sch_control.specs.declared.operation.Atom.TheVariants.{Variable}
 use Rattle.sch_control.specs.declared.operation.Operation.TheVariants as operation
 use Rattle.sch_control.specs.declared.operation.Source.TheVariants as source
 use Rattle.sch_control.specs.Tree.{Expression, perform, bind, branch, fix, call, tail_call, return, end, save}
-use Rattle.sch_control.proofs.Examples.{applied, held_in, truth}
+use Rattle.sch_control.proofs.Examples.{applied, held_in, truth, value_of}
 use Rattle.sch_restores.specs.Restores.{eagerly_restored}
-
-abbrev value_of : ℕ → Expression
-value_of x = perform (operation.Operand (held_in x))
 
 abbrev calls_one : (site operator : ℕ) → List ℕ → Expression
 calls_one site operator listed = call (applied site (held_in operator) []) listed

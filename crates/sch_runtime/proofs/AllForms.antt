@@ -1,7 +1,7 @@
 -- All routines keep to the form of routines, and name RBP only to put its address into RCX. Neither sees how long a number or a
 -- displacement is, nor where the heap ends.
 use Rattle.std.proofs.Common.{◌≡◌, ℕ, ◌+◌, List, [], ◌∷◌, ◌++◌, true, Option, Some, None, cond, refl, sym, ap, ◌∙◌, ◌&&◌}
-use Rattle.std.specs.Prelude.{ℤ, IsTrue, nat_eq, nat_le}
+use Rattle.std.specs.Prelude.{ℤ, Bool, IsTrue, false, nat_eq, nat_le}
 use Rattle.std.specs.List.{list_all}
 use Rattle.std.proofs.lemmas.List.{map-append}
 use Rattle.sch_insn.specs.declared.insn.Arg.TheVariants.{Base8, Base32}
@@ -12,7 +12,8 @@ use Rattle.sch_asm.specs.declared.item.Item.{Item}
 use Rattle.sch_asm.specs.declared.item.Item.TheVariants as item
 use Rattle.sch_asm.specs.Narrow.{narrow_item, narrowed, short_number, with_operand}
 use Rattle.sch_runtime.specs.Code.{all_routines, routine_items}
-use Rattle.sch_runtime.specs.Form.{Return, in_register, in_word, exits, behind, each_keeps, goes_right, keeps_form, kept_times, labels_at}
+use Rattle.sch_runtime.specs.Form.{Return, in_register, in_word, exits, behind, each_keeps, ends, goes_right, keeps_form, kept_times}
+use Rattle.sch_runtime.specs.Form.{labels_at, leaves}
 use Rattle.sch_select_memory.specs.ValueCode.{value_code}
 use Rattle.sch_runtime.specs.FrameRegister.{leaves_frame}
 use Rattle.sch_asm.proofs.NarrowItems.{item_same}
@@ -67,12 +68,33 @@ times_same [] = refl
 times_same (item.StoreWord a r ∷ is) = ap (λ n. cond (nat_eq r R11) 1 0 + n) (times_same is)
 times_same (_ ∷ is) = times_same is
 
+left_numbers : (i : Insn) → leaves (item.Plain (short_number i)) ≡ leaves (item.Plain i)
+left_numbers (AddNumber m n) = refl
+left_numbers _ = refl
+
+left_operands : (i : Insn) (b : ℕ) (d : ℤ)
+    → leaves (item.Plain (with_operand (Base8 b d) i)) ≡ leaves (item.Plain (with_operand (Base32 b d) i))
+left_operands (MovTo m r) b d = refl
+left_operands _ b d = refl
+
+ends_same : (left : Bool) (is : List Item) → ends left (narrowed is) ≡ ends left is
+ends_same left [] = refl
+ends_same left (i ∷ is) = ap (λ b. ends b (narrowed is)) (item_same leaves left_numbers left_operands i) ∙ ends_same (leaves i) is
+
+each_same : (is : List Item)
+    → each_keeps (labels_at (Some in_register) (narrowed is)) (Some in_register) (narrowed is)
+    ≡ each_keeps (labels_at (Some in_register) is) (Some in_register) is
+each_same is =
+    let start = Some in_register in
+    ap (λ labels. each_keeps labels start (narrowed is)) (labels_same start is)
+    ∙ keeps_same (labels_at start is) start is
+
 form_same : (is : List Item) → keeps_form (narrowed is) ≡ keeps_form is
 form_same is =
     let start = Some in_register in
-    ap (λ n. nat_le n 1 && each_keeps (labels_at start (narrowed is)) start (narrowed is)) (times_same is)
-    ∙ ap (λ labels. nat_le (kept_times is) 1 && each_keeps labels start (narrowed is)) (labels_same start is)
-    ∙ ap (λ b. nat_le (kept_times is) 1 && b) (keeps_same (labels_at start is) start is)
+    ap (λ n. nat_le n 1 && (ends false (narrowed is) && each_keeps (labels_at start (narrowed is)) start (narrowed is))) (times_same is)
+    ∙ ap (λ b. nat_le (kept_times is) 1 && (b && each_keeps (labels_at start (narrowed is)) start (narrowed is))) (ends_same false is)
+    ∙ ap (λ b. nat_le (kept_times is) 1 && (ends false is && b)) (each_same is)
 
 -- the items before they have their shortest forms
 wide_keep : (heap_end : ℕ) → keeps_form (value_code heap_end ++ routine_items) ≡ true

@@ -32,7 +32,7 @@ routine_bytes : text_size routine_items ≡ 447
 routine_bytes = refl
 
 -- a program's text, with all jumps long
-abbrev all_long : Set
+abbrev pub all_long : Set
 all_long = λ k. true
 
 abbrev text_of : List Item → List ℕ

@@ -11,5 +11,5 @@ pub mod RoutineItems
 mod EachRegister
 pub mod AllForms
 pub mod AllItems
-mod Examples
+pub mod Examples
 mod FormExamples

@@ -10,6 +10,7 @@ use Rattle.sch_word.specs.runs.ProgramLayout.{data_address}
 use Rattle.sch_word.specs.declared.stop.Stop.TheVariants.{OutputFailed}
 use Rattle.sch_asm.specs.declared.item.Item.{Item}
 use Rattle.sch_asm.specs.declared.item.Item.TheVariants.{Label, Plain, Jump, JumpIf, LoadWord, StoreWord}
+use Rattle.sch_asm.specs.declared.routine.TheConstants.{FIRST_INNER_LABEL}
 use Rattle.sch_asm.specs.declared.routine.Routine.TheVariants.{Stop, Put, PutFixnum, FillWords, FillBytes}
 use Rattle.sch_asm.specs.Narrow.{narrowed}
 use Rattle.sch_asm.specs.Routines.{label_of}
@@ -35,7 +36,7 @@ bytes_label = label_of FillBytes
 -- Inside the routines:
 
 abbrev pub write_label : ℕ
-write_label = 64
+write_label = FIRST_INNER_LABEL
 
 abbrev pub loop_label : ℕ
 loop_label = 65

@@ -1,66 +1,49 @@
 -- The form to which the items of routines keep, beside what they do: from it whoever reads their text alone can tell where a
 -- routine returns. R11 has the address to which it returns. A call of the kernel overwrites R11 (SDM volume 2, SYSCALL), so
 -- around such calls a word of the data has that address: one store of R11 puts it there, and one load from that word brings it
--- back. No other instruction writes R11, and in between nothing is written but other words of the data. A routine that exits
--- calls the kernel directly behind `mov rax, 60`, and returns nowhere.
+-- back. But for these and the jump that returns, no item names R11: none writes it, and none moves what it has to another place.
+-- In between, of memory only other words of the data are written. A routine that exits calls the kernel directly behind `mov rax, 60`, and
+-- returns nowhere. Behind the last item nothing goes on. That each label stands once and that no instruction is a direct jump is
+-- not said here: `Asm` has it.
 use Rattle.std.specs.Prelude.{ℕ, ◌+◌, ◌%◌, nat_eq, nat_le, pos, cond, Bool, true, false, ◌&&◌, ◌||◌, not, List, [], ◌∷◌, Option, Some, None}
 use Rattle.std.specs.List.{list_any}
-use Rattle.sch_insn.specs.declared.insn.Arg.{Arg}
 use Rattle.sch_insn.specs.declared.insn.Arg.TheVariants.{Reg}
 use Rattle.sch_insn.specs.declared.insn.Insn.{Insn}
 use Rattle.sch_insn.specs.declared.insn.Insn.TheVariants as insn
 use Rattle.sch_insn.specs.declared.register.TheConstants.{RAX, R11}
+use Rattle.sch_insn.specs.Spelling.{in_memory}
 use Rattle.sch_asm.specs.declared.item.Item.{Item}
 use Rattle.sch_asm.specs.declared.item.Item.TheVariants.{Label, Plain, Jump, JumpIf, LoadLabel, LoadWord, StoreWord}
 use Rattle.sch_asm.specs.Items.{is_routine}
 use Rattle.sch_runtime.specs.Code.{statuses}
+use Rattle.sch_runtime.specs.FrameRegister.{is_itself, is_without}
 
--- ## Instructions: the operand that is written (SDM volume 2, the page of each mnemonic). A division writes RAX and RDX, and
--- `cqo` RDX.
+-- ## Instructions: which write memory (SDM volume 2, the page of each mnemonic)
 
-abbrev pub written : Insn → Option Arg
-written (insn.MovTo m r) = Some m
-written (insn.MovFrom r m) = Some (Reg r)
-written (insn.MovNumber m n) = Some m
-written (insn.MovWord r n) = Some (Reg r)
-written (insn.StoreByte m r) = Some m
-written (insn.LoadByte r m) = Some (Reg r)
-written (insn.Lea r m) = Some (Reg r)
-written (insn.AddTo m r) = Some m
-written (insn.OrTo m r) = Some m
-written (insn.AndTo m r) = Some m
-written (insn.SubTo m r) = Some m
-written (insn.XorTo m r) = Some m
-written (insn.AddFrom r m) = Some (Reg r)
-written (insn.OrFrom r m) = Some (Reg r)
-written (insn.AndFrom r m) = Some (Reg r)
-written (insn.SubFrom r m) = Some (Reg r)
-written (insn.XorFrom r m) = Some (Reg r)
-written (insn.AddNumber m n) = Some m
-written (insn.OrNumber m n) = Some m
-written (insn.AndNumber m n) = Some m
-written (insn.SubNumber m n) = Some m
-written (insn.XorNumber m n) = Some m
-written (insn.AddNumber8 m n) = Some m
-written (insn.OrNumber8 m n) = Some m
-written (insn.AndNumber8 m n) = Some m
-written (insn.SubNumber8 m n) = Some m
-written (insn.XorNumber8 m n) = Some m
-written (insn.Imul r m) = Some (Reg r)
-written (insn.Neg m) = Some m
-written (insn.Shl m k) = Some m
-written (insn.Shr m k) = Some m
-written (insn.Sar m k) = Some m
-written _ = None
-
-abbrev pub is_r11 : Option Arg → Bool
-is_r11 (Some (Reg r)) = nat_eq r R11
-is_r11 _ = false
-
-abbrev pub is_memory : Option Arg → Bool
-is_memory None = false
-is_memory (Some (Reg r)) = false
-is_memory (Some m) = true
+abbrev pub writes_memory : Insn → Bool
+writes_memory (insn.MovTo m r) = in_memory m
+writes_memory (insn.MovNumber m n) = in_memory m
+writes_memory (insn.StoreByte m r) = in_memory m
+writes_memory (insn.AddTo m r) = in_memory m
+writes_memory (insn.OrTo m r) = in_memory m
+writes_memory (insn.AndTo m r) = in_memory m
+writes_memory (insn.SubTo m r) = in_memory m
+writes_memory (insn.XorTo m r) = in_memory m
+writes_memory (insn.AddNumber m n) = in_memory m
+writes_memory (insn.OrNumber m n) = in_memory m
+writes_memory (insn.AndNumber m n) = in_memory m
+writes_memory (insn.SubNumber m n) = in_memory m
+writes_memory (insn.XorNumber m n) = in_memory m
+writes_memory (insn.AddNumber8 m n) = in_memory m
+writes_memory (insn.OrNumber8 m n) = in_memory m
+writes_memory (insn.AndNumber8 m n) = in_memory m
+writes_memory (insn.SubNumber8 m n) = in_memory m
+writes_memory (insn.XorNumber8 m n) = in_memory m
+writes_memory (insn.Neg m) = in_memory m
+writes_memory (insn.Shl m k) = in_memory m
+writes_memory (insn.Shr m k) = in_memory m
+writes_memory (insn.Sar m k) = in_memory m
+writes_memory _ = false
 
 abbrev pub is_exit_number : Insn → Bool
 is_exit_number (insn.MovNumber (Reg r) (pos n)) = nat_eq r RAX && nat_eq n 60
@@ -88,8 +71,8 @@ when false at = None
 -- Where it is in R11, the only call of the kernel is to come, and a jump through a register goes there.
 abbrev pub register_insn : Insn → Option Return
 register_insn insn.Syscall = None
-register_insn (insn.JumpTo m) = when (is_r11 (Some m)) in_register
-register_insn i = when (not (is_r11 (written i))) in_register
+register_insn (insn.JumpTo m) = when (is_itself R11 m) in_register
+register_insn i = when (is_without R11 i) in_register
 
 abbrev pub behind_register : Item → Option Return
 behind_register (Label l) = Some (cond (is_exit l) (exits false) in_register)
@@ -103,7 +86,7 @@ behind_register _ = Some in_register
 abbrev pub word_insn : ℕ → Insn → Option Return
 word_insn a insn.Syscall = Some (in_word a)
 word_insn a (insn.JumpTo m) = None
-word_insn a i = when (not (is_r11 (written i)) && not (is_memory (written i))) (in_word a)
+word_insn a i = when (is_without R11 i && not (writes_memory i)) (in_word a)
 
 abbrev pub behind_word : ℕ → Item → Option Return
 behind_word a (Label l) = when (not (is_routine l)) (in_word a)
@@ -117,7 +100,7 @@ behind_word a _ = Some (in_word a)
 abbrev pub exit_insn : (numbered : Bool) → Insn → Option Return
 exit_insn numbered insn.Syscall = when numbered in_register
 exit_insn numbered (insn.JumpTo m) = None
-exit_insn numbered i = when (not (is_memory (written i))) (exits (is_exit_number i))
+exit_insn numbered i = when (is_without R11 i && not (writes_memory i)) (exits (is_exit_number i))
 
 abbrev pub behind_exit : (numbered : Bool) → Item → Option Return
 behind_exit numbered (Plain i) = exit_insn numbered i
@@ -167,6 +150,19 @@ kept_times [] = 0
 kept_times (StoreWord a r ∷ is) = cond (nat_eq r R11) 1 0 + kept_times is
 kept_times (i ∷ is) = kept_times is
 
+-- What stands behind the item is reached by a label alone: a jump, or a call of the kernel. Of these calls only one that exits can
+-- be the last item, since no text ends where a word has the address.
+abbrev pub leaves : Item → Bool
+leaves (Jump l) = true
+leaves (Plain (insn.JumpTo m)) = true
+leaves (Plain insn.Syscall) = true
+leaves _ = false
+
+-- whether the last item is such a one
+abbrev pub ends : (left : Bool) → List Item → Bool
+ends left [] = left
+ends left (i ∷ is) = ends (leaves i) is
+
 -- All items keep to the form, from a first one at which R11 has the address.
 abbrev pub keeps_form : List Item → Bool
-keeps_form is = nat_le (kept_times is) 1 && each_keeps (labels_at (Some in_register) is) (Some in_register) is
+keeps_form is = nat_le (kept_times is) 1 && (ends false is && each_keeps (labels_at (Some in_register) is) (Some in_register) is)

@@ -18,7 +18,7 @@ use crate::new_list::rest_routine;
 use crate::new_string::string_routine;
 use crate::new_vector::vector_routine;
 use crate::put_value::put_routine;
-use sch_asm::{Asm, Item, Routine, narrowed};
+use sch_asm::{Asm, FIRST_INNER_LABEL, Item, Routine, narrowed};
 use sch_insn::condition::{E, GE, LE, NE};
 use sch_insn::register::{R11, RAX, RCX, RDI, RDX, RSI};
 use sch_insn::{Arg, Insn};
@@ -29,7 +29,7 @@ use std::alloc::Global;
 const STATUSES: [u8; 11] = [0, 65, 66, 67, 68, 69, 70, 71, 72, 73, 74];
 
 // Labels inside the routines.
-const WRITE: u32 = 64;
+const WRITE: u32 = FIRST_INNER_LABEL;
 
 const LOOP: u32 = 65;
 

@@ -10,11 +10,11 @@ ghost use Rattle.sch_select_memory.specs.RestCode.{list_label, more_code, regist
 
 use sch_asm::Item;
 use sch_insn::condition::{A, E, NE};
-use sch_insn::register::{R11, R12, RAX, RBP, RCX, RDX};
+use sch_insn::register::{R11, RAX, RCX, RDX};
 use sch_insn::{Arg, Insn};
 use sch_select_memory::addresses::{DATA_OFFSET, FIRST_IN_SLOT, heap_offset, list_label, stop};
 use sch_select_memory::word::{NIL, PAIR};
-use sch_word::{ARGUMENT_REGISTERS, List, Mem, Stop};
+use sch_word::{ARGUMENT_REGISTERS, FRAME_REGISTER, HEAP_REGISTER, List, Mem, Stop};
 
 // The labels inside the routine, most of them numbered by the operands in front.
 const REST_LABEL: u32 = 81;
@@ -36,7 +36,7 @@ fn check_list(out: &mut List<Item>, heap_end: u32) -> Result<(), Mem>
     out.extend_from_slice(&[
         Item::Plain(Insn::MovTo(Arg::Reg(RDX), RAX)),
         Item::Plain(Insn::Shl(Arg::Reg(RDX), 4)),
-        Item::Plain(Insn::AddTo(Arg::Reg(RDX), R12)),
+        Item::Plain(Insn::AddTo(Arg::Reg(RDX), HEAP_REGISTER)),
         Item::Plain(Insn::SubNumber(Arg::Reg(RDX), DATA_OFFSET)),
         Item::Plain(Insn::CmpNumber(Arg::Reg(RDX), end)),
         Item::JumpIf(A, stop(Stop::HeapLimit)),
@@ -55,8 +55,8 @@ fn first_register(out: &mut List<Item>, m: u32, r: u8) -> Result<(), Mem>
         Item::Plain(Insn::MovNumber(Arg::Reg(r), NIL)),
         Item::Plain(Insn::JumpTo(Arg::Reg(R11))),
         Item::Label(SOME_LABEL + m),
-        Item::Plain(Insn::MovTo(Arg::Base32(R12, 0), r)),
-        Item::Plain(Insn::MovTo(Arg::Reg(r), R12)),
+        Item::Plain(Insn::MovTo(Arg::Base32(HEAP_REGISTER, 0), r)),
+        Item::Plain(Insn::MovTo(Arg::Reg(r), HEAP_REGISTER)),
         Item::Plain(Insn::AddNumber(Arg::Reg(r), PAIR)),
         Item::Jump(MORE_LABEL + (m + 1)),
     ])
@@ -92,7 +92,7 @@ fn enter_slots(out: &mut List<Item>) -> Result<(), Mem>
 {
     out.extend_from_slice(&[
         Item::Label(list_label(FIRST_IN_SLOT)),
-        Item::Plain(Insn::AddTo(Arg::Reg(RCX), RBP)),
+        Item::Plain(Insn::AddTo(Arg::Reg(RCX), FRAME_REGISTER)),
     ])
 }
 
@@ -108,8 +108,8 @@ fn first_slot(out: &mut List<Item>) -> Result<(), Mem>
         Item::Plain(Insn::JumpTo(Arg::Reg(R11))),
         Item::Label(SOME_LABEL + FIRST_IN_SLOT),
         Item::Plain(Insn::MovFrom(RDX, Arg::Base32(RCX, 0))),
-        Item::Plain(Insn::MovTo(Arg::Base32(R12, 0), RDX)),
-        Item::Plain(Insn::MovTo(Arg::Reg(RDX), R12)),
+        Item::Plain(Insn::MovTo(Arg::Base32(HEAP_REGISTER, 0), RDX)),
+        Item::Plain(Insn::MovTo(Arg::Reg(RDX), HEAP_REGISTER)),
         Item::Plain(Insn::AddNumber(Arg::Reg(RDX), PAIR)),
         Item::Plain(Insn::MovTo(Arg::Base32(RCX, 0), RDX)),
         Item::Plain(Insn::AddNumber(Arg::Reg(RCX), 8)),
@@ -126,11 +126,11 @@ fn more(out: &mut List<Item>, m: u32, r: u8) -> Result<(), Mem>
         Item::Label(MORE_LABEL + m),
         Item::Plain(Insn::SubNumber(Arg::Reg(RAX), 1)),
         Item::JumpIf(E, DONE_LABEL),
-        Item::Plain(Insn::MovTo(Arg::Reg(RDX), R12)),
+        Item::Plain(Insn::MovTo(Arg::Reg(RDX), HEAP_REGISTER)),
         Item::Plain(Insn::AddNumber(Arg::Reg(RDX), 16 + PAIR)),
-        Item::Plain(Insn::MovTo(Arg::Base32(R12, 8), RDX)),
-        Item::Plain(Insn::AddNumber(Arg::Reg(R12), 16)),
-        Item::Plain(Insn::MovTo(Arg::Base32(R12, 0), r)),
+        Item::Plain(Insn::MovTo(Arg::Base32(HEAP_REGISTER, 8), RDX)),
+        Item::Plain(Insn::AddNumber(Arg::Reg(HEAP_REGISTER), 16)),
+        Item::Plain(Insn::MovTo(Arg::Base32(HEAP_REGISTER, 0), r)),
     ])
 }
 
@@ -150,21 +150,21 @@ fn slots(out: &mut List<Item>) -> Result<(), Mem>
 {
     out.extend_from_slice(&[
         Item::Label(MORE_LABEL + FIRST_IN_SLOT),
-        Item::Plain(Insn::MovTo(Arg::Reg(RCX), RBP)),
+        Item::Plain(Insn::MovTo(Arg::Reg(RCX), FRAME_REGISTER)),
         Item::Label(LOOP_LABEL),
         Item::Plain(Insn::SubNumber(Arg::Reg(RAX), 1)),
         Item::JumpIf(E, DONE_LABEL),
-        Item::Plain(Insn::MovTo(Arg::Reg(RDX), R12)),
+        Item::Plain(Insn::MovTo(Arg::Reg(RDX), HEAP_REGISTER)),
         Item::Plain(Insn::AddNumber(Arg::Reg(RDX), 16 + PAIR)),
-        Item::Plain(Insn::MovTo(Arg::Base32(R12, 8), RDX)),
-        Item::Plain(Insn::AddNumber(Arg::Reg(R12), 16)),
+        Item::Plain(Insn::MovTo(Arg::Base32(HEAP_REGISTER, 8), RDX)),
+        Item::Plain(Insn::AddNumber(Arg::Reg(HEAP_REGISTER), 16)),
         Item::Plain(Insn::MovFrom(RDX, Arg::Base32(RCX, 0))),
-        Item::Plain(Insn::MovTo(Arg::Base32(R12, 0), RDX)),
+        Item::Plain(Insn::MovTo(Arg::Base32(HEAP_REGISTER, 0), RDX)),
         Item::Plain(Insn::AddNumber(Arg::Reg(RCX), 8)),
         Item::Jump(LOOP_LABEL),
         Item::Label(DONE_LABEL),
-        Item::Plain(Insn::MovNumber(Arg::Base32(R12, 8), NIL)),
-        Item::Plain(Insn::AddNumber(Arg::Reg(R12), 16)),
+        Item::Plain(Insn::MovNumber(Arg::Base32(HEAP_REGISTER, 8), NIL)),
+        Item::Plain(Insn::AddNumber(Arg::Reg(HEAP_REGISTER), 16)),
         Item::Plain(Insn::JumpTo(Arg::Reg(R11))),
     ])
 }

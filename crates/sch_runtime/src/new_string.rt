@@ -9,11 +9,11 @@ ghost use Rattle.sch_select_memory.specs.MakeCode.{check_filling, make_string_co
 use crate::new_vector::check_room;
 use sch_asm::{Item, Routine};
 use sch_insn::condition::{L, NE};
-use sch_insn::register::{R12, RAX, RCX, RDX};
+use sch_insn::register::{RAX, RCX, RDX};
 use sch_insn::{Arg, Insn};
 use sch_select_memory::addresses::stop;
 use sch_select_memory::word::{BYTE_MASK, CHARACTER, CHARACTER_SHIFT, FIXNUM_SHIFT, TAG_MASK};
-use sch_word::{List, Mem, Stop};
+use sch_word::{HEAP_REGISTER, List, Mem, Stop};
 
 /// RAX has a length and RCX a character, or the program stops.
 fn check_filling(out: &mut List<Item>) -> Result<(), Mem>
@@ -48,11 +48,11 @@ pub(crate) fn string_routine(out: &mut List<Item>, heap_end: u32) -> Result<(), 
     ])?;
     check_room(out, heap_end)?;
     out.extend_from_slice(&[
-        Item::Plain(Insn::MovTo(Arg::Base32(R12, 0), RAX)),
+        Item::Plain(Insn::MovTo(Arg::Base32(HEAP_REGISTER, 0), RAX)),
         Item::Plain(Insn::Shr(Arg::Reg(RCX), CHARACTER_SHIFT)),
         Item::Plain(Insn::MovTo(Arg::Reg(RDX), RAX)),
         Item::Plain(Insn::Shr(Arg::Reg(RDX), FIXNUM_SHIFT)),
-        Item::Plain(Insn::MovTo(Arg::Reg(RAX), R12)),
+        Item::Plain(Insn::MovTo(Arg::Reg(RAX), HEAP_REGISTER)),
         Item::Plain(Insn::AddNumber(Arg::Reg(RAX), 8)),
         Item::Jump(Routine::FillBytes.label()),
     ])

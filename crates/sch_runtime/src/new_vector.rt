@@ -8,11 +8,11 @@ ghost use Rattle.sch_select_memory.specs.MakeCode.{check_room, make_vector_code}
 
 use sch_asm::{Item, Routine};
 use sch_insn::condition::{A, L, NE};
-use sch_insn::register::{R12, RAX, RDX};
+use sch_insn::register::{RAX, RDX};
 use sch_insn::{Arg, Insn};
 use sch_select_memory::addresses::{DATA_OFFSET, heap_offset, stop};
 use sch_select_memory::word::{FIXNUM_SHIFT, TAG_MASK};
-use sch_word::{List, Mem, Stop};
+use sch_word::{HEAP_REGISTER, List, Mem, Stop};
 
 /// The heap has as many bytes left as RDX says, or stop 71.
 pub(crate) fn check_room(out: &mut List<Item>, heap_end: u32) -> Result<(), Mem>
@@ -21,7 +21,7 @@ pub(crate) fn check_room(out: &mut List<Item>, heap_end: u32) -> Result<(), Mem>
 {
     let end = heap_offset(heap_end);
     out.extend_from_slice(&[
-        Item::Plain(Insn::AddTo(Arg::Reg(RDX), R12)),
+        Item::Plain(Insn::AddTo(Arg::Reg(RDX), HEAP_REGISTER)),
         Item::Plain(Insn::SubNumber(Arg::Reg(RDX), DATA_OFFSET)),
         Item::Plain(Insn::CmpNumber(Arg::Reg(RDX), end)),
         Item::JumpIf(A, stop(Stop::HeapLimit)),
@@ -47,10 +47,10 @@ pub(crate) fn vector_routine(out: &mut List<Item>, heap_end: u32) -> Result<(), 
     ])?;
     check_room(out, heap_end)?;
     out.extend_from_slice(&[
-        Item::Plain(Insn::MovTo(Arg::Base32(R12, 0), RAX)),
+        Item::Plain(Insn::MovTo(Arg::Base32(HEAP_REGISTER, 0), RAX)),
         Item::Plain(Insn::MovTo(Arg::Reg(RDX), RAX)),
         Item::Plain(Insn::Shr(Arg::Reg(RDX), FIXNUM_SHIFT)),
-        Item::Plain(Insn::MovTo(Arg::Reg(RAX), R12)),
+        Item::Plain(Insn::MovTo(Arg::Reg(RAX), HEAP_REGISTER)),
         Item::Plain(Insn::AddNumber(Arg::Reg(RAX), 8)),
         Item::Jump(Routine::FillWords.label()),
     ])

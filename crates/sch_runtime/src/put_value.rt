@@ -9,7 +9,7 @@ use sch_asm::{Item, Routine};
 use sch_insn::condition::{E, NE};
 use sch_insn::register::{RAX, RDX};
 use sch_insn::{Arg, Insn};
-use sch_select_memory::addresses::{TABLE_ADDRESS, stop};
+use sch_select_memory::addresses::{DATA_OFFSET, TABLE_ADDRESS, stop};
 use sch_select_memory::word::{
     BYTE_MASK, CELL, CHARACTER, CHARACTER_SHIFT, FALSE, FIXNUM_SHIFT, NIL, PAIR, PROCEDURE, STRING,
     SYMBOL, TAG_MASK, TRUE, VECTOR,
@@ -32,9 +32,9 @@ const STRING_BYTES: u32 = 79;
 const SYMBOL_BYTES: u32 = 80;
 
 // Where the bytes and the texts that are put stand.
-const BYTES_ADDRESS: i32 = 0x1000_0200;
+const BYTES_ADDRESS: i32 = DATA_OFFSET + 0x200;
 
-const TEXTS_ADDRESS: i32 = 0x1000_0300;
+const TEXTS_ADDRESS: i32 = BYTES_ADDRESS + 256;
 
 /// The tag of the word in RAX. Fixnums, procedures, strings and symbols are put elsewhere, and other objects are not.
 fn put_tags() -> [Item; 16]

@@ -1,16 +1,13 @@
 -- Worked rows: where bodies save what.
-use Rattle.std.proofs.Common.{◌≡◌, refl, ℕ, true, false, [], ◌∷◌}
+use Rattle.std.proofs.Common.{◌≡◌, refl, true, false, [], ◌∷◌}
 use Rattle.std.specs.Prelude.{nat_eq}
 use Rattle.sch_word.specs.declared.primitive.Primitive.TheVariants.{Subtract, Multiply, Equal, Eq}
 use Rattle.sch_control.specs.declared.operation.Atom.TheVariants.{Variable}
 use Rattle.sch_control.specs.declared.operation.Source.TheVariants as source
 use Rattle.sch_control.specs.declared.operation.Operation.TheVariants as operation
 use Rattle.sch_control.specs.Tree.{Expression, perform, bind, sequence, branch, fix, call, tail_call, return, end, save}
-use Rattle.sch_control.proofs.Examples.{number, truth, held_in, applied}
+use Rattle.sch_control.proofs.Examples.{number, truth, held_in, applied, value_of}
 use Rattle.sch_saves.specs.LazyRegions.{outermost, lazily_saved}
-
-abbrev value_of : ℕ → Expression
-value_of x = perform (operation.Operand (held_in x))
 
 abbrev global : Expression
 global = perform (operation.Global 0)

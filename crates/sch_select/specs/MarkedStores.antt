@@ -4,10 +4,11 @@
 use Rattle.std.specs.Prelude.{ℕ, nat_eq, Bool, true, false, ◌&&◌, not, List, [], ◌∷◌, Option, Some, None}
 use Rattle.sch_word.specs.declared.mark.MarkKind.{MarkKind}
 use Rattle.sch_word.specs.declared.mark.MarkKind.TheVariants as mark
+use Rattle.sch_word.specs.declared.registers.TheConstants.{CLOSURE_REGISTER, FRAME_REGISTER, LINK_REGISTER}
 use Rattle.sch_insn.specs.declared.insn.Arg.TheVariants.{Reg}
 use Rattle.sch_insn.specs.declared.insn.Insn.{Insn}
 use Rattle.sch_insn.specs.declared.insn.Insn.TheVariants as insn
-use Rattle.sch_insn.specs.declared.register.TheConstants.{RDX, RBP, R14, R15}
+use Rattle.sch_insn.specs.declared.register.TheConstants.{RDX}
 use Rattle.sch_asm.specs.declared.item.Item.{Item}
 use Rattle.sch_asm.specs.declared.item.Item.TheVariants as item
 use Rattle.sch_runtime.specs.FrameRegister.{has_base}
@@ -43,12 +44,12 @@ writes_at base _ = false
 -- ## Items
 
 abbrev pub writes_frame : Item → Bool
-writes_frame (item.Plain i) = writes_at RBP i
+writes_frame (item.Plain i) = writes_at FRAME_REGISTER i
 writes_frame _ = false
 
 -- a word of the frame into a register
 abbrev pub loads_frame : Item → Bool
-loads_frame (item.Plain (insn.MovFrom r m)) = has_base RBP m
+loads_frame (item.Plain (insn.MovFrom r m)) = has_base FRAME_REGISTER m
 loads_frame _ = false
 
 -- one `mov`, into a register or a slot
@@ -59,11 +60,11 @@ moves_word _ = false
 
 -- a call begins with the check of its operator
 abbrev pub checks_operator : Item → Bool
-checks_operator (item.Plain (insn.MovTo (Reg d) r)) = nat_eq d RDX && nat_eq r R14
+checks_operator (item.Plain (insn.MovTo (Reg d) r)) = nat_eq d RDX && nat_eq r CLOSURE_REGISTER
 checks_operator _ = false
 
 abbrev pub returns : Item → Bool
-returns (item.Plain (insn.JumpTo (Reg r))) = nat_eq r R15
+returns (item.Plain (insn.JumpTo (Reg r))) = nat_eq r LINK_REGISTER
 returns _ = false
 
 -- Before which item a mark stands. What is set aside may be set aside in a register.

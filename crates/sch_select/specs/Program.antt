@@ -1,16 +1,15 @@
 -- A whole program: its items, and the zeros behind its words.
 use Rattle.std.specs.Prelude.{ℕ, suc, ◌+◌, ◌-◌, ◌*◌, Bool, true, false, List, [], ◌∷◌, length, pos, Option, Some}
 use Rattle.std.specs.Prelude.{None}
-use Rattle.sch_word.specs.runs.ProgramLayout as layout
 use Rattle.sch_word.specs.values.Literals.{count_literals}
 use Rattle.sch_control.specs.declared.body.Entry.{Entry}
 use Rattle.sch_frames.specs.Tree.{Code, Source}
 use Rattle.sch_insn.specs.declared.insn.Insn.TheVariants.{MovWord}
-use Rattle.sch_insn.specs.declared.register.TheConstants.{RBP, R12, R13}
 use Rattle.sch_asm.specs.declared.item.Item.{Item}
 use Rattle.sch_asm.specs.declared.item.Item.TheVariants as item
 use Rattle.sch_asm.specs.Narrow.{narrowed}
 use Rattle.sch_word.specs.declared.mark.MarkKind.TheVariants.{Enter}
+use Rattle.sch_word.specs.declared.registers.TheConstants.{DEPTH_REGISTER, FRAME_REGISTER, HEAP_REGISTER}
 use Rattle.sch_asm.specs.declared.routine.Routine.TheVariants as routine
 use Rattle.sch_asm.specs.Routines.{label_of}
 use Rattle.sch_select_memory.specs.Addresses.{body_label}
@@ -65,12 +64,9 @@ module _ (words heap_end literals : ℕ) where
 
 -- ## Sizes
 
--- the most bytes of a stack, but for its last frame (the project's own), and of the data
+-- the most bytes of a stack, but for its last frame (the project's own)
 abbrev pub max_stack : ℕ
 max_stack = 1073741824
-
-abbrev pub max_data : ℕ
-max_data = layout.max_data_size
 
 -- the frames of a form and of the calls that may be pending
 abbrev pub frames_bytes : (words depth : ℕ) → ℕ
@@ -89,9 +85,9 @@ own_label p = body_label (length p.bodies)
 -- bodies, with their count, and what stands in front of them and behind
 abbrev pub laid_code : (words heap_end literals heap depth count : ℕ) → List Code → List Item
 laid_code words heap_end literals heap depth count bodies =
-    item.Plain (MovWord RBP (pos heap_end))
-    ∷ (item.Plain (MovWord R12 (pos heap))
-    ∷ (item.Plain (MovWord R13 (pos depth))
+    item.Plain (MovWord FRAME_REGISTER (pos heap_end))
+    ∷ (item.Plain (MovWord HEAP_REGISTER (pos heap))
+    ∷ (item.Plain (MovWord DEPTH_REGISTER (pos depth))
     ∷ forms_code words heap_end literals 0 (body_label count) bodies
     (item.Jump (label_of routine.End) ∷ [])))
 

@@ -4,6 +4,7 @@
 use Rattle.std.specs.Prelude.{ℕ, ◌+◌, List, [], ◌∷◌, pos}
 use Rattle.sch_word.specs.declared.place.Place.{Place}
 use Rattle.sch_word.specs.declared.place.Place.TheVariants as place
+use Rattle.sch_word.specs.declared.registers.TheConstants.{LINK_REGISTER}
 use Rattle.sch_control.specs.declared.operation.Operand.{Operand}
 use Rattle.sch_control.specs.declared.operation.Operand.TheVariants as operand
 use Rattle.sch_control.specs.declared.operation.Operation.{Operation}
@@ -14,7 +15,7 @@ use Rattle.sch_insn.specs.declared.condition.TheConstants.{E}
 use Rattle.sch_insn.specs.declared.insn.Arg.TheVariants.{Reg}
 use Rattle.sch_insn.specs.declared.insn.Insn.{Insn}
 use Rattle.sch_insn.specs.declared.insn.Insn.TheVariants.{MovTo, MovFrom, CmpNumber, JumpTo}
-use Rattle.sch_insn.specs.declared.register.TheConstants.{RAX, R15}
+use Rattle.sch_insn.specs.declared.register.TheConstants.{RAX}
 use Rattle.sch_asm.specs.declared.item.Item.{Item}
 use Rattle.sch_asm.specs.declared.item.Item.TheVariants.{Label, Plain, Jump, JumpIf, Mark}
 use Rattle.sch_select_memory.specs.Encoded.{false_word}
@@ -69,7 +70,7 @@ module _ (base out words heap_end literals : ℕ) where
   instruction_code n (instruction.Fix members spills) rest = group_code heap_end members spills rest
   instruction_code n (instruction.Call spread count) rest = call_code words n count rest
   instruction_code n (instruction.Tail spread count) rest = tail_code count rest
-  instruction_code n instruction.Return rest = Plain (JumpTo (Reg R15)) ∷ rest
+  instruction_code n instruction.Return rest = Plain (JumpTo (Reg LINK_REGISTER)) ∷ rest
   instruction_code n instruction.End rest = Jump out ∷ rest
   instruction_code n (instruction.IfFalse l) rest = Plain (CmpNumber (Reg RAX) (pos false_word)) ∷
       (JumpIf E (base + l) ∷ rest)

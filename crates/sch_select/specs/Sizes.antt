@@ -1,4 +1,4 @@
--- How many steps a program takes at most, how many instructions its items have, and which marks.
+-- How many steps a program takes at most, and which marks its items have.
 use Rattle.std.specs.Prelude.{ℕ, suc, ◌+◌, ◌*◌, List, [], ◌∷◌, ◌++◌, length, map}
 use Rattle.sch_frames.specs.declared.instruction.Instruction.{Instruction}
 use Rattle.sch_frames.specs.declared.instruction.Instruction.TheVariants.{Fix, Mark}

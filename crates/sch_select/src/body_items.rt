@@ -19,13 +19,13 @@ use sch_asm::Item;
 use sch_control::{Entry, Operand, Operation};
 use sch_frames::{FrameBody, Instruction};
 use sch_insn::condition::E;
-use sch_insn::register::{R15, RAX};
+use sch_insn::register::RAX;
 use sch_insn::{Arg, Insn};
 use sch_select_memory::addresses::{body_label, place_operand};
 use sch_select_memory::enter_rest;
 use sch_select_memory::word::FALSE;
 use sch_select_operations::{call, check_count, group, operation, tail_call};
-use sch_word::{List, MarkKind, Mem, Place};
+use sch_word::{LINK_REGISTER, List, MarkKind, Mem, Place};
 
 /// Where the labels of a body are, its own from `base` on, and `end` behind it; how many words a frame has; where
 /// the heap ends; and how many literals there are.
@@ -79,7 +79,7 @@ fn instruction(out: &mut List<Item>, labels: Labels, n: u32, i: &Instruction) ->
         }
         Instruction::Call(_, count) => call(out, labels.words, n, *count),
         Instruction::Tail(_, count) => tail_call(out, *count),
-        Instruction::Return => out.push(Item::Plain(Insn::JumpTo(Arg::Reg(R15)))),
+        Instruction::Return => out.push(Item::Plain(Insn::JumpTo(Arg::Reg(LINK_REGISTER)))),
         Instruction::End => out.push(Item::Jump(labels.end)),
         Instruction::IfFalse(l) => {
             out.push(Item::Plain(Insn::CmpNumber(Arg::Reg(RAX), FALSE)))?;

@@ -2,7 +2,7 @@
 
 ghost use Rattle.std.specs.Prelude.{◌≡◌, ◌+◌, ◌*◌, ◌^◌, ◌<◌, ◌≤◌, ◌++◌, [], ◌∷◌, IfOk, IsTrue, OnOk, length, pos, replicate};
 ghost use Rattle.std.specs.List.{list_all};
-ghost use Rattle.sch_word.specs.runs.ProgramLayout.{data_address};
+ghost use Rattle.sch_word.specs.runs.ProgramLayout.{data_address, max_data_size};
 ghost use Rattle.sch_word.specs.declared.limits.TheConstants.{MAX_DEPTH};
 ghost use Rattle.sch_word.specs.runs.Runs.{max_statics};
 ghost use Rattle.sch_asm.specs.Codes.{instructions_in, text_size};
@@ -21,7 +21,7 @@ ghost use Rattle.sch_select.specs.Follows.{EndsFrames, EntersFrames, FollowsFram
 ghost use Rattle.sch_select.specs.Jumps.{jumps_ahead};
 ghost use Rattle.sch_select.specs.Reach.{is_reached_code};
 ghost use Rattle.sch_select_data.specs.Data.{heap_of, max_heap_address};
-ghost use Rattle.sch_select.specs.Program.{frames_bytes, forms_code, labels_of, laid_code, max_data, max_stack, own_label};
+ghost use Rattle.sch_select.specs.Program.{frames_bytes, forms_code, labels_of, laid_code, max_stack, own_label};
 ghost use Rattle.sch_select.specs.Program.{own_labels, program_code, program_zeros, stack_bytes};
 ghost use Rattle.sch_select_memory.specs.Addresses.{max_heap_end, max_labels};
 ghost use Rattle.sch_select.specs.MarkedStores.{stores_marked};
@@ -32,10 +32,9 @@ use crate::body_items::{Frames, forms};
 use sch_asm::{Asm, Item, Routine, narrowed};
 use sch_frames::{FrameBody, FrameProgram};
 use sch_insn::Insn;
-use sch_insn::register::{R12, R13, RBP};
 use sch_select_data::{lay_out, literal_words, words_of};
 use sch_select_memory::addresses::body_label;
-use sch_word::{Limits, List, Mem};
+use sch_word::{DEPTH_REGISTER, FRAME_REGISTER, HEAP_REGISTER, Limits, List, Mem};
 use std::alloc::Global;
 
 /// The bytes of the stack.
@@ -100,9 +99,9 @@ fn selected_items(alloc: Global, p: &FrameProgram, ends: Ends) -> Result<List<It
     let own = body_label(bodies.len() as u32);
     let mut items = List::new(alloc);
     items.extend_from_slice(&[
-        Item::Plain(Insn::MovWord(RBP, ends.stack as i64)),
-        Item::Plain(Insn::MovWord(R12, ends.heap as i64)),
-        Item::Plain(Insn::MovWord(R13, ends.depth as i64)),
+        Item::Plain(Insn::MovWord(FRAME_REGISTER, ends.stack as i64)),
+        Item::Plain(Insn::MovWord(HEAP_REGISTER, ends.heap as i64)),
+        Item::Plain(Insn::MovWord(DEPTH_REGISTER, ends.depth as i64)),
     ])?;
     let frames = Frames {
         words: p.words,
@@ -128,8 +127,8 @@ fn items_of(alloc: Global, p: &FrameProgram, ends: Ends) -> Result<List<Item>, M
     narrowed(alloc, items.as_slice())
 }
 
-/// The items and data of a frame program under limits of heap and depth. RBP, R12 and R13 are set, and the bodies
-/// follow one after the other, those of procedures jumped over.
+/// The items and data of a frame program under limits of heap and depth. The registers of the frame, the heap and the depth are set,
+/// and the bodies follow one after the other, those of procedures jumped over.
 ///
 /// Resolved with the run-time routines for where its heap ends, they do what the program does, whatever the machine is given and
 /// whatever the kernel answers, and pass the program's marks. No call spreads its last operand. The frames of a form
@@ -164,7 +163,7 @@ pub fn select(alloc: Global, p: &FrameProgram, limits: Limits) -> Result<Asm, Me
     ensures words { IfOk result (λ a. data_address + 8 * length a.words ≡ heap_of (source p.now)) }
     ensures low { IfOk result (λ a. heap_of (source p.now) ≤ max_heap_address) }
     ensures zeros { IfOk result (λ a. a.zeros ≡ program_zeros (source p.now) limits.heap limits.depth) }
-    ensures ends { IfOk result (λ a. 8 * length a.words + a.zeros ≤ max_data) }
+    ensures ends { IfOk result (λ a. 8 * length a.words + a.zeros ≤ max_data_size) }
 {
     let zeros = limits.heap + stack_of(p.words, limits.depth);
     let places = lay_out(&p.statics, p.library.len() as u64);

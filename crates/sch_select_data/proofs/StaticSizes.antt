@@ -3,11 +3,12 @@ use Rattle.std.proofs.Common.{◌≡◌, ℕ, ◌+◌, ◌*◌, ◌≤◌, List,
 use Rattle.std.proofs.lemmas.List.{length-map}
 use Rattle.sch_word.specs.declared.statics.Statics as declared
 use Rattle.sch_word.specs.trees.Shape.{max_library}
-use Rattle.sch_word.specs.values.Literals.{Literal, Literals, constant, text, list, elements, no_literals, and_literal, count_literals, literal_size, literals_size}
+use Rattle.sch_word.specs.values.Literals.{Literals, no_literals, and_literal, count_literals, literals_size}
 use Rattle.sch_word.specs.values.StaticsView.{statics}
 use Rattle.sch_word.specs.runs.Runs.{Statics, names_size, statics_size, max_statics}
 use Rattle.sch_word.specs.values.Literals.{objects_of_each}
 use Rattle.sch_word.proofs.values.LiteralSteps.{some_size}
+use Rattle.sch_word.proofs.values.NameSizes.{names_few}
 use Rattle.sch_asm.specs.declared.assembly.Word.{Word}
 use Rattle.sch_asm.specs.declared.assembly.Word.TheVariants.{Fixed}
 use Rattle.sch_select_data.specs.ObjectParts.{parts_at}
@@ -25,10 +26,6 @@ use Rattle.sch_select_data.proofs.StartData.{objects_count}
 names_bound : (names : List (List ℕ)) → names_count names ≤ names_size names
 names_bound [] = omega arith
 names_bound (name ∷ names) = let h = names_bound names in omega (arith, h)
-
-pub names_few : (names : List (List ℕ)) → length names ≤ names_size names
-names_few [] = omega arith
-names_few (name ∷ names) = let h = names_few names in omega (arith, h)
 
 pub symbols_bound : (names : List (List ℕ)) → symbols_count names ≤ 2 * names_size names
 symbols_bound names = let h = names_bound names in let n = names_few names in omega (arith, h, n)

@@ -9,3 +9,4 @@ pub mod lists
 pub mod Sound
 mod RegisterNames
 mod WordRows
+mod LabelRows

@@ -4,7 +4,7 @@ use Rattle.std.specs.Prelude.{◌||◌, ◌==◌}
 use Rattle.sch_word.specs.declared.registers.TheConstants.{CLOSURE_REGISTER, DEPTH_REGISTER, FRAME_REGISTER, HEAP_REGISTER, LINK_REGISTER, SCRATCH_REGISTERS}
 use Rattle.sch_word.specs.trees.NumberSets.{has}
 use Rattle.sch_word.specs.values.Registers.{argument_registers}
-use Rattle.sch_word.proofs.facts.Booleans.{or_false}
+use Rattle.sch_word.proofs.facts.Booleans.{or_right_false}
 use Rattle.sch_insn.specs.declared.register.TheConstants.{RAX, RCX, RDX, RBX, RBP, RSI, RDI, R8, R9, R10, R11, R12, R13, R14, R15}
 use Rattle.sch_asm.specs.Effects.{is_scratch}
 
@@ -31,4 +31,4 @@ scratch_are = refl
 
 -- routines may overwrite what an instruction of a body may
 scratch_of_routines : (r : ℕ) → has r SCRATCH_REGISTERS ≡ is_scratch r
-scratch_of_routines r = ap (λ b. (r == RAX) || ((r == RCX) || ((r == RDX) || b))) (or_false (r == R11))
+scratch_of_routines r = ap (λ b. (r == RAX) || ((r == RCX) || ((r == RDX) || b))) (or_right_false (r == R11))

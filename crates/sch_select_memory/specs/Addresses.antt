@@ -4,12 +4,13 @@ use Rattle.sch_word.specs.declared.place.Place.{Place}
 use Rattle.sch_word.specs.declared.place.Place.TheVariants as place
 use Rattle.sch_word.specs.declared.stop.Stop.{Stop}
 use Rattle.sch_word.specs.runs.ProgramLayout.{data_address}
+use Rattle.sch_word.specs.declared.registers.TheConstants.{FRAME_REGISTER, HEAP_REGISTER}
 use Rattle.sch_insn.specs.declared.insn.Arg.{Arg}
 use Rattle.sch_insn.specs.declared.insn.Arg.TheVariants.{Reg, Base32}
-use Rattle.sch_insn.specs.declared.register.TheConstants.{RBP, R12}
 use Rattle.sch_asm.specs.declared.routine.TheConstants.{FIRST_LABEL}
 use Rattle.sch_asm.specs.declared.routine.Routine.TheVariants as routine
 use Rattle.sch_asm.specs.Routines.{label_of}
+use Rattle.sch_asm.specs.Effects.{own_size}
 
 abbrev pub stop_label : Stop → ℕ
 stop_label why = label_of (routine.Stop why)
@@ -17,18 +18,19 @@ stop_label why = label_of (routine.Stop why)
 -- ## Data: the routines' words, all bytes in their order, the texts of constants, the words of literals, and the globals
 
 abbrev pub bytes_address : ℕ
-bytes_address = 0x10000200
+bytes_address = data_address + own_size
 
+-- behind the 256 bytes
 abbrev pub texts_address : ℕ
-texts_address = 0x10000300
+texts_address = bytes_address + 256
 
--- the address of the names of symbols stands behind the texts
+-- the address of the names of symbols stands behind the texts, which have 32 bytes
 abbrev pub table_address : ℕ
-table_address = 0x10000320
+table_address = texts_address + 32
 
 -- the words of literals follow, and then those of globals
 abbrev pub literals_address : ℕ
-literals_address = 0x10000328
+literals_address = table_address + 8
 
 abbrev pub literal_address : ℕ → ℕ
 literal_address n = literals_address + 8 * n
@@ -77,8 +79,8 @@ body_label label = FIRST_LABEL + label
 
 abbrev pub place_operand : Place → Arg
 place_operand (place.Reg r) = Reg r
-place_operand (place.Slot j) = Base32 RBP (pos (8 * j))
+place_operand (place.Slot j) = Base32 FRAME_REGISTER (pos (8 * j))
 
 -- the operand at an offset from the address of the next part
 abbrev pub part_operand : (offset : ℕ) → Arg
-part_operand offset = Base32 R12 (pos offset)
+part_operand offset = Base32 HEAP_REGISTER (pos offset)

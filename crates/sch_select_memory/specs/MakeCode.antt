@@ -2,10 +2,11 @@
 use Rattle.std.specs.Prelude.{ℕ, List, ◌∷◌, pos}
 use Rattle.sch_word.specs.declared.stop.Stop.TheVariants.{WrongType, OutOfRange, HeapLimit}
 use Rattle.sch_word.specs.runs.ProgramLayout.{data_address}
+use Rattle.sch_word.specs.declared.registers.TheConstants.{HEAP_REGISTER}
 use Rattle.sch_insn.specs.declared.condition.TheConstants.{A, L, NE}
 use Rattle.sch_insn.specs.declared.insn.Arg.TheVariants.{Reg}
 use Rattle.sch_insn.specs.declared.insn.Insn.TheVariants.{MovTo, AddTo, AddNumber, SubNumber, CmpNumber, Shr}
-use Rattle.sch_insn.specs.declared.register.TheConstants.{RAX, RCX, RDX, R12}
+use Rattle.sch_insn.specs.declared.register.TheConstants.{RAX, RCX, RDX}
 use Rattle.sch_asm.specs.declared.item.Item.{Item}
 use Rattle.sch_asm.specs.declared.item.Item.TheVariants as item
 use Rattle.sch_asm.specs.declared.routine.Routine.TheVariants as routine
@@ -21,7 +22,7 @@ check_length rest = item.Plain (CmpNumber (Reg RAX) (pos 0)) ∷ (item.JumpIf L 
 -- The heap has as many bytes left as RDX says, or stop 71. As a number without a sign, RDX is below 2^64 still.
 abbrev pub check_room : (heap_end : ℕ) → List Item → List Item
 check_room heap_end rest =
-    item.Plain (AddTo (Reg RDX) R12)
+    item.Plain (AddTo (Reg RDX) HEAP_REGISTER)
     ∷ (item.Plain (SubNumber (Reg RDX) (pos data_address))
     ∷ (item.Plain (CmpNumber (Reg RDX) (pos (heap_offset heap_end))) ∷ (item.JumpIf A (stop_label HeapLimit) ∷ rest)))
 
@@ -30,7 +31,7 @@ abbrev pub fill_code : (label : ℕ) → List Item → List Item
 fill_code label rest =
     item.Plain (MovTo (Reg RDX) RAX)
     ∷ (item.Plain (Shr (Reg RDX) fixnum_shift)
-    ∷ (item.Plain (MovTo (Reg RAX) R12) ∷ (item.Plain (AddNumber (Reg RAX) (pos 8)) ∷ (item.Jump label ∷ rest))))
+    ∷ (item.Plain (MovTo (Reg RAX) HEAP_REGISTER) ∷ (item.Plain (AddNumber (Reg RAX) (pos 8)) ∷ (item.Jump label ∷ rest))))
 
 abbrev pub make_vector_code : (heap_end : ℕ) → List Item → List Item
 make_vector_code heap_end rest =

@@ -9,7 +9,8 @@ use Rattle.sch_asm.specs.declared.item.Item.{Item}
 use Rattle.sch_asm.specs.declared.item.Item.TheVariants as item
 use Rattle.sch_asm.specs.declared.routine.Routine.TheVariants as routine
 use Rattle.sch_asm.specs.Routines.{label_of}
-use Rattle.sch_select_memory.specs.Encoded.{byte_mask, cell_tag, character_shift, character_tag, false_word, fixnum_shift, nil_word, pair_tag, procedure_tag, string_tag, symbol_tag, tag_mask, true_word, vector_tag}
+use Rattle.sch_select_memory.specs.Encoded.{byte_mask, cell_tag, character_shift, character_tag, false_word, fixnum_shift, nil_word}
+use Rattle.sch_select_memory.specs.Encoded.{pair_tag, procedure_tag, string_tag, symbol_tag, tag_mask, true_word, vector_tag}
 use Rattle.sch_select_memory.specs.Addresses.{stop_label, bytes_address, texts_address, table_address}
 use Rattle.sch_select_memory.specs.Checks.{low_bits, string_length}
 

@@ -1,15 +1,16 @@
 -- The items of a procedure with a rest variable (R5RS 4.1.4) before its body, and the routine that makes the list of the
--- operands that are left over. A pair begins where R12 has it, and the pairs stand one behind the other.
+-- operands that are left over. A pair begins where the heap's register has it, and the pairs stand one behind the other.
 use Rattle.std.specs.Prelude.{ℕ, suc, ◌+◌, ◌-◌, ◌*◌, Bool, true, false, nat_lt, List, [], ◌∷◌, drop, length, pos}
 use Rattle.sch_word.specs.runs.ProgramLayout.{data_address}
 use Rattle.sch_word.specs.values.Registers.{argument_registers}
 use Rattle.sch_word.specs.declared.stop.Stop.TheVariants.{WrongCount, HeapLimit}
+use Rattle.sch_word.specs.declared.registers.TheConstants.{FRAME_REGISTER, HEAP_REGISTER}
 use Rattle.sch_insn.specs.declared.condition.TheConstants.{B, E, NE, A}
 use Rattle.sch_insn.specs.declared.insn.Arg.{Arg}
 use Rattle.sch_insn.specs.declared.insn.Arg.TheVariants.{Reg, Base32}
 use Rattle.sch_insn.specs.declared.insn.Insn.TheVariants.{MovTo, MovFrom, MovNumber, AddTo, AddNumber, SubNumber}
 use Rattle.sch_insn.specs.declared.insn.Insn.TheVariants.{CmpNumber, Shl, JumpTo}
-use Rattle.sch_insn.specs.declared.register.TheConstants.{RAX, RCX, RDX, RBP, R11, R12}
+use Rattle.sch_insn.specs.declared.register.TheConstants.{RAX, RCX, RDX, R11}
 use Rattle.sch_asm.specs.declared.item.Item.{Item}
 use Rattle.sch_asm.specs.declared.item.Item.TheVariants.{Label, Plain, Jump, JumpIf, LoadLabel}
 use Rattle.sch_asm.specs.declared.routine.LeftOver.TheVariants.{FromFirst}
@@ -54,12 +55,12 @@ slot_operand = Base32 RCX (pos 0)
 
 -- RCX has the address of the slot
 abbrev pub slot_address : List Item → List Item
-slot_address rest = Plain (AddTo (Reg RCX) RBP) ∷ rest
+slot_address rest = Plain (AddTo (Reg RCX) FRAME_REGISTER) ∷ rest
 
 -- the heap has a pair for each of them, or stop 71
 abbrev pub check_pairs : (heap_end : ℕ) → List Item → List Item
 check_pairs heap_end rest =
-    Plain (MovTo (Reg RDX) RAX) ∷ (Plain (Shl (Reg RDX) 4) ∷ (Plain (AddTo (Reg RDX) R12) ∷
+    Plain (MovTo (Reg RDX) RAX) ∷ (Plain (Shl (Reg RDX) 4) ∷ (Plain (AddTo (Reg RDX) HEAP_REGISTER) ∷
     (Plain (SubNumber (Reg RDX) (pos data_address))
     ∷ (Plain (CmpNumber (Reg RDX) (pos (heap_offset heap_end))) ∷ (JumpIf A (stop_label HeapLimit) ∷ rest)))))
 
@@ -67,16 +68,16 @@ check_pairs heap_end rest =
 abbrev pub one_less : List Item → List Item
 one_less rest = Plain (SubNumber (Reg RAX) (pos 1)) ∷ (JumpIf E done_label ∷ rest)
 
--- the rest of a pair is the next one, where R12 goes on
+-- the rest of a pair is the next one, where the heap's register goes on
 abbrev pub next_pair : List Item → List Item
 next_pair rest =
-    Plain (MovTo (Reg RDX) R12) ∷ (Plain (AddNumber (Reg RDX) (pos (16 + pair_tag))) ∷ (Plain (MovTo (part_operand 8) RDX) ∷
-    (Plain (AddNumber (Reg R12) (pos 16)) ∷ rest)))
+    Plain (MovTo (Reg RDX) HEAP_REGISTER) ∷ (Plain (AddNumber (Reg RDX) (pos (16 + pair_tag))) ∷ (Plain (MovTo (part_operand 8) RDX) ∷
+    (Plain (AddNumber (Reg HEAP_REGISTER) (pos 16)) ∷ rest)))
 
 -- the rest of the last pair is the empty list
 abbrev pub done_code : List Item → List Item
 done_code rest =
-    Label done_label ∷ (Plain (MovNumber (part_operand 8) (pos nil_word)) ∷ (Plain (AddNumber (Reg R12) (pos 16)) ∷
+    Label done_label ∷ (Plain (MovNumber (part_operand 8) (pos nil_word)) ∷ (Plain (AddNumber (Reg HEAP_REGISTER) (pos 16)) ∷
     (Plain (JumpTo (Reg R11)) ∷ rest)))
 
 -- the operand in a slot, and then the next one
@@ -89,7 +90,7 @@ abbrev pub loop_code : List Item → List Item
 loop_code rest = Label loop_label ∷ one_less (next_pair (slot_pair (done_code rest)))
 
 abbrev pub slots_code : List Item → List Item
-slots_code rest = Label (more_label first_in_slot) ∷ (Plain (MovTo (Reg RCX) RBP) ∷ loop_code rest)
+slots_code rest = Label (more_label first_in_slot) ∷ (Plain (MovTo (Reg RCX) FRAME_REGISTER) ∷ loop_code rest)
 
 -- an operand in a register, and then those in others
 abbrev pub more_code : (m r : ℕ) → List Item → List Item
@@ -108,7 +109,7 @@ none_code m to rest =
 -- the first operand is in a register, which then has the list
 abbrev pub first_code : (m r : ℕ) → List Item → List Item
 first_code m r rest =
-    none_code m (Reg r) (Plain (MovTo (part_operand 0) r) ∷ (Plain (MovTo (Reg r) R12) ∷
+    none_code m (Reg r) (Plain (MovTo (part_operand 0) r) ∷ (Plain (MovTo (Reg r) HEAP_REGISTER) ∷
     (Plain (AddNumber (Reg r) (pos pair_tag)) ∷ (Jump (more_label (suc m)) ∷ rest))))
 
 abbrev pub firsts_code : (heap_end m : ℕ) → List ℕ → List Item → List Item
@@ -120,7 +121,7 @@ firsts_code heap_end m (r ∷ rs) rest =
 abbrev pub first_slot_code : List Item → List Item
 first_slot_code rest =
     none_code first_in_slot slot_operand (Plain (MovFrom RDX slot_operand) ∷ (Plain (MovTo (part_operand 0) RDX) ∷
-    (Plain (MovTo (Reg RDX) R12) ∷ (Plain (AddNumber (Reg RDX) (pos pair_tag)) ∷ (Plain (MovTo slot_operand RDX) ∷
+    (Plain (MovTo (Reg RDX) HEAP_REGISTER) ∷ (Plain (AddNumber (Reg RDX) (pos pair_tag)) ∷ (Plain (MovTo slot_operand RDX) ∷
     (Plain (AddNumber (Reg RCX) (pos 8)) ∷ (Jump loop_label ∷ rest)))))))
 
 -- those of all operands in registers but the first

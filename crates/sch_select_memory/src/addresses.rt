@@ -8,14 +8,13 @@ ghost use Rattle.sch_select_memory.specs.RestCode.{first_in_slot, list_label};
 
 use sch_asm::{FIRST_LABEL, LeftOver, Routine};
 use sch_insn::Arg;
-use sch_insn::register::{R12, RBP};
-use sch_word::{ARGUMENT_REGISTERS, DATA_ADDRESS, Place, Stop};
+use sch_word::{ARGUMENT_REGISTERS, DATA_ADDRESS, FRAME_REGISTER, HEAP_REGISTER, Place, Stop};
 
 /// Where the address of the names of symbols stands in the data.
-pub const TABLE_ADDRESS: u64 = 0x1000_0320;
+pub const TABLE_ADDRESS: u64 = DATA_ADDRESS + 0x320;
 
 /// Where the words of literals stand in the data. Those of globals follow.
-pub const LITERALS_ADDRESS: u64 = 0x1000_0328;
+pub const LITERALS_ADDRESS: u64 = TABLE_ADDRESS + 8;
 
 /// Where the data begin, as an immediate.
 pub const DATA_OFFSET: i32 = DATA_ADDRESS as i32;
@@ -77,7 +76,7 @@ pub fn place_operand(p: Place) -> Arg
 {
     match p {
         Place::Reg(r) => Arg::Reg(r),
-        Place::Slot(j) => Arg::Base32(RBP, slot_bytes(j)),
+        Place::Slot(j) => Arg::Base32(FRAME_REGISTER, slot_bytes(j)),
     }
 }
 
@@ -86,7 +85,7 @@ pub fn part_operand(offset: u32) -> Arg
     requires { offset < 2 ^ 31 }
     ensures { result ≡ part_operand offset }
 {
-    Arg::Base32(R12, immediate(offset))
+    Arg::Base32(HEAP_REGISTER, immediate(offset))
 }
 
 /// The address of a literal's word.

@@ -4,12 +4,13 @@ use Rattle.sch_word.specs.declared.mark.MarkKind.TheVariants.{Spill}
 use Rattle.sch_word.specs.declared.place.Place.{Place}
 use Rattle.sch_word.specs.declared.place.Place.TheVariants as place
 use Rattle.sch_word.specs.runs.Charges.{procedure_bytes}
+use Rattle.sch_word.specs.declared.registers.TheConstants.{HEAP_REGISTER}
 use Rattle.sch_control.specs.declared.operation.Source.{Source}
 use Rattle.sch_control.specs.declared.operation.Closure.{Closure}
 use Rattle.sch_control.specs.declared.operation.Member.{Member}
 use Rattle.sch_insn.specs.declared.insn.Arg.TheVariants.{Reg}
 use Rattle.sch_insn.specs.declared.insn.Insn.TheVariants.{MovTo, AddNumber}
-use Rattle.sch_insn.specs.declared.register.TheConstants.{RCX, R12}
+use Rattle.sch_insn.specs.declared.register.TheConstants.{RCX}
 use Rattle.sch_asm.specs.declared.item.Item.{Item}
 use Rattle.sch_asm.specs.declared.item.Item.TheVariants.{Plain, LoadLabel, Mark}
 use Rattle.sch_select_memory.specs.Encoded.{procedure_tag}
@@ -56,7 +57,7 @@ spills_behind p spills = spills
 abbrev pub places_code : (offset : ℕ) → List (Member Place) → (spills : List ℕ) → List Item → List Item
 places_code offset [] spills rest = rest
 places_code offset (m ∷ members) spills rest =
-    Plain (MovTo (Reg RCX) R12) ∷ (Plain (AddNumber (Reg RCX) (pos (offset + procedure_tag)))
+    Plain (MovTo (Reg RCX) HEAP_REGISTER) ∷ (Plain (AddNumber (Reg RCX) (pos (offset + procedure_tag)))
     ∷ spill_code m.at spills (Plain (MovTo (place_operand m.at) RCX)
     ∷ places_code (offset + closure_bytes m.closure) members (spills_behind m.at spills) rest))
 
@@ -68,4 +69,4 @@ records_code offset (m ∷ members) rest = record_code offset m.closure
 abbrev pub group_code : (heap_end : ℕ) → List (Member Place) → (spills : List ℕ) → List Item → List Item
 group_code heap_end members spills rest =
     check_heap heap_end (group_bytes members) (places_code 0 members spills (records_code 0 members
-    (Plain (AddNumber (Reg R12) (pos (group_bytes members))) ∷ rest)))
+    (Plain (AddNumber (Reg HEAP_REGISTER) (pos (group_bytes members))) ∷ rest)))

@@ -2,32 +2,32 @@
 use Rattle.std.specs.Prelude.{ℕ, ◌-◌, List, ◌∷◌, length, pos, negsuc}
 use Rattle.sch_word.specs.declared.stop.Stop.TheVariants.{WrongType, OutOfRange, HeapLimit}
 use Rattle.sch_word.specs.runs.ProgramLayout.{data_address}
+use Rattle.sch_word.specs.declared.registers.TheConstants.{HEAP_REGISTER}
 use Rattle.sch_insn.specs.declared.condition.TheConstants.{AE, NE, A}
 use Rattle.sch_insn.specs.declared.insn.Arg.{Arg}
 use Rattle.sch_insn.specs.declared.insn.Arg.TheVariants.{Reg, Base32}
 use Rattle.sch_insn.specs.declared.insn.Insn.TheVariants.{MovTo, MovFrom, MovNumber, StoreByte, LoadByte, AddTo}
 use Rattle.sch_insn.specs.declared.insn.Insn.TheVariants.{AddNumber, SubNumber, CmpNumber, CmpFrom, Shl, Shr}
-use Rattle.sch_insn.specs.declared.register.TheConstants.{RAX, RCX, RDX, R11, R12}
+use Rattle.sch_insn.specs.declared.register.TheConstants.{RAX, RCX, RDX, R11}
 use Rattle.sch_asm.specs.declared.item.Item.{Item}
 use Rattle.sch_asm.specs.declared.item.Item.TheVariants.{Label, Plain, Jump, JumpIf, LoadLabel, LoadWord}
 use Rattle.sch_select_memory.specs.Encoded.{byte_mask, character_shift, character_tag, fixnum_shift, pair_tag, string_tag, symbol_tag, tag_mask, unspecified_word, vector_tag}
 use Rattle.sch_select_memory.specs.Addresses.{heap_offset, stop_label, table_address, vector_label, string_label, part_operand}
 use Rattle.sch_select_memory.specs.Checks.{low_bits, check_fixnum, round_code, string_length}
 
--- ## The heap: R12 has the address of the next part
+-- ## The heap: its register has the address of the next part
 
--- The heap has this number of bytes left, or stop 71. R12 has the address of the next part, and RDX is overwritten. The bytes
--- are no more than the data's address.
+-- The heap has this number of bytes left, or stop 71. RDX is overwritten. The bytes are no more than the data's address.
 abbrev pub check_heap : (heap_end bytes : ℕ) → List Item → List Item
 check_heap heap_end bytes rest =
-    Plain (MovTo (Reg RDX) R12) ∷ (Plain (SubNumber (Reg RDX) (pos (data_address - bytes)))
+    Plain (MovTo (Reg RDX) HEAP_REGISTER) ∷ (Plain (SubNumber (Reg RDX) (pos (data_address - bytes)))
     ∷ (Plain (CmpNumber (Reg RDX) (pos (heap_offset heap_end))) ∷ (JumpIf A (stop_label HeapLimit) ∷ rest)))
 
--- R12 has the address of a part with this number of bytes: its word with a tag into RAX, and the next part
+-- the heap's register has the address of a part with this number of bytes: its word with a tag into RAX, and the next part
 abbrev pub part_code : (tag bytes : ℕ) → List Item → List Item
 part_code tag bytes rest =
-    Plain (MovTo (Reg RAX) R12) ∷ (Plain (AddNumber (Reg RAX) (pos tag)) ∷
-    (Plain (AddNumber (Reg R12) (pos bytes)) ∷ rest))
+    Plain (MovTo (Reg RAX) HEAP_REGISTER) ∷ (Plain (AddNumber (Reg RAX) (pos tag)) ∷
+    (Plain (AddNumber (Reg HEAP_REGISTER) (pos bytes)) ∷ rest))
 
 -- ## Pairs
 
@@ -130,7 +130,7 @@ symbol_ref_code rest =
 abbrev pub filled_code : (n label tag : ℕ) → (size_code : List Item → List Item) → List Item → List Item
 filled_code n label tag size_code rest =
     LoadLabel R11 n ∷ (Jump label ∷ (Label n ∷ (Plain (MovFrom RDX (part_operand 0)) ∷ size_code (round_code
-    (Plain (MovTo (Reg RAX) R12) ∷ (Plain (AddNumber (Reg RAX) (pos tag)) ∷ (Plain (AddTo (Reg R12) RDX) ∷ rest)))))))
+    (Plain (MovTo (Reg RAX) HEAP_REGISTER) ∷ (Plain (AddNumber (Reg RAX) (pos tag)) ∷ (Plain (AddTo (Reg HEAP_REGISTER) RDX) ∷ rest)))))))
 
 abbrev pub vector_code : (n : ℕ) → List Item → List Item
 vector_code n rest = filled_code n vector_label vector_tag (λ code. code) rest

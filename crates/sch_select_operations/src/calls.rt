@@ -9,18 +9,18 @@ ghost use Rattle.sch_word.specs.trees.Shape.{max_operands};
 
 use sch_asm::Item;
 use sch_insn::condition::{E, NE};
-use sch_insn::register::{R13, R14, R15, RAX, RBP, RCX, RDX};
+use sch_insn::register::{RAX, RCX, RDX};
 use sch_insn::{Arg, Insn};
 use sch_select_memory::addresses::{immediate, slot_bytes, stop};
 use sch_select_memory::word::{PROCEDURE, TAG_MASK};
-use sch_word::{List, Mem, Stop};
+use sch_word::{CLOSURE_REGISTER, DEPTH_REGISTER, FRAME_REGISTER, LINK_REGISTER, List, Mem, Stop};
 
-/// R14 has a procedure, or stop 67.
+/// The register of the closure has a procedure, or stop 67.
 fn operator_check() -> [Item; 4]
     ensures { (rest : List Item) → result ++ rest ≡ check_operator rest }
 {
     [
-        Item::Plain(Insn::MovTo(Arg::Reg(RDX), R14)),
+        Item::Plain(Insn::MovTo(Arg::Reg(RDX), CLOSURE_REGISTER)),
         Item::Plain(Insn::AndNumber(Arg::Reg(RDX), TAG_MASK)),
         Item::Plain(Insn::CmpNumber(Arg::Reg(RDX), PROCEDURE)),
         Item::JumpIf(NE, stop(Stop::NotProcedure)),
@@ -32,12 +32,12 @@ fn depth_check() -> [Item; 2]
     ensures { (rest : List Item) → result ++ rest ≡ check_depth rest }
 {
     [
-        Item::Plain(Insn::CmpNumber(Arg::Reg(R13), 0)),
+        Item::Plain(Insn::CmpNumber(Arg::Reg(DEPTH_REGISTER), 0)),
         Item::JumpIf(E, stop(Stop::DepthLimit)),
     ]
 }
 
-/// The procedure in R14 is entered with a number of operands.
+/// The procedure in the register of the closure is entered with a number of operands.
 fn enter(out: &mut List<Item>, count: u32) -> Result<(), Mem>
     requires { count ≤ max_operands }
     ensures { OnOk result ((rest : List Item) → out.new ++ rest ≡ out.old ++ enter_code count rest) }
@@ -45,7 +45,7 @@ fn enter(out: &mut List<Item>, count: u32) -> Result<(), Mem>
     let count = immediate(count);
     out.extend_from_slice(&[
         Item::Plain(Insn::MovNumber(Arg::Reg(RAX), count)),
-        Item::Plain(Insn::MovFrom(RCX, Arg::Base32(R14, -4))),
+        Item::Plain(Insn::MovFrom(RCX, Arg::Base32(CLOSURE_REGISTER, -4))),
         Item::Plain(Insn::JumpTo(Arg::Reg(RCX))),
     ])
 }
@@ -57,9 +57,9 @@ fn open(out: &mut List<Item>, words: u32, n: u32) -> Result<(), Mem>
 {
     let bytes = slot_bytes(words);
     out.extend_from_slice(&[
-        Item::Plain(Insn::SubNumber(Arg::Reg(R13), 1)),
-        Item::Plain(Insn::AddNumber(Arg::Reg(RBP), bytes)),
-        Item::LoadLabel(R15, n),
+        Item::Plain(Insn::SubNumber(Arg::Reg(DEPTH_REGISTER), 1)),
+        Item::Plain(Insn::AddNumber(Arg::Reg(FRAME_REGISTER), bytes)),
+        Item::LoadLabel(LINK_REGISTER, n),
     ])
 }
 
@@ -71,12 +71,12 @@ fn close(out: &mut List<Item>, words: u32, n: u32) -> Result<(), Mem>
     let bytes = slot_bytes(words);
     out.extend_from_slice(&[
         Item::Label(n),
-        Item::Plain(Insn::SubNumber(Arg::Reg(RBP), bytes)),
-        Item::Plain(Insn::AddNumber(Arg::Reg(R13), 1)),
+        Item::Plain(Insn::SubNumber(Arg::Reg(FRAME_REGISTER), bytes)),
+        Item::Plain(Insn::AddNumber(Arg::Reg(DEPTH_REGISTER), 1)),
     ])
 }
 
-/// The procedure in R14 is entered in a frame of its own.
+/// The procedure in the register of the closure is entered in a frame of its own.
 fn enter_frame(out: &mut List<Item>, words: u32, n: u32, count: u32) -> Result<(), Mem>
     requires words { words ≤ max_words }
     requires few { count ≤ max_operands }

@@ -14,11 +14,11 @@ use crate::pairs::{check_heap, part};
 use sch_asm::Item;
 use sch_control::Source;
 use sch_insn::condition::{E, NE};
-use sch_insn::register::{R12, RAX, RCX, RDX};
+use sch_insn::register::{RAX, RCX, RDX};
 use sch_insn::{Arg, Insn};
 use sch_select_memory::addresses::{place_operand, stop};
 use sch_select_memory::word::{CELL, TAG_MASK, UNSET, UNSPECIFIED};
-use sch_word::{List, Mem, Place, Stop};
+use sch_word::{HEAP_REGISTER, List, Mem, Place, Stop};
 
 /// The low three bits of a cell's word.
 const CELL_TAG: u32 = CELL as u32;
@@ -100,7 +100,7 @@ pub(crate) fn new_cell(out: &mut List<Item>, heap_end: u32) -> Result<(), Mem>
     ensures { OnOk result ((rest : List Item) → out.new ++ rest ≡ out.old ++ new_cell_code heap_end rest) }
 {
     check_heap(out, heap_end, CELL_BYTES)?;
-    out.push(Item::Plain(Insn::MovTo(Arg::Base32(R12, 0), RAX)))?;
+    out.push(Item::Plain(Insn::MovTo(Arg::Base32(HEAP_REGISTER, 0), RAX)))?;
     part(out, CELL_TAG, CELL_BYTES)
 }
 
@@ -110,6 +110,6 @@ pub(crate) fn unset_cell(out: &mut List<Item>, heap_end: u32) -> Result<(), Mem>
     ensures { OnOk result ((rest : List Item) → out.new ++ rest ≡ out.old ++ unset_cell_code heap_end rest) }
 {
     check_heap(out, heap_end, CELL_BYTES)?;
-    out.push(Item::Plain(Insn::MovNumber(Arg::Base32(R12, 0), UNSET)))?;
+    out.push(Item::Plain(Insn::MovNumber(Arg::Base32(HEAP_REGISTER, 0), UNSET)))?;
     part(out, CELL_TAG, CELL_BYTES)
 }

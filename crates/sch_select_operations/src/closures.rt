@@ -13,11 +13,11 @@ use crate::cells::source;
 use crate::pairs::{check_heap, part};
 use sch_asm::Item;
 use sch_control::{Closure, Member, Source};
-use sch_insn::register::{R12, RCX};
+use sch_insn::register::RCX;
 use sch_insn::{Arg, Insn};
 use sch_select_memory::addresses::{body_label, immediate, part_operand, place_operand};
 use sch_select_memory::word::PROCEDURE;
-use sch_word::{List, MarkKind, Mem, Place};
+use sch_word::{HEAP_REGISTER, List, MarkKind, Mem, Place};
 
 /// The low three bits of a procedure's word.
 const PROCEDURE_TAG: u32 = PROCEDURE as u32;
@@ -119,7 +119,7 @@ fn places(
         let word = immediate(next + PROCEDURE_TAG);
         let place = place_operand(m.at);
         out.extend_from_slice(&[
-            Item::Plain(Insn::MovTo(Arg::Reg(RCX), R12)),
+            Item::Plain(Insn::MovTo(Arg::Reg(RCX), HEAP_REGISTER)),
             Item::Plain(Insn::AddNumber(Arg::Reg(RCX), word)),
         ])?;
         spilled = spill(out, m.at, spilled)?;
@@ -160,5 +160,5 @@ pub fn group(
     check_heap(out, heap_end, bytes)?;
     places(out, 0, members, spills)?;
     records(out, 0, members)?;
-    out.push(Item::Plain(Insn::AddNumber(Arg::Reg(R12), immediate(bytes))))
+    out.push(Item::Plain(Insn::AddNumber(Arg::Reg(HEAP_REGISTER), immediate(bytes))))
 }

@@ -8,11 +8,11 @@ ghost use Rattle.sch_select_operations.specs.ObjectCode.{check_heap, pair_code, 
 
 use sch_asm::Item;
 use sch_insn::condition::{A, NE};
-use sch_insn::register::{R12, RAX, RCX, RDX};
+use sch_insn::register::{RAX, RCX, RDX};
 use sch_insn::{Arg, Insn};
 use sch_select_memory::addresses::{heap_offset, immediate, stop};
 use sch_select_memory::word::{PAIR, TAG_MASK, UNSPECIFIED};
-use sch_word::{DATA_ADDRESS, List, Mem, Stop};
+use sch_word::{DATA_ADDRESS, HEAP_REGISTER, List, Mem, Stop};
 
 /// The first word of the pair whose word is in RAX.
 pub(crate) const CAR: Arg = Arg::Base32(RAX, -1);
@@ -29,14 +29,14 @@ pub fn check_heap(out: &mut List<Item>, heap_end: u32, bytes: u32) -> Result<(),
     let before = immediate(DATA_ADDRESS as u32 - bytes);
     let end = heap_offset(heap_end);
     out.extend_from_slice(&[
-        Item::Plain(Insn::MovTo(Arg::Reg(RDX), R12)),
+        Item::Plain(Insn::MovTo(Arg::Reg(RDX), HEAP_REGISTER)),
         Item::Plain(Insn::SubNumber(Arg::Reg(RDX), before)),
         Item::Plain(Insn::CmpNumber(Arg::Reg(RDX), end)),
         Item::JumpIf(A, stop(Stop::HeapLimit)),
     ])
 }
 
-/// The word of a part with a tag into RAX, and the address of the next part into R12.
+/// The word of a part with a tag into RAX, and the address of the next part into the heap's register.
 pub fn part(out: &mut List<Item>, tag: u32, bytes: u32) -> Result<(), Mem>
     requires tag { tag < 8 }
     requires few { bytes < 2 ^ 31 }
@@ -45,9 +45,9 @@ pub fn part(out: &mut List<Item>, tag: u32, bytes: u32) -> Result<(), Mem>
     let tag = immediate(tag);
     let bytes = immediate(bytes);
     out.extend_from_slice(&[
-        Item::Plain(Insn::MovTo(Arg::Reg(RAX), R12)),
+        Item::Plain(Insn::MovTo(Arg::Reg(RAX), HEAP_REGISTER)),
         Item::Plain(Insn::AddNumber(Arg::Reg(RAX), tag)),
-        Item::Plain(Insn::AddNumber(Arg::Reg(R12), bytes)),
+        Item::Plain(Insn::AddNumber(Arg::Reg(HEAP_REGISTER), bytes)),
     ])
 }
 
@@ -85,10 +85,10 @@ pub(crate) fn pair(out: &mut List<Item>, heap_end: u32) -> Result<(), Mem>
 {
     check_heap(out, heap_end, 16)?;
     out.extend_from_slice(&[
-        Item::Plain(Insn::MovTo(Arg::Base32(R12, 0), RAX)),
-        Item::Plain(Insn::MovTo(Arg::Base32(R12, 8), RCX)),
-        Item::Plain(Insn::MovTo(Arg::Reg(RAX), R12)),
+        Item::Plain(Insn::MovTo(Arg::Base32(HEAP_REGISTER, 0), RAX)),
+        Item::Plain(Insn::MovTo(Arg::Base32(HEAP_REGISTER, 8), RCX)),
+        Item::Plain(Insn::MovTo(Arg::Reg(RAX), HEAP_REGISTER)),
         Item::Plain(Insn::AddNumber(Arg::Reg(RAX), PAIR)),
-        Item::Plain(Insn::AddNumber(Arg::Reg(R12), 16)),
+        Item::Plain(Insn::AddNumber(Arg::Reg(HEAP_REGISTER), 16)),
     ])
 }

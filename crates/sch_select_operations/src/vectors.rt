@@ -7,11 +7,11 @@ ghost use Rattle.sch_select_operations.specs.ObjectCode.{length_code, vector_cod
 
 use sch_asm::{Item, Routine};
 use sch_insn::condition::{AE, NE};
-use sch_insn::register::{R11, R12, RAX, RCX, RDX};
+use sch_insn::register::{R11, RAX, RCX, RDX};
 use sch_insn::{Arg, Insn};
 use sch_select_memory::addresses::stop;
 use sch_select_memory::word::{TAG_MASK, UNSPECIFIED, VECTOR};
-use sch_word::{List, Mem, Stop};
+use sch_word::{HEAP_REGISTER, List, Mem, Stop};
 
 /// The length of the vector in RAX.
 pub(crate) fn vector_length(out: &mut List<Item>) -> Result<(), Mem>
@@ -73,12 +73,12 @@ pub(crate) fn make_vector(out: &mut List<Item>, n: u32) -> Result<(), Mem>
         Item::LoadLabel(R11, n),
         Item::Jump(Routine::NewVector.label()),
         Item::Label(n),
-        Item::Plain(Insn::MovFrom(RDX, Arg::Base32(R12, 0))),
+        Item::Plain(Insn::MovFrom(RDX, Arg::Base32(HEAP_REGISTER, 0))),
         Item::Plain(Insn::AddNumber(Arg::Reg(RDX), 23)),
         Item::Plain(Insn::Shr(Arg::Reg(RDX), 4)),
         Item::Plain(Insn::Shl(Arg::Reg(RDX), 4)),
-        Item::Plain(Insn::MovTo(Arg::Reg(RAX), R12)),
+        Item::Plain(Insn::MovTo(Arg::Reg(RAX), HEAP_REGISTER)),
         Item::Plain(Insn::AddNumber(Arg::Reg(RAX), VECTOR)),
-        Item::Plain(Insn::AddTo(Arg::Reg(R12), RDX)),
+        Item::Plain(Insn::AddTo(Arg::Reg(HEAP_REGISTER), RDX)),
     ])
 }

@@ -10,7 +10,7 @@ use Rattle.sch_read.specs.Views.{tree_of, data_of, gather}
 use Rattle.sch_read.proofs.DatumSteps.{weights_append}
 use Rattle.sch_names.specs.declared.keyword.Keyword.TheVariants.{Begin}
 use Rattle.sch_names.specs.Words.{keyword_of}
-use Rattle.sch_names.specs.Scope.{Scope, find, Names}
+use Rattle.sch_names.specs.Scope.{Scope, find, VariableNames}
 use Rattle.sch_sketch.specs.Definitions.{is_definition, are_definitions, is_define_word, names_in, names_of_each, inits_in, inits_of_each}
 use Rattle.sch_sketch.specs.Sketch.{Sketches}
 
@@ -45,7 +45,7 @@ pub inits_append : (xs ys : List code.Datum) (ks : Sketches) → inits_of_each (
 inits_append [] ys ks = refl
 inits_append (x ∷ xs) ys ks = ap (inits_in (tree_of x)) (inits_append xs ys ks)
 
-pub begin_names : (d : Datum) (some after before : List code.Datum) (all : Names) → names_in d ≡ names_of_each (data_of some) → after ≡ some ++ before
+pub begin_names : (d : Datum) (some after before : List code.Datum) (all : VariableNames) → names_in d ≡ names_of_each (data_of some) → after ≡ some ++ before
     → all ++ names_of_each (data_of after) ≡ all ++ (names_in d ++ names_of_each (data_of before))
 begin_names d some after before all e a = ap (λ l. all ++ l) (ap (λ l. names_of_each (data_of l)) a ∙ names_append some before ∙ ap (λ l. l ++ names_of_each (data_of before)) (sym e))
 
@@ -54,12 +54,12 @@ pub begin_inits : (d : Datum) (some after before : List code.Datum) (ks : Sketch
 begin_inits d some after before ks e a = ap (λ l. inits_of_each (data_of l) ks) a ∙ inits_append some before ks ∙ sym (e (inits_of_each (data_of before) ks))
 
 -- what is left after one datum
-pub names_left : (d : code.Datum) (before after others : List code.Datum) (all all' r : Names) → before ≡ d ∷ others
+pub names_left : (d : code.Datum) (before after others : List code.Datum) (all all' r : VariableNames) → before ≡ d ∷ others
     → all' ++ names_of_each (data_of after) ≡ all ++ (names_in (tree_of d) ++ names_of_each (data_of others))
     → all ++ names_of_each (data_of before) ≡ r → all' ++ names_of_each (data_of after) ≡ r
 names_left d before after others all all' r b h k = let k' = rw b at k in h ∙ k'
 
-pub names_end : (left : List code.Datum) (all r : Names) → left ≡ [] → all ++ names_of_each (data_of left) ≡ r → all ≡ r
+pub names_end : (left : List code.Datum) (all r : VariableNames) → left ≡ [] → all ++ names_of_each (data_of left) ≡ r → all ≡ r
 names_end left all r n k = let k' = rw n at k in sym (append-nil all) ∙ k'
 
 module _ (F G : Sketches → Sketches) where

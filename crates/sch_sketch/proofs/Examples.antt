@@ -3,7 +3,7 @@ use Rattle.std.proofs.Common.{◌≡◌, ℕ, pos, List, true, false, [], ◌∷
 use Rattle.sch_word.specs.declared.constant.Const.TheVariants.{Fixnum}
 use Rattle.sch_word.specs.declared.primitive.Primitive.TheVariants.{Add}
 use Rattle.sch_sketch.specs.declared.sketch.Position.TheVariants.{Value, Test}
-use Rattle.sch_names.specs.Scope.{Names}
+use Rattle.sch_names.specs.Scope.{VariableNames}
 use Rattle.sch_sketch.specs.Draft.{Draft, Drafts, constant, branch, sequence, bind, letrec, lambda, call, operation, set_local, no_drafts, and_draft}
 use Rattle.sch_sketch.specs.Sketch.{choosing, sequencing, binding, recurring, abstracting, calling, operating, setting, scope_in, position_in, width, assemble}
 
@@ -13,7 +13,7 @@ x = codes "x"
 y : List ℕ
 y = codes "y"
 
-vs : Names
+vs : VariableNames
 vs = Some x ∷ Some y ∷ []
 
 -- `(let ((x x) (y x)) x)` in the scope of another x: its inits stand outside, its body has y nearest

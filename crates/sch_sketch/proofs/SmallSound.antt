@@ -3,14 +3,14 @@ use Rattle.std.proofs.Common.{◌≡◌, ◌<◌, ◌+◌, ℕ, zero, suc, Bool,
 use Rattle.sch_read.specs.Grammar.{Datum, Data, atom, list, dotted, vector, none, cons, boolean, integer, character, symbol as symbol_atom}
 use Rattle.sch_read.specs.Grammar as grammar
 use Rattle.sch_read.specs.Parts.{how_many}
-use Rattle.sch_names.specs.Scope.{Scope, onto, find, farther, is_named, Names}
+use Rattle.sch_names.specs.Scope.{Scope, onto, find, farther, is_named, VariableNames}
 use Rattle.sch_sketch.specs.declared.sketch.Position.{Position}
 use Rattle.sch_sketch.specs.declared.sketch.Position.TheVariants.{Value, Test}
 use Rattle.sch_sketch.specs.Sketch.{Kind, Sketch, Sketches, node, and_sketch, calling, how_many_parts}
 use Rattle.sch_sketch.specs.Small.{texts, fresh_each, quoted, either_of}
 use Rattle.sch_sketch.specs.Soundness.{IsSound, AreSound}
 
-pub onto_length : (vs : Names) (s : Scope) → length (onto vs s) ≡ length vs + length s
+pub onto_length : (vs : VariableNames) (s : Scope) → length (onto vs s) ≡ length vs + length s
 onto_length [] s = omega arith
 onto_length (v ∷ vs) s = onto_length vs (v ∷ s) ∙ omega arith
 
@@ -34,7 +34,7 @@ choice_by s false k k' h h' = h'
 pub near : (v : Option (List ℕ)) (s : Scope) → 0 < length (v ∷ s)
 near v s = omega arith
 
-pub call_sound : (vs : Names) (s : Scope) (at : ℕ) (k : Sketch) (ks : Sketches) → IsSound s k → AreSound (calling vs) false s ks → IsSound s (node (calling vs) at (and_sketch k ks))
+pub call_sound : (vs : VariableNames) (s : Scope) (at : ℕ) (k : Sketch) (ks : Sketches) → IsSound s k → AreSound (calling vs) false s ks → IsSound s (node (calling vs) at (and_sketch k ks))
 call_sound vs s at k ks h g = (omega arith, (tt, (h, g)))
 
 pub quoted_sound : (s : Scope) (at : ℕ) (d : Datum) → IsSound s (quoted at d)

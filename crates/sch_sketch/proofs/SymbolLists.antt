@@ -9,14 +9,14 @@ use Rattle.sch_read.specs.Grammar as grammar
 use Rattle.sch_read.specs.Parts.{IsNoSymbol}
 use Rattle.sch_read.specs.Views.{tree_of, data_of}
 use Rattle.sch_names.specs.ScopeView.{given_names}
-use Rattle.sch_names.specs.Scope.{Names}
+use Rattle.sch_names.specs.Scope.{VariableNames}
 use Rattle.sch_sketch.specs.Formals.{are_symbols, symbols}
 
 no_symbols : (d : grammar.Datum) (rest : Data) → IsNoSymbol d → are_symbols (cons d rest) ≡ false
 no_symbols (atom q (symbol b)) rest h = absurd h
 no_symbols _ rest h = refl
 
-pub symbols_next : (items : List Datum) (i : ℕ) (d : Datum) (vs vs' : List (Option (Bor (List ℕ)))) (x : Bor (List ℕ)) (r : Names) {p : ℕ} → i < length items → d ≡ get_or items i d →
+pub symbols_next : (items : List Datum) (i : ℕ) (d : Datum) (vs vs' : List (Option (Bor (List ℕ)))) (x : Bor (List ℕ)) (r : VariableNames) {p : ℕ} → i < length items → d ≡ get_or items i d →
     tree_of d ≡ atom p (symbol x.now) → vs' ≡ vs ++ Some x ∷ [] → given_names vs ++ symbols (data_of (drop i items)) ≡ r → given_names vs' ++ symbols (data_of (drop (i + 1) items)) ≡ r
 symbols_next items i d vs vs' x r l e b p k =
     let k' = rw (next_left items i d l e, b) at k in rw (add-one, p, map-append, append_assoc) k'

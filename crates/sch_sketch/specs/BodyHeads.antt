@@ -1,7 +1,7 @@
 -- The definitions at the head of a body, and which data are a body (R5RS 5.2.2).
 use Rattle.std.specs.Prelude.{ℕ, Bool, cond, ◌&&◌, not, [], ◌++◌}
 use Rattle.sch_read.specs.Grammar.{Data, none, cons}
-use Rattle.sch_names.specs.Scope.{Scope, Names}
+use Rattle.sch_names.specs.Scope.{Scope, VariableNames}
 use Rattle.sch_sketch.specs.declared.sketch.Row.TheVariants.{Body}
 use Rattle.sch_sketch.specs.Sketch.{Sketches, rest}
 use Rattle.sch_sketch.specs.Small.{one}
@@ -9,7 +9,7 @@ use Rattle.sch_sketch.specs.Distinct.{are_distinct}
 use Rattle.sch_sketch.specs.Definitions.{is_definition, are_definitions, names_in, inits_in}
 
 -- the definitions at the head of a body, and what follows them
-abbrev pub body_names : Scope → Data → Names
+abbrev pub body_names : Scope → Data → VariableNames
 body_names s none = []
 body_names s (cons d ds) = cond (is_definition s d) (names_in d ++ body_names s ds) []
 

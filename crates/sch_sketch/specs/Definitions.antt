@@ -4,7 +4,7 @@ use Rattle.sch_read.specs.Grammar.{Datum, Data, atom, list, none, cons, symbol}
 use Rattle.sch_names.specs.declared.keyword.Keyword.{Keyword}
 use Rattle.sch_names.specs.declared.keyword.Keyword.TheVariants.{Define, Begin}
 use Rattle.sch_names.specs.Words.{keyword_of}
-use Rattle.sch_names.specs.Scope.{Scope, find, Names}
+use Rattle.sch_names.specs.Scope.{Scope, find, VariableNames}
 use Rattle.sch_sketch.specs.declared.fault.Fault.TheVariants.{BadForm}
 use Rattle.sch_sketch.specs.declared.sketch.Row.TheVariants.{Method}
 use Rattle.sch_sketch.specs.Sketch.{Sketch, Sketches, text, rest, wrong, and_sketch}
@@ -54,11 +54,11 @@ is_define_word (Some Define) = true
 is_define_word _ = false
 
 abbrev mutual
-  pub names_in : Datum → Names
+  pub names_in : Datum → VariableNames
   names_in (list at (cons (atom q (symbol w)) xs)) = cond (is_define_word (keyword_of w)) (defined_name xs ∷ []) (names_of_each xs)
   names_in _ = []
 
-  pub names_of_each : Data → Names
+  pub names_of_each : Data → VariableNames
   names_of_each none = []
   names_of_each (cons d ds) = names_in d ++ names_of_each ds
 

@@ -1,9 +1,9 @@
 -- Expressions of the core language before their symbols, literals, globals and sites have numbers, as
 -- plain data.
-use Rattle.std.specs.Prelude.{ℕ, zero, suc, Bool, List, [], ◌∷◌, Option}
+use Rattle.std.specs.Prelude.{ℕ, zero, suc, Bool, List, [], ◌∷◌}
 use Rattle.sch_word.specs.declared.constant.Const.{Const}
 use Rattle.sch_word.specs.declared.primitive.Primitive.{Primitive}
-use Rattle.sch_names.specs.Scope.{Names}
+use Rattle.sch_names.specs.Scope.{VariableNames}
 use Rattle.sch_read.specs.Grammar.{Datum}
 
 -- A symbol is named, and a literal is the datum that is quoted: each is an object of its own. A `letrec`
@@ -22,10 +22,10 @@ mutual
     define : (name : List ℕ) → Draft → Draft
     branch : Draft → Draft → Draft → Draft
     sequence : Drafts → Draft
-    bind : Names → Drafts → Draft → Draft
-    letrec : Names → (procedures : Bool) → Drafts → Draft → Draft
+    bind : VariableNames → Drafts → Draft → Draft
+    letrec : VariableNames → (procedures : Bool) → Drafts → Draft → Draft
     lambda : (formals : ℕ) → (rest : Bool) → Draft → Draft
-    call : Names → Draft → Drafts → Draft
+    call : VariableNames → Draft → Drafts → Draft
     operation : Primitive → Drafts → Draft
 
   pub data Drafts : Type 0 where

@@ -2,7 +2,7 @@
 -- left, or that one alone.
 use Rattle.std.specs.Prelude.{Bool, true, false, ◌&&◌, [], ◌∷◌, ◌++◌, Option, Some, None}
 use Rattle.sch_read.specs.Grammar.{Datum, Data, atom, list, dotted, none, cons, symbol}
-use Rattle.sch_names.specs.Scope.{Names}
+use Rattle.sch_names.specs.Scope.{VariableNames}
 use Rattle.sch_sketch.specs.Distinct.{are_distinct}
 
 -- what stands in a list, and after its dot; of what is no list, that alone
@@ -25,7 +25,7 @@ are_symbols none = true
 are_symbols (cons (atom q (symbol x)) xs) = are_symbols xs
 are_symbols _ = false
 
-abbrev pub symbols : Data → Names
+abbrev pub symbols : Data → VariableNames
 symbols (cons (atom q (symbol x)) xs) = Some x ∷ symbols xs
 symbols _ = []
 
@@ -34,7 +34,7 @@ abbrev pub is_rest : Option Datum → Bool
 is_rest None = true
 is_rest (Some f) = is_symbol f
 
-abbrev pub rest_symbol : Option Datum → Names
+abbrev pub rest_symbol : Option Datum → VariableNames
 rest_symbol (Some (atom q (symbol x))) = Some x ∷ []
 rest_symbol _ = []
 
@@ -42,7 +42,7 @@ abbrev pub takes_rest : Option Datum → Bool
 takes_rest None = false
 takes_rest (Some f) = true
 
-abbrev pub formals : Data → Option Datum → Names
+abbrev pub formals : Data → Option Datum → VariableNames
 formals fs f = symbols fs ++ rest_symbol f
 
 abbrev pub are_names : Data → Option Datum → Bool

@@ -5,10 +5,10 @@ use Rattle.sch_read.specs.Grammar.{Datum}
 use Rattle.sch_read.specs.declared.datum.Datum as code
 use Rattle.sch_read.specs.Views.{tree_of}
 use Rattle.sch_names.specs.ScopeView.{given_names}
-use Rattle.sch_names.specs.Scope.{Names}
+use Rattle.sch_names.specs.Scope.{VariableNames}
 
 -- names are given exactly where a test holds, and are then these
-abbrev pub AreGiven : Bool → Names → Option (List (Option (Bor (List ℕ)))) → Type 0
+abbrev pub AreGiven : Bool → VariableNames → Option (List (Option (Bor (List ℕ)))) → Type 0
 AreGiven b vs None = b ≡ false
 AreGiven b vs (Some given) = (b ≡ true) × (given_names given ≡ vs)
 

@@ -4,7 +4,7 @@ use Rattle.std.specs.Prelude.{ℕ, zero, suc, Bool, true, false, List, [], ◌�
 use Rattle.sch_word.specs.declared.constant.Const.TheVariants.{Unspecified}
 use Rattle.sch_word.specs.declared.primitive.Primitive.{Primitive}
 use Rattle.sch_read.specs.Grammar.{Datum, Data}
-use Rattle.sch_names.specs.Scope.{Scope, onto, Names}
+use Rattle.sch_names.specs.Scope.{Scope, onto, VariableNames}
 use Rattle.sch_sketch.specs.declared.fault.Fault.{Fault}
 use Rattle.sch_sketch.specs.declared.sketch.Position.{Position}
 use Rattle.sch_sketch.specs.declared.sketch.Position.TheVariants.{Value, Test}
@@ -16,10 +16,10 @@ use Rattle.sch_sketch.specs.Draft.{Draft, Drafts, no_drafts, and_draft, constant
 pub data Kind : Type 0 where
   choosing : Kind
   sequencing : Kind
-  binding : Names → Kind
-  recurring : Names → (procedures : Bool) → Kind
-  abstracting : Names → (rest : Bool) → Kind
-  calling : Names → Kind
+  binding : VariableNames → Kind
+  recurring : VariableNames → (procedures : Bool) → Kind
+  abstracting : VariableNames → (rest : Bool) → Kind
+  calling : VariableNames → Kind
   operating : Primitive → Kind
   setting : (nearer : ℕ) → Kind
   setting_global : (name : List ℕ) → Kind

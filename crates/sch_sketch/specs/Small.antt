@@ -5,7 +5,7 @@ use Rattle.sch_read.specs.Grammar.{Datum, Data, atom, list, none, cons, boolean,
 use Rattle.sch_read.specs.Parts.{offset}
 use Rattle.sch_sketch.specs.declared.sketch.Position.{Position}
 use Rattle.sch_sketch.specs.declared.sketch.Position.TheVariants.{Value, Test}
-use Rattle.sch_names.specs.Scope.{Names}
+use Rattle.sch_names.specs.Scope.{VariableNames}
 use Rattle.sch_sketch.specs.Draft.{constant, symbol, literal, local}
 use Rattle.sch_sketch.specs.Sketch.{Sketch, Sketches, text, leaf, node, no_sketch, and_sketch, choosing, binding}
 
@@ -27,10 +27,10 @@ texts none ks = ks
 texts (cons d ds) ks = and_sketch (text d) (texts ds ks)
 
 -- a variable that a rewriting adds, and one for each datum
-abbrev pub fresh : Names
+abbrev pub fresh : VariableNames
 fresh = None ∷ []
 
-abbrev pub fresh_each : Data → Names
+abbrev pub fresh_each : Data → VariableNames
 fresh_each none = []
 fresh_each (cons d ds) = None ∷ fresh_each ds
 

@@ -1,7 +1,7 @@
 -- The kernel's rows at a state without spare words.
 use Rattle.std.proofs.Common.{◌≡◌, ◌≢◌, ℕ, zero, suc, ◌<◌, List, [], ◌∷◌, ◌++◌, length, take, true, false, cond, Some, None, refl, sym, ap, ◌∙◌, subst, arith, append-nil, ◌%◌, ◌==◌, ◌&&◌}
 use Rattle.std.proofs.lemmas.Bool.{eqb-true, ne_eqb}
-use Rattle.sch_word.proofs.facts.Lists.{take_whole}
+use Rattle.std.proofs.Math.Seq.{take-length}
 use Rattle.sch_word.specs.declared.answer.Answer.{Answer}
 use Rattle.sch_word.specs.declared.answer.Answer.TheVariants.{Took, Failed}
 use Rattle.sch_word.proofs.facts.Booleans.{and_left}
@@ -53,7 +53,7 @@ unfolding written_core
 after c next b piece a [] y h =
     subst (λ z. answered (state_of c b []) next piece [] ≡ state_of (written_core c next (rax_of a)) (b ++ taken a piece) z) (sym h.1)
     (subst (λ z. answered (state_of c b []) next piece [] ≡ state_of (written_core c next (rax_of z)) (b ++ taken z piece) []) (sym h.0)
-    (ap (λ l. state_of (written_core c next (length piece)) (b ++ l) []) (sym (take_whole piece))))
+    (ap (λ l. state_of (written_core c next (length piece)) (b ++ l) []) (sym (take-length piece))))
 after c next b piece a (Took k ∷ rest) y h =
     subst (λ z. answered (state_of c b (Took k ∷ rest)) next piece (Took k ∷ rest) ≡ state_of (written_core c next (rax_of a)) (b ++ taken a piece) z) (sym h.1)
     (subst (λ z. answered (state_of c b (Took k ∷ rest)) next piece (Took k ∷ rest) ≡ state_of (written_core c next (rax_of z)) (b ++ taken z piece) rest) (sym h.0) refl)

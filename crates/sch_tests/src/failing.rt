@@ -5,7 +5,7 @@ use sch_word::{Answer, Mem};
 use std::alloc::Global;
 use std::test::Fail;
 
-const LISTED: &str = "compile p.scm p --listing f --heap 4096";
+const LISTED: &str = "compile p.scm p --listing f";
 
 const TEXT: &[u8] = b"(define (f x) x)(display (f 1))";
 
@@ -40,9 +40,10 @@ const DISKS: &[(&str, u64, u8, &[u8], bool)] = &[
     ("count p.scm", 0, 2, b"p.scm: read failed\n", false),
 ];
 
-// Whether the source is as it was, the executable is there or not, and no listing is.
+// Whether the source and the other file are as they were, the executable is there or not, and no listing is.
 fn is_left(alloc: Global, outcome: &mut Outcome, written: bool) -> bool {
     holds(alloc, outcome, "p.scm", TEXT)
+        && holds(alloc, outcome, "a", TEXT)
         && outcome.file(alloc, "p").is_some() == written
         && outcome.file(alloc, "f").is_none()
 }
@@ -150,8 +151,8 @@ fn check_pieces(alloc: Global, file: &[u8], out: &[Answer], wanted: Wanted) -> R
         out,
         ..Outside::of(file)
     };
-    check(alloc, "run p.scm --heap 4096 --depth 20", source, wanted)?;
-    let mut compiled = call_well(alloc, LISTED, file)?;
+    check(alloc, "run p.scm", source, wanted)?;
+    let mut compiled = call_well(alloc, "compile p.scm p --heap 4096 --depth 20", file)?;
     let image = compiled.file(alloc, "p").ok_or("no file")?;
     let image = Outside {
         out,
@@ -180,7 +181,7 @@ fn a_stream_without_room_fails(rt: HostRuntime) -> Result<(), Fail> {
             ..Outside::of(b"(display 12)")
         };
         let wanted = (*status, *taken, said_of(*status));
-        check(rt.alloc(), "run p.scm --heap 4096", outside, wanted)?;
+        check(rt.alloc(), "run p.scm", outside, wanted)?;
     }
     Ok(())
 }
@@ -232,7 +233,7 @@ fn check_texts(alloc: Global, line: &str) -> Result<(), Fail> {
 
 #[test]
 fn each_answer_to_a_text_is_short_or_fails(rt: HostRuntime) -> Result<(), Fail> {
-    check_texts(rt.alloc(), "list p.scm --heap 4096")?;
+    check_texts(rt.alloc(), "list p.scm")?;
     check_texts(rt.alloc(), "count p.scm --heap 4096")
 }
 

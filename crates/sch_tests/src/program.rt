@@ -93,9 +93,9 @@ fn texts_at_their_limits(rt: HostRuntime) -> Result<(), Fail> {
     check_repeated(rt.alloc(), COMPILE, LIMITS)
 }
 
-// Constants and variables whose values are dropped: a body has as many as its text has room for.
+// Constants and variables whose values are dropped: a body has as many as its text has room for, of 1 MiB here.
 const PARTS: &[(Repeated, Wanted)] = &[(
-    (b"(define (f x)", b" 1 x", 100_000, b" 7)(display (f 0))"),
+    (b"(define (f x)", b" 1 x", 262_130, b" 7)(display (f 0))"),
     (0, b"7", b""),
 )];
 

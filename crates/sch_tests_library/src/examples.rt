@@ -202,6 +202,75 @@ const STRINGS: &[u8] = br##"; Strings: reversal, palindromes, and a cipher that 
 (newline)
 "##;
 
+const DERIVATIVES: &[u8] = br##"; Derivatives of sums and products of numbers and variables.
+(define (derive e x)
+  (cond ((number? e) 0)
+        ((symbol? e) (if (eq? e x) 1 0))
+        ((eq? (car e) '+) (sum (derive (cadr e) x) (derive (caddr e) x)))
+        (else (sum (product (cadr e) (derive (caddr e) x))
+                   (product (derive (cadr e) x) (caddr e))))))
+(define (sum a b)
+  (cond ((eqv? a 0) b)
+        ((eqv? b 0) a)
+        (else (list '+ a b))))
+(define (product a b)
+  (cond ((eqv? a 0) 0)
+        ((eqv? a 1) b)
+        ((eqv? b 1) a)
+        (else (list '* a b))))
+; a power of x, and so often the derivative of one
+(define (power x n)
+  (if (= n 0) 1 (product x (power x (- n 1)))))
+(define (derive-often e x n)
+  (if (= n 0) e (derive-often (derive e x) x (- n 1))))
+(write (derive '(+ (* x x) (* 3 y)) 'x))
+(newline)
+(write (derive (power 'x 3) 'x))
+(newline)
+(define (size e) (if (pair? e) (+ (size (car e)) (size (cdr e))) 1))
+(display (size (derive-often (power 'x 6) 'x 3)))
+(newline)
+"##;
+
+const FIB: &[u8] = br##"; The Fibonacci numbers, by two calls for each.
+(define (fib n)
+  (if (< n 2)
+      n
+      (+ (fib (- n 1)) (fib (- n 2)))))
+(display (fib 18))
+(newline)
+"##;
+
+const QUEENS: &[u8] =
+    br##"; In how many ways do n queens stand on a board of n rows, none of which attacks another? A board is the list of the columns of
+; its queens, the last row first.
+(define (attacks? column distance board)
+  (if (null? board)
+      #f
+      (let ((other (car board)))
+        (or (= other column)
+            (= (abs (- other column)) distance)
+            (attacks? column (+ distance 1) (cdr board))))))
+(define (place rows column n board)
+  (cond ((= rows 0) 1)
+        ((> column n) 0)
+        ((attacks? column 1 board) (place rows (+ column 1) n board))
+        (else (+ (place (- rows 1) 1 n (cons column board))
+                 (place rows (+ column 1) n board)))))
+(define (queens n) (place n 1 n '()))
+(display (map queens '(1 2 3 4 5 6)))
+(newline)
+"##;
+
+const TAK: &[u8] = br##"; Takeuchi's procedure: calls of which three are operands of a fourth.
+(define (tak x y z)
+  (if (< y x)
+      (tak (tak (- x 1) y z) (tak (- y 1) z x) (tak (- z 1) x y))
+      z))
+(display (tak 12 8 4))
+(newline)
+"##;
+
 /// Each program with what it prints.
 const PROGRAMS: &[(&[u8], &[u8])] = &[
     (CLOSURES, b"(2 20 3)\n50\n120\n70\nrefused\nunknown\n"),
@@ -218,6 +287,13 @@ const PROGRAMS: &[(&[u8], &[u8])] = &[
         STRINGS,
         b"\"emehcS\"\n#t\n\"Uryyb, Jbeyq\"\n\"Hello, World\"\n\"12-abc\"\n",
     ),
+    (
+        DERIVATIVES,
+        b"(+ (+ x x) (* 3 0))\n(+ (* x (+ x x)) (* x x))\n589\n",
+    ),
+    (FIB, b"2584\n"),
+    (QUEENS, b"(1 0 0 2 10 4)\n"),
+    (TAK, b"5\n"),
 ];
 
 #[test]

@@ -68,7 +68,8 @@ fn second_moves(alloc: Global) -> Result<List<Move>, Mem>
 }
 
 // The return address, variable 2 and variable 3 live in R15, RBX and R14, which calls use, and are saved in slots 10, 12 and 13.
-// What else there is lives in slot 21. The slots from 50 on are those of the next frame.
+// The closure lives in slot 21. The body has no other variable: any would live in slot 49, and be saved in slot 48. The slots from
+// 50 on are those of the next frame.
 #[derive(Drop)]
 struct Places;
 
@@ -80,8 +81,10 @@ impl VariablePlaces for Places {
     ghost use Rattle.sch_word.specs.declared.place.Place.TheVariants.{Reg, Slot};
 
     ghost plan = { λ s. record {
-      place = λ x. cond (nat_eq x 0) (Reg 15) (cond (nat_eq x 2) (Reg 3) (cond (nat_eq x 3) (Reg 14) (Slot 21)));
-      home = λ x. cond (nat_eq x 0) (Slot 10) (cond (nat_eq x 2) (Slot 12) (Slot 13));
+      place = λ x. cond (nat_eq x 0) (Reg 15)
+          (cond (nat_eq x 1) (Slot 21) (cond (nat_eq x 2) (Reg 3) (cond (nat_eq x 3) (Reg 14) (Slot 49))));
+      home = λ x. cond (nat_eq x 0) (Slot 10)
+          (cond (nat_eq x 1) (Slot 11) (cond (nat_eq x 2) (Slot 12) (cond (nat_eq x 3) (Slot 13) (Slot 48))));
       limit = 50;
       moves = λ tail a. cond (nat_eq a.site 0)
           (record { argument = 1; from = operand.Atom (atom.Constant (Character 98)); to = Slot 50; temp = false }
@@ -94,17 +97,20 @@ impl VariablePlaces for Places {
     fn place(&self, x: u32) -> Place {
         match x {
             0 => Place::Reg(15),
+            1 => Place::Slot(21),
             2 => Place::Reg(3),
             3 => Place::Reg(14),
-            _ => Place::Slot(21),
+            _ => Place::Slot(49),
         }
     }
 
     fn home(&self, x: u32) -> Place {
         match x {
             0 => Place::Slot(10),
+            1 => Place::Slot(11),
             2 => Place::Slot(12),
-            _ => Place::Slot(13),
+            3 => Place::Slot(13),
+            _ => Place::Slot(48),
         }
     }
 

@@ -4,7 +4,7 @@ use Rattle.std.specs.Prelude.{◌≡◌, ◌⊎◌, ℕ, Bool, true, false, cond
 use Rattle.sch_read.specs.Grammar.{Datum, Data, atom, list, none, cons}
 use Rattle.sch_read.specs.Parts.{offset}
 use Rattle.sch_names.specs.NamesView.{with_name}
-use Rattle.sch_names.specs.Scope.{is_among, Globals, Names}
+use Rattle.sch_names.specs.Scope.{is_among, Globals, VariableNames}
 use Rattle.sch_sketch.specs.declared.fault.Fault.{Fault}
 use Rattle.sch_sketch.specs.declared.fault.Fault.TheVariants.{BadForm}
 use Rattle.sch_sketch.specs.declared.sketch.Position.TheVariants.{Value}
@@ -66,7 +66,7 @@ item_places none = []
 item_places (cons d ds) = offset d ∷ item_places ds
 
 -- the name of each, where it is well shaped
-abbrev pub item_names : Data → Names
+abbrev pub item_names : Data → VariableNames
 item_names none = []
 item_names (cons d ds) = name_in d ∷ item_names ds
 

@@ -1,4 +1,5 @@
 pub mod Booleans
+pub mod KnownErrors
 pub mod Lists
 pub mod NumberSets
 pub mod NumberTests

@@ -1,2 +1,3 @@
 mod LoopTurns
 mod WholeLayout
+mod FewOperandRows

@@ -3,9 +3,10 @@
 ghost use Rattle.std.specs.Prelude.{◌≡◌, ◌≤◌, ◌<◌, ◌+◌, ◌^◌, ◌∷◌, suc, false, length, true, IfOk, OnOk};
 ghost use Rattle.sch_word.specs.declared.mark.MarkKind.TheVariants as mark;
 ghost use Rattle.sch_word.specs.trees.Shape.{max_operands};
+ghost use Rattle.sch_control.specs.flow.Places.{arrival};
 ghost use Rattle.sch_frames.specs.Meaning.{argument_register, argument_slot};
 ghost use Rattle.sch_frames.specs.declared.instruction.Instruction.TheVariants.{Call, Mark, Tail};
-ghost use Rattle.sch_layout.specs.BodyLayout.{arrival, leave, loaded, move_all, target, Writes};
+ghost use Rattle.sch_layout.specs.BodyLayout.{leave, loaded, move_all, target, Writes};
 
 use crate::allocation::{Around, Restores};
 use crate::instructions::{Writer, leave, put};

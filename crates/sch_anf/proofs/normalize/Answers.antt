@@ -11,10 +11,11 @@ use Rattle.sch_control.specs.Sizes.{tests_of}
 use Rattle.sch_anf_laws.proofs.kept.CallsKept.{program_calls}
 use Rattle.sch_anf_laws.proofs.runs.Program.{normal_runs}
 use Rattle.sch_anf_laws.proofs.kept.CoveredKept.{program_covered}
-use Rattle.sch_anf_laws.specs.Counted.{BindNoMore}
+use Rattle.sch_anf_laws.specs.Counted.{BindNoMore, FewSequences}
 use Rattle.sch_control.specs.Sizes.{dropped_of}
 use Rattle.sch_flat.specs.Measures.{weight}
 use Rattle.sch_anf_laws.proofs.kept.BindNoMore.{program_binds}
+use Rattle.sch_anf_laws.proofs.kept.FewSequences.{program_few}
 use Rattle.sch_anf_laws.proofs.kept.NoneDropped.{program_drops_none}
 use Rattle.sch_anf_laws.proofs.kept.WorkKept.{program_weight}
 use Rattle.sch_control.proofs.FittingTable.{given_table_fits}
@@ -57,6 +58,11 @@ returns-clause-dropped c = if_ok c.normal_program.result _ _ c.normal_program.en
 pub returns-clause-variables : goal.returns-clause-variables
 returns-clause-variables c =
     if_ok c.normal_program.result _ _ c.normal_program.ensures (λ q made. subst (λ s. BindNoMore (source c.args.p.now) s) (sym made) (program_binds (source c.args.p.now)))
+
+pub returns-clause-sequences : goal.returns-clause-sequences
+returns-clause-sequences c =
+    if_ok c.normal_program.result _ _ c.normal_program.ensures
+    (λ q made. subst (λ s. FewSequences (source c.args.p.now) s) (sym made) (program_few (source c.args.p.now)))
 
 pub returns-clause-work : goal.returns-clause-work
 returns-clause-work c =

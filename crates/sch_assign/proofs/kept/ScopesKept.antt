@@ -8,6 +8,7 @@ use Rattle.sch_cells.specs.declared.tree.NewCell.{NewCell}
 use Rattle.sch_cells.specs.Tree.{Tree, Trees, Lambdas, Source, constant, literal, variable, global, set_variable, set_global, define, branch, sequence, bind, fix, letrec, lambda, call, operation, new_cells, cell_get, cell_set, no_trees, and_tree, no_lambdas, and_lambda, count, count_lambdas}
 use Rattle.sch_cells.specs.Variables.{scope_of, cells_bound, cells_used, all_in, closed, closed_each, closed_lambdas}
 use Rattle.sch_cells.specs.Clear.{In}
+use Rattle.sch_cells.proofs.Clearing.{in_under}
 use Rattle.sch_assign.specs.Converted.{and_cell, cells_for, empty_cells, filling, reading, wrapped, converted, converted_each, converted_lambdas, AllAre, Right, RightEach, RightLambdas}
 use Rattle.sch_assign.proofs.Lookups.{Where, inside, outside, where_is, in_outside, in_deeper, in_group}
 use Rattle.sch_word.proofs.facts.NumberSets.{in_more}
@@ -17,10 +18,6 @@ use Rattle.sch_assign.proofs.ConversionIsRight.{IsRight}
 use Rattle.sch_word.proofs.facts.NumberTests.{same}
 
 -- ## Scopes with more variables
-
-in_under : (zs : List ℕ) (y : ℕ) (S : List ℕ) → In y S → In y (scope_of zs S)
-in_under [] y S i = i
-in_under (z ∷ zs) y S i = in_under zs y (z ∷ S) (in_more y z S i)
 
 in_list : (zs : List ℕ) (y : ℕ) (S : List ℕ) → In y zs → In y (scope_of zs S)
 in_list [] y S i = absurd (cc)

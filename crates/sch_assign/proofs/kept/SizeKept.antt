@@ -12,13 +12,14 @@ use Rattle.sch_assign.proofs.ConversionIsRight.{IsRight}
 use Rattle.sch_assign.proofs.kept.BodiesKept.{procedure_kept, procedures_kept, nothing_low, empty_length}
 use Rattle.sch_assign.proofs.kept.ValidKept.{cells_length}
 
-abbrev size : Tree → ℕ
+-- the size of a tree, of trees and of lambdas
+abbrev pub size : Tree → ℕ
 size e = over 0 (λ a b. a + b) (λ e. size_of (shape e)) e
 
-abbrev size_each : Trees → ℕ
+abbrev pub size_each : Trees → ℕ
 size_each es = over_each 0 (λ a b. a + b) (λ e. size_of (shape e)) es
 
-abbrev size_lambdas : Lambdas → ℕ
+abbrev pub size_lambdas : Lambdas → ℕ
 size_lambdas ls = over_lambdas 0 (λ a b. a + b) (λ e. size_of (shape e)) ls
 
 wrapped_size : (cs : List NewCell) (m : ℕ) (e : Tree) → length cs ≤ m → size (wrapped cs e) ≤ 1 + m + size e

@@ -2,7 +2,7 @@
 use Rattle.std.proofs.Common.{◌≡◌, ℕ, zero, suc, ◌+◌, ◌*◌, ◌≤◌, Bool, true, false, List, [], ◌∷◌, length, refl, ap, arith}
 use Rattle.sch_word.specs.trees.Bindings.{scope_with}
 use Rattle.sch_word.specs.trees.Shape as shapes
-use Rattle.sch_word.specs.trees.Shape.{size_of, procedures_size}
+use Rattle.sch_word.specs.trees.Shape.{procedures_size}
 use Rattle.sch_word.specs.trees.NodeWeights.{free_of, procedures_weight, weight_of}
 use Rattle.sch_cells.specs.declared.tree.NewCell.{NewCell}
 use Rattle.sch_cells.specs.Tree.{Tree, Trees, Lambdas, Source, constant, literal, variable, global, set_variable, set_global, define, branch, sequence, bind, fix, letrec, lambda, call, operation, new_cells, cell_get, cell_set, no_trees, and_tree, no_lambdas, and_lambda, count, count_lambdas}
@@ -12,16 +12,8 @@ use Rattle.sch_assign.specs.Converted.{cells_for, filling, reading, wrapped, con
 use Rattle.sch_assign.proofs.kept.FreeMoved.{AllLow, count_lambdas_same, count_same, low_with}
 use Rattle.sch_assign.proofs.ConversionIsRight.{IsRight}
 use Rattle.sch_assign.proofs.kept.BodiesKept.{procedure_kept, procedures_kept, nothing_low, empty_length}
+use Rattle.sch_assign.proofs.kept.SizeKept.{size, size_each, size_lambdas}
 use Rattle.sch_assign.proofs.kept.ValidKept.{cells_length}
-
-abbrev size : Tree → ℕ
-size e = over 0 (λ a b. a + b) (λ e. size_of (shape e)) e
-
-abbrev size_each : Trees → ℕ
-size_each es = over_each 0 (λ a b. a + b) (λ e. size_of (shape e)) es
-
-abbrev size_lambdas : Lambdas → ℕ
-size_lambdas ls = over_lambdas 0 (λ a b. a + b) (λ e. size_of (shape e)) ls
 
 abbrev weigh : Tree → ℕ
 weigh e = over 0 (λ a b. a + b) (λ e. weight_of (shape e)) e

@@ -1,6 +1,6 @@
 -- The drafts of a node's parts: all of them, all but the last, and the last.
 use Rattle.std.proofs.Common.{◌≡◌, ◌≤◌, ℕ, zero, suc, Bool, true, false, length, ap, subst, arith}
-use Rattle.sch_names.specs.Scope.{Scope, onto, Names}
+use Rattle.sch_names.specs.Scope.{Scope, onto, VariableNames}
 use Rattle.sch_sketch.specs.Draft.{Drafts, no_drafts, and_draft, count}
 use Rattle.sch_sketch.specs.Sketch.{Kind, binding, scope_in, front, last, first, but_first}
 use Rattle.sch_core.specs.SoundDrafts.{IsSound, AreSound}
@@ -47,12 +47,12 @@ all_in k first m s no_drafts h p = tt
 all_in k first m s (and_draft e es) h p = (subst (λ v. IsSound v e) (h first (is_none es)) p.0, all_in k false m s es h p.1)
 
 -- the inits of a binding stand outside its variables, and its body inside
-pub inits_in_place : (vs : Names) (first : Bool) (s : Scope) (es : Drafts) → InPlace (binding vs) first s es → AreSound (length s) (front es)
+pub inits_in_place : (vs : VariableNames) (first : Bool) (s : Scope) (es : Drafts) → InPlace (binding vs) first s es → AreSound (length s) (front es)
 inits_in_place vs first s no_drafts p = tt
 inits_in_place vs first s (and_draft e no_drafts) p = tt
 inits_in_place vs first s (and_draft e (and_draft f fs)) p = (p.0, inits_in_place vs false s (and_draft f fs) p.1)
 
-pub body_in_place : (vs : Names) (first : Bool) (s : Scope) (es : Drafts) → 1 ≤ count es → InPlace (binding vs) first s es → IsSound (length (onto vs s)) (last es)
+pub body_in_place : (vs : VariableNames) (first : Bool) (s : Scope) (es : Drafts) → 1 ≤ count es → InPlace (binding vs) first s es → IsSound (length (onto vs s)) (last es)
 body_in_place vs first s no_drafts c p = absurd (omega (arith, c))
 body_in_place vs first s (and_draft e no_drafts) c p = p.0
 body_in_place vs first s (and_draft e (and_draft f fs)) c p = body_in_place vs false s (and_draft f fs) (omega arith) p.1

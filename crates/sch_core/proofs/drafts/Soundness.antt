@@ -2,7 +2,7 @@
 use Rattle.std.proofs.Common.{◌≡◌, ◌+◌, ℕ, suc, Bool, true, false, length, refl, ap, subst, arith}
 use Rattle.std.proofs.lemmas.Bool.{leb-true}
 use Rattle.sch_word.proofs.facts.Booleans.{and_parts}
-use Rattle.sch_names.specs.Scope.{Scope, Globals, onto, Names}
+use Rattle.sch_names.specs.Scope.{Scope, Globals, onto, VariableNames}
 use Rattle.sch_sketch.specs.declared.sketch.Position.{Position}
 use Rattle.sch_sketch.specs.Draft.{Draft, Drafts, constant, symbol, literal, local, global, set_local, set_global, define, branch, sequence, bind, letrec, lambda, call, operation, no_drafts, and_draft, count}
 use Rattle.sch_sketch.specs.Sketch.{Kind, choosing, sequencing, binding, recurring, abstracting, calling, operating, setting, setting_global, defining, Sketch, Sketches, how_many_parts, is_end, scope_in, position_in, front, last, but_first, but_one, assemble, width}
@@ -29,17 +29,17 @@ but_first_count : (es : Drafts) → count (but_first es) ≡ but_one (count es)
 but_first_count no_drafts = refl
 but_first_count (and_draft e es) = refl
 
-has_rest : (vs : Names) (more : Bool) (s : Scope) (ks : Sketches) → IsSoundKind (abstracting vs more) s ks → HasRest more (length vs)
+has_rest : (vs : VariableNames) (more : Bool) (s : Scope) (ks : Sketches) → IsSoundKind (abstracting vs more) s ks → HasRest more (length vs)
 has_rest vs true s ks h = h
 has_rest vs false s ks h = tt
 
-group_of : (vs : Names) (p : Bool) (s : Scope) (ks : Sketches) (es : Drafts) →
+group_of : (vs : VariableNames) (p : Bool) (s : Scope) (ks : Sketches) (es : Drafts) →
     (are_procedures (onto vs s) (but_last ks) ≡ true → AreProcedures es) → IsSoundKind (recurring vs p) s ks → AreProceduresIf p es
 group_of vs true s ks es f h = f h
 group_of vs false s ks es f h = tt
 
 node_sound : (k : Kind) (s : Scope) (ks : Sketches) (es : Drafts) → HasParts k (count es) → AreFew (width k (count es)) → IsSoundKind k s ks →
-    ((vs : Names) (p : Bool) → k ≡ recurring vs p → are_procedures (onto vs s) (but_last ks) ≡ true → AreProcedures (front es)) →
+    ((vs : VariableNames) (p : Bool) → k ≡ recurring vs p → are_procedures (onto vs s) (but_last ks) ≡ true → AreProcedures (front es)) →
     InPlace k true s es → IsSound (length s) (assemble k es)
 node_sound choosing s ks es c w i g p = branch_sound (length s) es c (all_in choosing true (length s) s es (λ f l. refl) p)
 node_sound sequencing s ks es c w i g p = (c, all_in sequencing true (length s) s es (λ f l. refl) p)
@@ -123,7 +123,7 @@ module _ (globals : Globals) where
   procedure (ex.a_node n s t k at ks es l w p) h = abstracts k es h
   procedure (ex.within n s t at m k e w p) h = cc
 
-  group : (vs : Names) (q first : Bool) {k : Kind} {n : ℕ} {s : Scope} {t : Position} {ks : Sketches} {es : Drafts} → PartsExpand globals k first n s t ks es →
+  group : (vs : VariableNames) (q first : Bool) {k : Kind} {n : ℕ} {s : Scope} {t : Position} {ks : Sketches} {es : Drafts} → PartsExpand globals k first n s t ks es →
       k ≡ recurring vs q → are_procedures (onto vs s) (but_last ks) ≡ true → AreProcedures (front es)
   group vs q first (ex.no_part k _ n s t) i h = tt
   group vs q first (ex.and_part k _ n s t p _ e _ x (ex.no_part _ _ _ _ _)) i h = tt

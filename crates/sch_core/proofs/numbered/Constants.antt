@@ -4,7 +4,7 @@ use Rattle.std.proofs.lemmas.Bool.{and_from}
 use Rattle.sch_word.specs.trees.Shape.{constant_in_range}
 use Rattle.sch_lang.specs.Tree.{Expression, Expressions}
 use Rattle.sch_lang.specs.Measures.{over, over_each, shape}
-use Rattle.sch_names.specs.Scope.{Names}
+use Rattle.sch_names.specs.Scope.{VariableNames}
 use Rattle.sch_sketch.specs.Draft.{Draft, Drafts, constant, symbol, literal, local, global, set_local, set_global, define, branch, sequence, bind, letrec, lambda, call, operation, no_drafts, and_draft, count}
 use Rattle.sch_link_tables.specs.Assigned.{is_group}
 use Rattle.sch_link_tables.specs.Constants.{HasConstants, HaveConstants}
@@ -46,7 +46,7 @@ module _ (own globals symbols : List (List ℕ)) where
     constants_kept (call vs f es) v m s l h k = and_from _ _ (constants_kept f _ m (s + 1) l h.1 k.0) (all_constants_kept es vs m _ _ h.2 k.1)
     constants_kept (operation p es) v m s l h k = all_constants_kept es [] m (s + 1) l h.1 k
 
-    pub all_constants_kept : (es : Drafts) (vs : Names) (m s l : ℕ) → AreSound m es → HaveConstants es →
+    pub all_constants_kept : (es : Drafts) (vs : VariableNames) (m s l : ℕ) → AreSound m es → HaveConstants es →
         over_each true (λ a b. a && b) (λ x. constant_in_range (shape x)) (numbered_each own globals symbols vs es s l) ≡ true
     all_constants_kept no_drafts vs m s l h k = refl
     all_constants_kept (and_draft e es) vs m s l h k = and_from _ _ (constants_kept e _ m s l h.0 k.0) (all_constants_kept es (others_of vs) m _ _ h.1 k.1)

@@ -10,7 +10,7 @@ use Rattle.sch_lang.specs.Measures.{over, over_each, over_lambdas, levels, level
 use Rattle.sch_lang.specs.Valid.{fits_here}
 use Rattle.sch_lang.specs.InScope.{in_scope, each_in_scope, lambdas_in_scope}
 use Rattle.sch_variable_counts.specs.Within.{each_procedure, each_procedure_in, each_lambda}
-use Rattle.sch_names.specs.Scope.{Names}
+use Rattle.sch_names.specs.Scope.{VariableNames}
 use Rattle.sch_sketch.specs.Draft.{Draft, Drafts, lambda, no_drafts, and_draft}
 use Rattle.sch_link_tables.specs.Assigned.{is_group}
 use Rattle.sch_link_tables.specs.Numbered.{numbered_each, procedures_of, others_of}
@@ -73,11 +73,11 @@ group_procedures true es e h g = h
 group_procedures false es e h g = cc
 
 module _ (own globals symbols : List (List ℕ)) where
-  pub lambdas_numbered : (es : Drafts) (vs : Names) (s l : ℕ) → AreProcedures es → AreLambdas (numbered_each own globals symbols vs es s l)
+  pub lambdas_numbered : (es : Drafts) (vs : VariableNames) (s l : ℕ) → AreProcedures es → AreLambdas (numbered_each own globals symbols vs es s l)
   lambdas_numbered no_drafts vs s l h = tt
   lambdas_numbered (and_draft (lambda n r e) es) vs s l h = (tt, lambdas_numbered es (others_of vs) _ _ h.1)
   lambdas_numbered (and_draft _ es) vs s l h = absurd h.0
 
-  pub group_lambdas : (p : Bool) (es : Drafts) (e : Draft) (vs : Names) (s l : ℕ) → AreProceduresIf p es → is_group p es e ≡ true →
+  pub group_lambdas : (p : Bool) (es : Drafts) (e : Draft) (vs : VariableNames) (s l : ℕ) → AreProceduresIf p es → is_group p es e ≡ true →
       AreLambdas (numbered_each own globals symbols vs es s l)
   group_lambdas p es e vs s l h g = lambdas_numbered es vs s l (group_procedures p es e h g)

@@ -14,7 +14,7 @@ use Rattle.sch_lang.specs.Measures as measures
 use Rattle.sch_lang.specs.Measures.{over, over_each, procedure}
 use Rattle.sch_lang.specs.Valid.{fits_here}
 use Rattle.sch_variable_counts.specs.Within.{each_procedure, each_procedure_in, few_variables, few_free, has_few_variables, has_few_free}
-use Rattle.sch_names.specs.Scope.{Names}
+use Rattle.sch_names.specs.Scope.{VariableNames}
 use Rattle.sch_sketch.specs.Draft.{Draft, Drafts, constant, symbol, literal, local, global, set_local, set_global, define, branch, sequence, bind, letrec, lambda, call, operation, no_drafts, and_draft, count}
 use Rattle.sch_link_tables.specs.Assigned.{is_group}
 use Rattle.sch_link_tables.specs.Sites.{widths}
@@ -104,7 +104,7 @@ module _ (own globals symbols : List (List ℕ)) where
     fitting (operation p es) v m s l h k =
         and_from _ _ (le-leb _ _ (omega (arith, count_numbered own globals symbols es [] (s + 1) l, h.0, few_operands p))) (fitting_each es [] m (s + 1) l h.1 k)
 
-    pub fitting_each : (es : Drafts) (vs : Names) (m s l : ℕ) → AreSound m es → AreFew (numbered_each own globals symbols vs es s l) →
+    pub fitting_each : (es : Drafts) (vs : VariableNames) (m s l : ℕ) → AreSound m es → AreFew (numbered_each own globals symbols vs es s l) →
         over_each true (λ a b. a && b) fits_here (numbered_each own globals symbols vs es s l) ≡ true
     fitting_each no_drafts vs m s l h k = refl
     fitting_each (and_draft e es) vs m s l h k = and_from _ _ (fitting e _ m s l h.0 (first_of_two _ _ _ _ k)) (fitting_each es (others_of vs) m _ _ h.1 (second_of_two _ _ _ _ k))
@@ -142,6 +142,6 @@ module _ (own globals symbols : List (List ℕ)) where
     levels_kept (call vs f es) v m s l h = ap (λ k. 1 + k) (two_levels (levels_kept f _ m (s + 1) l h.1) (levels_each_kept es vs m _ _ h.2))
     levels_kept (operation p es) v m s l h = ap (λ k. 1 + k) (levels_each_kept es [] m (s + 1) l h.1)
 
-    pub levels_each_kept : (es : Drafts) (vs : Names) (m s l : ℕ) → AreSound m es → measures.levels_each (numbered_each own globals symbols vs es s l) ≡ levels_each es
+    pub levels_each_kept : (es : Drafts) (vs : VariableNames) (m s l : ℕ) → AreSound m es → measures.levels_each (numbered_each own globals symbols vs es s l) ≡ levels_each es
     levels_each_kept no_drafts vs m s l h = refl
     levels_each_kept (and_draft e es) vs m s l h = two_levels (levels_kept e _ m s l h.0) (levels_each_kept es (others_of vs) m _ _ h.1)

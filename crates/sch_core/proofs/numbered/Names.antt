@@ -10,7 +10,7 @@ use Rattle.sch_word.specs.values.Literals.{constant_known}
 use Rattle.sch_lang.specs.Tree.{Expression, Expressions}
 use Rattle.sch_lang.specs.Measures.{over, over_each}
 use Rattle.sch_lang.specs.Valid.{named_here}
-use Rattle.sch_names.specs.Scope.{is_among, Names}
+use Rattle.sch_names.specs.Scope.{is_among, VariableNames}
 use Rattle.sch_names.specs.NamesView.{with_name, number_of}
 use Rattle.sch_sketch.specs.Draft.{Draft, Drafts, constant, symbol, literal, local, global, set_local, set_global, define, branch, sequence, bind, letrec, lambda, call, operation, no_drafts, and_draft, count}
 use Rattle.sch_link_tables.specs.Named.{firsts, globals_in, globals_in_each, symbols_in, symbols_in_each}
@@ -130,7 +130,7 @@ module _ (own globals symbols : List (List ℕ)) (literals : ℕ) where
         (named_each es vs m _ _ h.2 (right globals (globals_in own f) _ g) (right symbols (symbols_in f) _ y) (omega (arith, q, c)))
     named (operation p es) v m s l h g y q = named_each es [] m (s + 1) l h.1 g y q
 
-    pub named_each : (es : Drafts) (vs : Names) (m s l : ℕ) → AreSound m es → AreAmong globals (globals_in_each own es) → AreAmong symbols (symbols_in_each es) → l + length (quotes_in_each es) ≤ literals →
+    pub named_each : (es : Drafts) (vs : VariableNames) (m s l : ℕ) → AreSound m es → AreAmong globals (globals_in_each own es) → AreAmong symbols (symbols_in_each es) → l + length (quotes_in_each es) ≤ literals →
         over_each true (λ a b. a && b) (named_here (length symbols) literals (length globals)) (numbered_each own globals symbols vs es s l) ≡ true
     named_each no_drafts vs m s l h g y q = refl
     named_each (and_draft e es) vs m s l h g y q =

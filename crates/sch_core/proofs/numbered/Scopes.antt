@@ -8,7 +8,7 @@ use Rattle.sch_lang.specs.Tree as tree
 use Rattle.sch_lang.specs.Tree.{Expression, Expressions, count_lambdas}
 use Rattle.sch_lang.specs.Variables as variables
 use Rattle.sch_lang.specs.InScope.{in_scope, each_in_scope}
-use Rattle.sch_names.specs.Scope.{Names}
+use Rattle.sch_names.specs.Scope.{VariableNames}
 use Rattle.sch_sketch.specs.Draft.{Draft, Drafts, constant, symbol, literal, local, global, set_local, set_global, define, branch, sequence, bind, letrec, lambda, call, operation, no_drafts, and_draft, count}
 use Rattle.sch_link_tables.specs.Assigned.{assigns, assigns_each, is_group}
 use Rattle.sch_link_tables.specs.Numbered.{procedures_of, grouped, numbered, numbered_each, others_of}
@@ -52,7 +52,7 @@ module _ (own globals symbols : List (List ℕ)) where
     scoped (call vs f es) v m s l h = and_from _ _ (scoped f _ m (s + 1) l h.1) (scoped_each es vs m _ _ h.2)
     scoped (operation p es) v m s l h = scoped_each es [] m (s + 1) l h.1
 
-    pub scoped_each : (es : Drafts) (vs : Names) (m s l : ℕ) → AreSound m es → each_in_scope (numbered_each own globals symbols vs es s l) m ≡ true
+    pub scoped_each : (es : Drafts) (vs : VariableNames) (m s l : ℕ) → AreSound m es → each_in_scope (numbered_each own globals symbols vs es s l) m ≡ true
     scoped_each no_drafts vs m s l h = refl
     scoped_each (and_draft e es) vs m s l h = and_from _ _ (scoped e _ m s l h.0) (scoped_each es (others_of vs) m _ _ h.1)
 
@@ -78,6 +78,6 @@ module _ (own globals symbols : List (List ℕ)) where
     assigns_kept (call vs f es) v m s l j h = or_same (assigns_kept f _ m (s + 1) l j h.1) (assigns_each_kept es vs m _ _ j h.2)
     assigns_kept (operation p es) v m s l j h = assigns_each_kept es [] m (s + 1) l j h.1
 
-    pub assigns_each_kept : (es : Drafts) (vs : Names) (m s l j : ℕ) → AreSound m es → variables.assigns_each (numbered_each own globals symbols vs es s l) j ≡ assigns_each es j
+    pub assigns_each_kept : (es : Drafts) (vs : VariableNames) (m s l j : ℕ) → AreSound m es → variables.assigns_each (numbered_each own globals symbols vs es s l) j ≡ assigns_each es j
     assigns_each_kept no_drafts vs m s l j h = refl
     assigns_each_kept (and_draft e es) vs m s l j h = or_same (assigns_kept e _ m s l j h.0) (assigns_each_kept es (others_of vs) m _ _ j h.1)

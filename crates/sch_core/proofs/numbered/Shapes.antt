@@ -11,7 +11,7 @@ use Rattle.sch_lang.specs.Variables as variables
 use Rattle.sch_lang.specs.Measures.{over, over_each}
 use Rattle.sch_lang.specs.Valid.{shaped_here}
 use Rattle.sch_lang.specs.Valid as valid
-use Rattle.sch_names.specs.Scope.{Names}
+use Rattle.sch_names.specs.Scope.{VariableNames}
 use Rattle.sch_sketch.specs.Draft.{Draft, Drafts, constant, symbol, literal, local, global, set_local, set_global, define, branch, sequence, bind, letrec, lambda, call, operation, no_drafts, and_draft, count}
 use Rattle.sch_link_tables.specs.Assigned.{assigns, assigns_each, none_assigned, is_group}
 use Rattle.sch_link_tables.specs.Numbered.{procedures_of, grouped, numbered, numbered_each, others_of}
@@ -69,6 +69,6 @@ module _ (own globals symbols : List (List ℕ)) where
     shaped (operation p es) v m s l h =
         and_from _ _ (eq-eqb _ _ (count_numbered own globals symbols es [] (s + 1) l ∙ h.0)) (shaped_each es [] m (s + 1) l h.1)
 
-    pub shaped_each : (es : Drafts) (vs : Names) (m s l : ℕ) → AreSound m es → over_each true (λ a b. a && b) shaped_here (numbered_each own globals symbols vs es s l) ≡ true
+    pub shaped_each : (es : Drafts) (vs : VariableNames) (m s l : ℕ) → AreSound m es → over_each true (λ a b. a && b) shaped_here (numbered_each own globals symbols vs es s l) ≡ true
     shaped_each no_drafts vs m s l h = refl
     shaped_each (and_draft e es) vs m s l h = and_from _ _ (shaped e _ m s l h.0) (shaped_each es (others_of vs) m _ _ h.1)

@@ -5,7 +5,7 @@ use Rattle.sch_lang.specs.Tree as tree
 use Rattle.sch_lang.specs.Tree.{Expression, Expressions}
 use Rattle.sch_lang.specs.Measures.{over, over_each, site_here}
 use Rattle.sch_lang.proofs.SitesInOrder as order
-use Rattle.sch_names.specs.Scope.{Names}
+use Rattle.sch_names.specs.Scope.{VariableNames}
 use Rattle.sch_sketch.specs.Draft.{Draft, Drafts, constant, symbol, literal, local, global, set_local, set_global, define, branch, sequence, bind, letrec, lambda, call, operation, no_drafts, and_draft, count}
 use Rattle.sch_link_tables.specs.Assigned.{is_group}
 use Rattle.sch_link_tables.specs.Sites.{unless_group, widths, widths_of_each}
@@ -61,6 +61,6 @@ module _ (own globals symbols : List (List ℕ)) where
         (joined (s + 1) (widths f) (widths_of_each es) _ _ (sites f _ m (s + 1) l h.1) (sites_each es vs m _ _ h.2))
     sites (operation p es) v m s l h = headed s _ _ (widths_of_each es) _ (count_numbered own globals symbols es [] (s + 1) l) (sites_each es [] m (s + 1) l h.1)
 
-    pub sites_each : (es : Drafts) (vs : Names) (m s l : ℕ) → AreSound m es → over_each [] (λ a b. a ++ b) site_here (numbered_each own globals symbols vs es s l) ≡ order.numbered s (widths_of_each es)
+    pub sites_each : (es : Drafts) (vs : VariableNames) (m s l : ℕ) → AreSound m es → over_each [] (λ a b. a ++ b) site_here (numbered_each own globals symbols vs es s l) ≡ order.numbered s (widths_of_each es)
     sites_each no_drafts vs m s l h = refl
     sites_each (and_draft e es) vs m s l h = joined s (widths e) (widths_of_each es) _ _ (sites e _ m s l h.0) (sites_each es (others_of vs) m _ _ h.1)

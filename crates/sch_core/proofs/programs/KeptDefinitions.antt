@@ -2,7 +2,7 @@
 use Rattle.std.proofs.Common.{◌≡◌, ◌≤◌, ◌+◌, ◌++◌, ℕ, suc, Bool, true, false, List, [], ◌∷◌, length, Some, None, refl, ap, arith}
 use Rattle.sch_word.specs.trees.Shape.{max_levels}
 use Rattle.sch_lang.specs.Tree.{and_lambda, count_lambdas}
-use Rattle.sch_names.specs.Scope.{is_among, Names}
+use Rattle.sch_names.specs.Scope.{is_among, VariableNames}
 use Rattle.sch_link_tables.specs.Constants.{HaveConstants}
 use Rattle.sch_link_tables.specs.Named.{library_global, globals_in, globals_in_each, symbols_in, symbols_in_each}
 use Rattle.sch_link_tables.specs.Numbered.{procedures_of, numbered, numbered_each}
@@ -16,7 +16,7 @@ use Rattle.sch_core.specs.SizesOfStatics.{statics_in_each}
 use Rattle.sch_core.specs.Quotable.{AreQuotable, AreBytes}
 use Rattle.sch_core.proofs.sizes.StaticsOfPrograms.{bytes_append, quotable_append, symbols_counted}
 
-abbrev pub given : List Definition → Names
+abbrev pub given : List Definition → VariableNames
 given [] = []
 given (d ∷ ds) = Some d.name ∷ given ds
 

@@ -6,7 +6,7 @@ use Rattle.sch_word.specs.trees.BoundVariables.{formals_in}
 use Rattle.sch_lang.specs.Tree as tree
 use Rattle.sch_lang.specs.Tree.{Expression, Expressions, no_expressions, and_expression}
 use Rattle.sch_lang.specs.Measures.{over, over_each, over_lambdas, node_and_bound, procedures}
-use Rattle.sch_names.specs.Scope.{Names}
+use Rattle.sch_names.specs.Scope.{VariableNames}
 use Rattle.sch_sketch.specs.Draft.{Draft, Drafts, constant, symbol, literal, local, global, set_local, set_global, define, branch, sequence, bind, letrec, lambda, call, operation, no_drafts, and_draft, count}
 use Rattle.sch_sketch.specs.Measure.{sketch_measure}
 use Rattle.sch_sketch.proofs.SmallMeasures.{datum_weighs, data_weigh}
@@ -61,7 +61,7 @@ module _ (own globals symbols : List (List ℕ)) where
     nodes_kept (call vs f es) v m s l h = omega (arith, nodes_kept f None m (s + 1) l h.1, all_nodes_kept es vs m (s + 1 + length (widths f)) (l + length (quotes_in f)) h.2)
     nodes_kept (operation p es) v m s l h = omega (arith, all_nodes_kept es [] m (s + 1) l h.1)
 
-    pub all_nodes_kept : (es : Drafts) (vs : Names) (m s l : ℕ) → AreSound m es → over_each 0 (λ a b. a + b) node_and_bound (numbered_each own globals symbols vs es s l) ≤ size_each es
+    pub all_nodes_kept : (es : Drafts) (vs : VariableNames) (m s l : ℕ) → AreSound m es → over_each 0 (λ a b. a + b) node_and_bound (numbered_each own globals symbols vs es s l) ≤ size_each es
     all_nodes_kept no_drafts vs m s l h = omega arith
     all_nodes_kept (and_draft e es) vs m s l h = omega (arith, nodes_kept e (first_of vs) m s l h.0, all_nodes_kept es (others_of vs) m (s + length (widths e)) (l + length (quotes_in e)) h.1)
 

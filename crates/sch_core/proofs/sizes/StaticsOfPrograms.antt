@@ -9,6 +9,7 @@ use Rattle.sch_word.specs.values.Literals.{Literals, no_literals, and_literal, l
 use Rattle.sch_word.specs.values.Values.{are_bytes}
 use Rattle.sch_read.specs.Grammar.{Datum, Data, atom, list, dotted, vector, none, cons, boolean, integer, character, symbol as symbol_atom}
 use Rattle.sch_read.specs.Grammar as grammar
+use Rattle.sch_word.proofs.values.NameSizes.{names_few}
 use Rattle.sch_names.specs.Scope.{is_among}
 use Rattle.sch_names.specs.NamesView.{with_name}
 use Rattle.sch_sketch.specs.Draft.{Draft, Drafts, constant, symbol, literal, local, global, set_local, set_global, define, branch, sequence, bind, letrec, lambda, call, operation, no_drafts, and_draft}
@@ -36,10 +37,6 @@ with_size x seen = go (is_among x seen)
 pub firsts_size : (names seen : List (List ℕ)) → names_size (firsts seen names) ≤ names_size seen + names_size names
 firsts_size [] seen = omega arith
 firsts_size (x ∷ names) seen = omega (arith, firsts_size names (with_name x seen), with_size x seen)
-
-names_long : (names : List (List ℕ)) → length names ≤ names_size names
-names_long [] = omega arith
-names_long (x ∷ names) = omega (arith, names_long names)
 
 pub bytes_append : (a b : List (List ℕ)) → AreBytes a → AreBytes b → AreBytes (a ++ b)
 bytes_append [] b h k = k
@@ -233,4 +230,4 @@ module _ (own symbols : List (List ℕ)) where
         omega (arith, sizes_append symbols (symbols_in e) (symbols_in_each es) (quotes_in e) (quotes_in_each es) (globals_in own e) (globals_in_each own es), statics_below e, all_statics_below es)
 
 pub symbols_counted : (es : Drafts) → length (symbols_in_each es) ≤ statics_in_each es
-symbols_counted es = omega (arith, names_long (symbols_in_each es), all_statics_below [] [] es)
+symbols_counted es = omega (arith, names_few (symbols_in_each es), all_statics_below [] [] es)

@@ -33,9 +33,10 @@ use Rattle.sch_core.specs.declared.error.Kind.{Kind}
 use Rattle.sch_core.specs.Excess.{AreFew}
 use Rattle.sch_core.specs.Programs.{IsProgramOf, ExceedsAt}
 use Rattle.sch_core.specs.Excess.{first_excess}
+use Rattle.sch_core.proofs.drafts.Soundness.{counted}
 use Rattle.sch_core.proofs.ExcessWithoutNumbers.{alike_each, first_alike}
 use Rattle.sch_core.proofs.sizes.StaticsOfPrograms.{symbols_counted}
-use Rattle.sch_core.proofs.texts.TextSizes.{counted, sized_each, forms_weigh}
+use Rattle.sch_core.proofs.texts.TextSizes.{sized_each, forms_weigh}
 use Rattle.sch_core.proofs.texts.ValidTexts.{text_statics, valid_program}
 
 -- ## Forms are sound, and each has a place
@@ -75,7 +76,7 @@ pub as_many : (ds : List Definition) (items : Data) (assigned : List (List ℕ))
     length (form_places items) ≡ count (program_of ds own es).forms
 as_many ds items assigned own es p =
     let c : count (program_of ds own es).forms ≡ draft.count es = count_numbered own _ _ es [] _ _ in
-    omega (arith, places_many (forms_in items), parts_many (forms_in items), counted p, c)
+    omega (arith, places_many (forms_in items), parts_many (forms_in items), counted (text_globals (seen ds) items assigned) p, c)
 
 -- ## A text that was read
 

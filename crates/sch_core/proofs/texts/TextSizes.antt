@@ -1,5 +1,5 @@
 -- How large the drafts of a text are, by the weight of its data.
-use Rattle.std.proofs.Common.{◌≡◌, ◌≤◌, ℕ, ◌+◌, ◌*◌, Bool, true, false, cond, List, [], ◌∷◌, ◌++◌, length, map, refl, subst, arith}
+use Rattle.std.proofs.Common.{◌≡◌, ◌≤◌, ℕ, ◌+◌, ◌*◌, Bool, true, false, cond, List, [], ◌∷◌, ◌++◌, length, map, subst, arith}
 use Rattle.sch_read.specs.Grammar.{Datum, Data, atom, list, dotted, vector, none, cons, boolean, integer, character, symbol}
 use Rattle.sch_read.specs.Grammar as grammar
 use Rattle.sch_read.specs.Valid.{weight, weights}
@@ -9,7 +9,7 @@ use Rattle.sch_sketch.specs.declared.sketch.Position.{Position}
 use Rattle.sch_sketch.specs.Draft as draft
 use Rattle.sch_sketch.specs.Draft.{Draft, Drafts, constant, literal, local, global, set_local, set_global, define, branch, sequence, bind, letrec, lambda, call, operation, no_drafts, and_draft, count}
 use Rattle.sch_sketch.specs.Measure.{datum_measure, leaf_measure, sketch_measure, sketches_measure}
-use Rattle.sch_sketch.specs.Sketch.{Kind, choosing, sequencing, binding, recurring, abstracting, calling, operating, setting, setting_global, defining, Sketch, Sketches, sketches, front, last, first, but_first, assemble, bound_by, how_many_parts}
+use Rattle.sch_sketch.specs.Sketch.{Kind, choosing, sequencing, binding, recurring, abstracting, calling, operating, setting, setting_global, defining, Sketch, Sketches, sketches, front, last, first, but_first, assemble, bound_by}
 use Rattle.sch_sketch.specs.Soundness.{IsAtom, HasParts, IsSound, AreSound}
 use Rattle.sch_sketch.proofs.SmallMeasures.{datum_weighs, leaf_some}
 use Rattle.sch_sketch.specs.Definitions.{is_define_word}
@@ -20,11 +20,8 @@ use Rattle.sch_expansion.specs.Expands.{Expands, PartsExpand}
 use Rattle.sch_expansion.specs.Expands as ex
 use Rattle.sch_sketch.specs.DraftMeasures.{size, size_each}
 use Rattle.sch_core.proofs.drafts.Parts.{front_count}
+use Rattle.sch_core.proofs.drafts.Soundness.{counted}
 use Rattle.sch_toplevel.specs.Forms.{is_begin_word, forms_of, forms_in, form_sketch}
-
-pub counted : {globals : Globals} {k : Kind} {first : Bool} {n : ℕ} {s : Scope} {t : Position} {ks : Sketches} {es : Drafts} → PartsExpand globals k first n s t ks es → how_many_parts ks ≡ count es
-counted (ex.no_part k first n s t) = refl
-counted (ex.and_part k first n s t p ps e es x y) = omega (arith, counted y)
 
 -- ## Nodes
 
@@ -78,7 +75,7 @@ module _ (globals : Globals) where
     sized (ex.a_datum n s t d e p) h = omega (arith, sized p (datum_sound globals s d), datum_falls globals s d)
     sized (ex.a_rest n s t r at xs ys e p) h = omega (arith, sized p (rest_sound globals s t r at xs ys h), rest_falls globals s t r at xs ys)
     sized (ex.a_leaf n s t at e l) h = atom_size (length s) e h
-    sized (ex.a_node n s t k at ks es l w p) h = omega (arith, node_size k es (subst (HasParts k) (counted p) h.0), sized_each p h.1.1)
+    sized (ex.a_node n s t k at ks es l w p) h = omega (arith, node_size k es (subst (HasParts k) (counted globals p) h.0), sized_each p h.1.1)
     sized (ex.within n s t at m k e w p) h = omega (arith, sized p h)
 
     pub sized_each : {k : Kind} {first : Bool} {n : ℕ} {s : Scope} {t : Position} {ks : Sketches} {es : Drafts} → PartsExpand globals k first n s t ks es → AreSound k first s ks → size_each es ≤ sketches_measure ks

@@ -2,6 +2,7 @@ use Rattle.std.proofs.Common.{◌≤◌, length, arith, ap, sym, subst, ◌∙�
 use Rattle.std.specs.Prelude.{IsTrue}
 use Rattle.std.proofs.lemmas.List.{length-map}
 use Rattle.sch_word.specs.runs.Orders.{is_order_table}
+use Rattle.sch_word.proofs.facts.KnownErrors.{kept_error}
 use Rattle.sch_lang.specs.Bodies.{bodies_of}
 use Rattle.sch_lang.specs.ProgramView.{source}
 use Rattle.sch_lang.specs.Run.{run}
@@ -12,7 +13,7 @@ use Rattle.sch_driver.specs.Causes.{IsErrorOf, Means, max_source_size}
 use Rattle.sch_driver.specs.FitsProgram.{FitsProgram}
 use Rattle.sch_driver.proofs.ProgramFits.{program_fits}
 use Rattle.sch_driver.proofs.LibraryCount.{library_within}
-use Rattle.sch_driver.proofs.Images.{bound_chain, frame_chain, kept_error, names_of_codes, too_large}
+use Rattle.sch_driver.proofs.Images.{bound_chain, frame_chain, names_of_codes, too_large}
 use Rattle.sch_driver.proofs.PrintableListing.{printable}
 use Rattle.sch_driver.proofs.RoundSteps.{in_time}
 use Rattle.sch_driver.proofs.SmallTexts.{completed}
@@ -53,7 +54,9 @@ returns-in_err-assembled-clause-refused c =
     let depth = c.args.limits.depth in
     let cause = c.in_err-assembled.field-0.0 in
     let made = c.in_ok-control.ensures in
-    let fits : FitsProgram (source c.in_ok-program.program) (control.source c.in_ok-control.control) = program_fits (source c.in_ok-program.program) c.in_ok-control.control made.made made.runs made.covered made.statics made.library made.names made.each_variables made.calls made.tests made.dropped in
+    let fits : FitsProgram (source c.in_ok-program.program) (control.source c.in_ok-control.control) =
+    program_fits (source c.in_ok-program.program) c.in_ok-control.control made.made made.runs made.covered
+    made.statics made.library made.names made.each_variables made.calls made.tests made.dropped in
     let means = subst (λ l. Means l text (source c.in_ok-program.program)) c.library_text.ensures.is c.in_ok-program.ensures.means in
     kept_error c.from_residual-in_err-assembled.result cause (IsErrorOf library_text text depth) c.from_residual-in_err-assembled.ensures.1
     (too_large library_text text (source c.in_ok-program.program) (control.source c.in_ok-control.control) depth cause means
@@ -66,7 +69,9 @@ returns-clause-compiled c =
     let orders = c.in_ok-assembled.assembled.orders in
     let runs = c.in_ok-control.ensures.runs in
     let made = c.in_ok-control.ensures in
-    let fits : FitsProgram (source c.in_ok-program.program) (control.source c.in_ok-control.control) = program_fits (source c.in_ok-program.program) c.in_ok-control.control made.made made.runs made.covered made.statics made.library made.names made.each_variables made.calls made.tests made.dropped in
+    let fits : FitsProgram (source c.in_ok-program.program) (control.source c.in_ok-control.control) =
+    program_fits (source c.in_ok-program.program) c.in_ok-control.control made.made made.runs made.covered
+    made.statics made.library made.names made.each_variables made.calls made.tests made.dropped in
     let does = c.in_ok-assembled.ensures.does in
     let limits = c.args.limits in
     let same = runs.same orders c.in_ok-assembled.ensures.table limits.heap limits.depth in

@@ -2,8 +2,11 @@
 use Rattle.std.proofs.Common.{ℕ, ◌+◌, ◌≤◌, List, [], ◌++◌, length, arith, length-append}
 use Rattle.sch_word.specs.trees.Shape.{call_site_of, tests_in}
 use Rattle.sch_word.proofs.Shaped.{AtMost, at_most_joins}
-use Rattle.sch_lang.specs.Tree.{Expression, Expressions, Lambdas, constant, literal, local, global, set_local, set_global, define, branch, sequence, bind, fix, letrec, lambda, call, operation, no_expressions, and_expression, no_lambdas, and_lambda, Source}
+use Rattle.sch_lang.specs.Tree.{Expression, Expressions, Lambdas, constant, literal, local, global, set_local, set_global, define, branch}
+use Rattle.sch_lang.specs.Tree.{sequence, bind, fix, letrec, lambda, call, operation, no_expressions, and_expression, no_lambdas}
+use Rattle.sch_lang.specs.Tree.{and_lambda, Source}
 use Rattle.sch_lang.specs.Measures.{call_sites_of, node_and_bound, nodes_and_bound, over, over_each, over_lambdas, shape, tests_of}
+use Rattle.sch_lang.proofs.BodyCounts.{counted as nodes, counted_each as nodes_each, counted_lambdas as nodes_in_lambdas}
 use Rattle.sch_lang.proofs.Measured.{source_related}
 
 -- ## Tests
@@ -39,15 +42,6 @@ calls_each = over_each [] (λ a b. a ++ b) (λ e. call_site_of (shape e))
 abbrev calls_lambdas : Lambdas → List ℕ
 calls_lambdas = over_lambdas [] (λ a b. a ++ b) (λ e. call_site_of (shape e))
 
-abbrev nodes : Expression → ℕ
-nodes = over 0 (λ a b. a + b) node_and_bound
-
-abbrev nodes_each : Expressions → ℕ
-nodes_each = over_each 0 (λ a b. a + b) node_and_bound
-
-abbrev nodes_lambdas : Lambdas → ℕ
-nodes_lambdas = over_lambdas 0 (λ a b. a + b) node_and_bound
-
 mutual
   calls_within : (e : Expression) → length (calls e) ≤ nodes e
   calls_within (constant c) = omega arith
@@ -71,7 +65,7 @@ mutual
   calls_within_each no_expressions = omega arith
   calls_within_each (and_expression e es) = omega (arith, calls_within e, calls_within_each es, length-append (calls e) (calls_each es))
 
-  calls_within_lambdas : (ls : Lambdas) → length (calls_lambdas ls) ≤ nodes_lambdas ls
+  calls_within_lambdas : (ls : Lambdas) → length (calls_lambdas ls) ≤ nodes_in_lambdas ls
   calls_within_lambdas no_lambdas = omega arith
   calls_within_lambdas (and_lambda name formals rest e ls) =
       omega (arith, calls_within e, calls_within_lambdas ls, length-append (calls e) (calls_lambdas ls))

@@ -31,6 +31,7 @@ use Rattle.sch_layout.specs.Laws.{AtomsHave, Behind}
 use Rattle.sch_control.specs.flow.Live.{Mentions}
 use Rattle.sch_layout.specs.Moves.{Contents, EachMove, is_own, reads_own, reads_own_atom}
 use Rattle.sch_layout.specs.SharedPlaces.{Brings, FreeInCall, FreeInTail}
+use Rattle.sch_layout.proofs.Targets.{arrival_by}
 use Rattle.sch_layout.proofs.does.MovesDo.{seen, operand_seen, moves_do, run}
 use Rattle.sch_layout.proofs.does.OperationsFollow.{have_left, have_right, operand_follows}
 use Rattle.sch_layout.proofs.does.PlacesAgree.{Agrees, Lives, atoms_live, found}
@@ -99,7 +100,7 @@ module _ (words : ℕ) where
       → ((k : ℕ) (v : Value) → slice_get vs k ≡ Some v → value_in (seen words g (target true words k)) ≡ Some v) → parts g.places (λ j. g.places (Slot j)) count ≡ Some vs
   tail_parts vs count g l few h =
       parts_are vs count g.places (λ j. g.places (Slot j)) l (λ v e. h 0 v e)
-      (λ k v e. let lt : suc k < length vs = slice_get_within vs (suc k) v e in at k (omega (arith, lt, l)) (argument_register k) refl ∙ h (suc k) v e) where
+      (λ k v e. let lt : suc k < length vs = slice_get_within vs (suc k) v e in at k (omega (arith, lt, l)) (argument_register k) refl ∙ (ap (λ p. value_in (seen words g p)) (sym (arrival_by k)) ∙ h (suc k) v e)) where
         at : (k : ℕ) → k < count → (o : Option ℕ) → argument_register k ≡ o → argument_in g.places (λ j. g.places (Slot j)) o (argument_slot k) ≡ value_in (seen words g (in_either o (argument_slot k)))
         at k lt (Some r) e = refl
         at k lt None e =

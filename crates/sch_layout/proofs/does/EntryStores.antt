@@ -1,6 +1,6 @@
 -- A procedure's closure and its arguments come into their places.
 use Rattle.std.proofs.Common.{◌≡◌, ◌≢◌, ℕ, zero, suc, ◌+◌, ◌<◌, ◌≤◌, List, length, Option, Some, None, Bool, true, false, cond, refl, sym, ap, ◌∙◌, subst, arith, ◌⊎◌, inl, inr}
-use Rattle.std.specs.Prelude.{◌-◌, nat_lt, slice_get}
+use Rattle.std.specs.Prelude.{nat_lt, slice_get}
 use Rattle.std.proofs.lemmas.Bool.{cases_eq, le-ltb, lt-ltb, ltb-true, ltb-false}
 use Rattle.std.proofs.lemmas.Option.{slice_get_within, none-some}
 use Rattle.sch_word.specs.declared.place.Place.{Place}
@@ -53,7 +53,7 @@ module _ (plan : Plan) (live : ℕ → Type 0) (count : ℕ) (come : Arrives pla
   arrives (suc (suc (suc (suc (suc (suc zero)))))) v e = ap cell_of e
   arrives (suc (suc (suc (suc (suc (suc (suc zero))))))) v e = ap cell_of e
   arrives (suc (suc (suc (suc (suc (suc (suc (suc j)))))))) v e = ap (λ n. cell_of (slice_get arguments n)) (handed j) ∙ ap cell_of e where
-    handed : (j : ℕ) → 6 + (suc (suc (suc (suc (suc (suc j))))) - 6) ≡ suc (suc (suc (suc (suc (suc j)))))
+    handed : (j : ℕ) → 6 + j ≡ suc (suc (suc (suc (suc (suc j)))))
     handed j = omega arith
 
   first : plan.place 0 ≡ link_place → Standing 1 (entry_places self arguments)

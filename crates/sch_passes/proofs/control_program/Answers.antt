@@ -15,7 +15,7 @@ use Rattle.sch_control.specs.ProgramView as control
 use Rattle.sch_closure.specs.Closed.{closed_source}
 use Rattle.sch_anf_laws.specs.Normal.{new_label, normal_source}
 use Rattle.sch_passes.specs.Chain.{control_of, with_cells}
-use Rattle.sch_passes.proofs.BodiesKept.{each_within, flat_order, names_kept, variables_kept}
+use Rattle.sch_passes.proofs.BodiesKept.{each_within, flat_order, names_kept, sequences_kept, variables_kept}
 use Rattle.sch_passes.proofs.Chain.{runs_as}
 use Rattle.sch_passes.proofs.control_program.Goals as goal
 
@@ -101,6 +101,13 @@ returns-clause-each_variables c =
     let made = c.in_ok-flat.ensures in
     let order = flat_order f (cells.source c.in_ok-converted.converted) made.made made.bodies made.forms ∙ (c.in_ok-converted.ensures.bodies ∙ c.in_ok-renamed.ensures.bodies) in
     each_within f (control.source c.in_ok-control.control) (bodies_of (source c.args.p.now)) c.in_ok-control.ensures.variables order
+
+pub returns-clause-sequences : goal.returns-clause-sequences
+returns-clause-sequences c =
+    let f = flat.source c.in_ok-flat.flat in
+    let made = c.in_ok-flat.ensures in
+    let order = flat_order f (cells.source c.in_ok-converted.converted) made.made made.bodies made.forms ∙ (c.in_ok-converted.ensures.bodies ∙ c.in_ok-renamed.ensures.bodies) in
+    sequences_kept f (control.source c.in_ok-control.control) (bodies_of (source c.args.p.now)) c.in_ok-control.ensures.sequences order
 
 pub returns-clause-statics : goal.returns-clause-statics
 returns-clause-statics c =

@@ -7,13 +7,11 @@ use Rattle.sch_control.specs.declared.operation.Operand.TheVariants as operand
 use Rattle.sch_control.specs.declared.operation.Operation.TheVariants as operation
 use Rattle.sch_control.specs.declared.operation.Application.{Application}
 use Rattle.sch_control.specs.Tree.{Expression, perform, bind, branch, fix, call, tail_call, return, end, save}
+use Rattle.sch_control.proofs.Examples.{value_of}
 use Rattle.sch_paths.specs.Table.{saved_by, needs}
 
 at : ℕ → Operand ℕ
 at x = operand.Atom (Variable x)
-
-abbrev value_of : ℕ → Expression
-value_of x = perform (operation.Operand (operand.Atom (Variable x)))
 
 abbrev application : ℕ → List (Operand ℕ) → Application ℕ
 application operator operands = record { site = 0; spread = false; operator = operand.Atom (Variable operator); operands = operands }

@@ -1,5 +1,5 @@
 -- How items use the address of the frame, worked.
-use Rattle.std.proofs.Common.{◌≡◌, List, [], ◌∷◌, map, replicate, Bool, true, false, Some, refl}
+use Rattle.std.proofs.Common.{◌≡◌, [], ◌∷◌, map, replicate, true, false, Some, refl}
 use Rattle.std.specs.Prelude.{pos}
 use Rattle.std.specs.List.{list_all}
 use Rattle.sch_word.specs.declared.place.Place.TheVariants.{Slot}
@@ -9,22 +9,14 @@ use Rattle.sch_control.specs.declared.operation.Operand.TheVariants as operand
 use Rattle.sch_control.specs.declared.operation.Operation.TheVariants as operation
 use Rattle.sch_frames.specs.declared.instruction.Instruction.TheVariants.{Do, Return}
 use Rattle.sch_frames.specs.Tree.{Source}
-use Rattle.sch_insn.specs.declared.insn.Arg.{Arg}
-use Rattle.sch_insn.specs.declared.insn.Arg.TheVariants.{Reg, Base32}
+use Rattle.sch_insn.specs.declared.insn.Arg.TheVariants.{Reg}
 use Rattle.sch_insn.specs.declared.insn.Insn.TheVariants as insn
-use Rattle.sch_asm.specs.declared.item.Item.{Item}
 use Rattle.sch_asm.specs.declared.item.Item.TheVariants as item
 use Rattle.sch_select_memory.specs.RestCode.{rest_routine, slot_code}
 use Rattle.sch_runtime.specs.FrameRegister.{leaves_frame}
 use Rattle.sch_select.specs.FrameWords.{keeps_address, keeps_frame}
 use Rattle.sch_select.specs.Program.{program_code, selected_code}
-
--- a word of the frame, whose address RBP has, and one of the heap
-abbrev slot : Arg
-slot = Base32 5 (pos 8)
-
-abbrev part : Arg
-part = Base32 12 (pos 8)
+use Rattle.sch_select.proofs.items.StoreExamples.{part, slot}
 
 -- RBP is a base, moves by a number, is set to one, or is not there
 kept : map keeps_address (insn.MovTo slot 3 ∷ insn.MovFrom 3 slot ∷ insn.AddFrom 0 slot ∷ insn.AddNumber slot (pos 1) ∷ insn.AddNumber (Reg 5) (pos 16)
@@ -53,16 +45,17 @@ alone :
     × (map keeps_address (insn.AddNumber8 (Reg 5) (pos 8) ∷ insn.SubNumber8 (Reg 5) (pos 8) ∷ []) ≡ true ∷ true ∷ [])
 alone = (refl, refl)
 
-abbrev reach : List Item → Bool
-reach is = list_all keeps_frame is
-
 -- nor is it added to what a register has, be it for the routine of lists
-handed : map reach ((item.Plain (insn.MovTo (Reg 1) 5) ∷ item.Jump 24 ∷ []) ∷ (item.Plain (insn.AddTo (Reg 1) 5) ∷ item.Jump 24 ∷ [])
+handed :
+    map (list_all keeps_frame) ((item.Plain (insn.MovTo (Reg 1) 5) ∷ item.Jump 24 ∷ [])
+    ∷ (item.Plain (insn.AddTo (Reg 1) 5) ∷ item.Jump 24 ∷ [])
     ∷ slot_code 8 (item.LoadLabel 11 7 ∷ item.Jump 24 ∷ item.Label 7 ∷ []) ∷ []) ≡ false ∷ false ∷ true ∷ []
 handed = refl
 
 -- words of the data and labels have nothing to do with it
-others : map reach ((item.StoreWord 0x10000000 0 ∷ item.LoadWord 0 0x10000000 ∷ item.LoadLabel 15 7 ∷ []) ∷ (item.StoreWord 0x10000000 5 ∷ []) ∷ (item.LoadWord 5 0x10000000 ∷ [])
+others :
+    map (list_all keeps_frame) ((item.StoreWord 0x10000000 0 ∷ item.LoadWord 0 0x10000000 ∷ item.LoadLabel 15 7 ∷ [])
+    ∷ (item.StoreWord 0x10000000 5 ∷ []) ∷ (item.LoadWord 5 0x10000000 ∷ [])
     ∷ (item.LoadLabel 5 7 ∷ []) ∷ []) ≡ true ∷ false ∷ false ∷ false ∷ []
 others = refl
 
@@ -83,9 +76,9 @@ listing = record {
 
 -- In its items, and in their shortest forms, the address of the frame goes nowhere else. The routine of lists has it in RCX.
 programs :
-    (reach (selected_code listing 16 1) ≡ true)
-    × (reach (program_code listing 16 1) ≡ true)
-    × (reach (rest_routine 0x10000400 []) ≡ false)
+    (list_all keeps_frame (selected_code listing 16 1) ≡ true)
+    × (list_all keeps_frame (program_code listing 16 1) ≡ true)
+    × (list_all keeps_frame (rest_routine 0x10000400 []) ≡ false)
 programs = (refl, refl, refl)
 
 -- ## Routines

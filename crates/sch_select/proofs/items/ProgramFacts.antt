@@ -8,6 +8,7 @@ use Rattle.std.proofs.lemmas.List.Elements.{All-from_recursion}
 use Rattle.sch_word.specs.trees.NumberSets.{has}
 use Rattle.sch_word.proofs.facts.NumberSets.{in_here, in_more}
 use Rattle.sch_word.specs.values.Literals.{count_literals, literals_known}
+use Rattle.sch_word.specs.runs.ProgramLayout.{max_data_size}
 use Rattle.sch_word.specs.runs.Runs.{max_statics, statics_size, statics_valid, statics_in_range, library_known}
 use Rattle.sch_word.specs.declared.place.Place.{Place}
 use Rattle.sch_control.specs.declared.operation.Operand.{Operand}
@@ -27,8 +28,9 @@ use Rattle.sch_asm.specs.declared.routine.TheConstants.{FIRST_LABEL}
 use Rattle.sch_asm.specs.Items.{AreOwn, labels_in}
 use Rattle.sch_asm.specs.Narrow.{narrowed}
 use Rattle.sch_select_data.specs.Data.{heap_of, max_heap_address}
-use Rattle.sch_select_data.proofs.StaticSizes.{literals_few, names_few}
-use Rattle.sch_select.specs.Program.{laid_code, program_code, selected_code, program_zeros, max_data, max_stack, own_label}
+use Rattle.sch_word.proofs.values.NameSizes.{names_few}
+use Rattle.sch_select_data.proofs.StaticSizes.{literals_few}
+use Rattle.sch_select.specs.Program.{laid_code, program_code, selected_code, program_zeros, max_stack, own_label}
 use Rattle.sch_select.specs.Program.{stack_bytes}
 use Rattle.sch_select.specs.Select.{all_labels_needed, operand_needs, operation_needs}
 use Rattle.sch_select.proofs.items.ProgramLabels.{labels_low, forms_labels, forms_labelled, last_code}
@@ -144,5 +146,5 @@ bodies_count (b ∷ bodies) = ap suc (bodies_count bodies)
 -- the words end where the heap begins
 pub data_end : (p : Source) (limit depth count : ℕ) → stack_bytes p.words depth ≤ max_stack + 16384
     → 0x10000000 + 8 * count ≡ heap_of p → heap_of p ≤ max_heap_address → limit ≤ 1073741824
-    → 8 * count + program_zeros p limit depth ≤ max_data
+    → 8 * count + program_zeros p limit depth ≤ max_data_size
 data_end p limit depth count stack words low heap = omega (arith, stack, words, low, heap)

@@ -10,6 +10,7 @@ use Rattle.sch_word.specs.declared.place.Place.{Place}
 use Rattle.sch_word.specs.declared.place.Place.TheVariants.{Reg as Register, Slot}
 use Rattle.sch_word.specs.declared.primitive.Primitive.{Primitive}
 use Rattle.sch_word.specs.declared.primitive.Primitive.TheVariants.{IsBoolean, Eq, Cons, StringSet}
+use Rattle.sch_word.specs.declared.registers.TheConstants.{FRAME_REGISTER, HEAP_REGISTER}
 use Rattle.sch_control.specs.declared.body.Entry.{Entry}
 use Rattle.sch_control.specs.declared.operation.Atom.{Atom}
 use Rattle.sch_control.specs.declared.operation.Atom.TheVariants.{Constant, Literal, Variable}
@@ -32,7 +33,6 @@ use Rattle.sch_frames.specs.Valid.{in_slots, is_place, is_register}
 use Rattle.sch_insn.specs.declared.insn.Arg.TheVariants.{Reg, Base8, Base32}
 use Rattle.sch_insn.specs.declared.insn.Insn.{Insn}
 use Rattle.sch_insn.specs.declared.insn.Insn.TheVariants.{MovTo, MovFrom, AddNumber}
-use Rattle.sch_insn.specs.declared.register.TheConstants.{RBP, R12}
 use Rattle.sch_asm.specs.declared.item.Item.{Item}
 use Rattle.sch_asm.specs.declared.item.Item.TheVariants as item
 use Rattle.sch_asm.specs.declared.routine.Routine.TheVariants as routine
@@ -66,23 +66,25 @@ unseen i is e = ap (λ b. b && list_all keeps_frame is) e
 -- ## Places
 
 -- the registers of bodies are others
-apart : (r : ℕ) → is_register r ≡ true → nat_eq r RBP ≡ false
-apart r e = by (nat_eq r RBP) refl
+apart : (r : ℕ) → is_register r ≡ true → nat_eq r FRAME_REGISTER ≡ false
+apart r e = by (nat_eq r FRAME_REGISTER) refl
   where
-    by : (b : Bool) → nat_eq r RBP ≡ b → nat_eq r RBP ≡ false
+    by : (b : Bool) → nat_eq r FRAME_REGISTER ≡ b → nat_eq r FRAME_REGISTER ≡ false
     by false f = f
-    by true f = absurd (let bad : false ≡ true = subst (λ k. is_register k ≡ true) (eqb-true r RBP f) e in cc)
+    by true f = absurd (let bad : false ≡ true = subst (λ k. is_register k ≡ true) (eqb-true r FRAME_REGISTER f) e in cc)
 
 module _ (words globals symbols literals heap_end : ℕ) where
   place_apart : (p : Place) → is_place words p ≡ true → is_frame_itself (place_operand p) ≡ false
   place_apart (Register r) e = apart r e
   place_apart (Slot j) e = refl
 
-  loaded_kept : (r : ℕ) (p : Place) → nat_eq r RBP ≡ false → is_place words p ≡ true → keeps_address (MovFrom r (place_operand p)) ≡ true
-  loaded_kept r p other e = and_from (not (nat_eq r RBP)) _ (ap not other) (ap (λ b. (false || not b) && true) (place_apart p e))
+  loaded_kept : (r : ℕ) (p : Place) → nat_eq r FRAME_REGISTER ≡ false → is_place words p ≡ true
+      → keeps_address (MovFrom r (place_operand p)) ≡ true
+  loaded_kept r p other e = and_from (not (nat_eq r FRAME_REGISTER)) _ (ap not other) (ap (λ b. (false || not b) && true) (place_apart p e))
 
-  stored_kept : (p : Place) (r : ℕ) → nat_eq r RBP ≡ false → is_place words p ≡ true → keeps_address (MovTo (place_operand p) r) ≡ true
-  stored_kept p r other e = and_from (not (nat_eq r RBP)) _ (ap not other) (ap (λ b. (false || not b) && true) (place_apart p e))
+  stored_kept : (p : Place) (r : ℕ) → nat_eq r FRAME_REGISTER ≡ false → is_place words p ≡ true
+      → keeps_address (MovTo (place_operand p) r) ≡ true
+  stored_kept p r other e = and_from (not (nat_eq r FRAME_REGISTER)) _ (ap not other) (ap (λ b. (false || not b) && true) (place_apart p e))
 
   -- ## Operations
 
@@ -90,7 +92,8 @@ module _ (words globals symbols literals heap_end : ℕ) where
   abbrev Kept : (List Item → List Item) → Type 0
   Kept f = (rest : List Item) → Reach (f rest) ≡ Reach rest
 
-  atom_kept : (r : ℕ) (a : Atom Place) → nat_eq r RBP ≡ false → atom_selected words globals symbols literals a ≡ true → Kept (atom_code r a)
+  atom_kept : (r : ℕ) (a : Atom Place) → nat_eq r FRAME_REGISTER ≡ false
+      → atom_selected words globals symbols literals a ≡ true → Kept (atom_code r a)
   atom_kept r (Constant c) other e rest = refl
   atom_kept r (Variable p) other e rest = unseen (item.Plain (MovFrom r (place_operand p))) rest (loaded_kept r p other e)
   atom_kept r (Literal n) other e rest = unseen (item.LoadWord r (literal_address n)) rest (ap not other)
@@ -126,12 +129,13 @@ module _ (words globals symbols literals heap_end : ℕ) where
   index_kept (operand.Atom a) e rest = atom_kept 1 a refl e rest
   index_kept (operand.Read site which atoms) e rest = refl
 
-  source_kept : (r : ℕ) (x : Source Place) → nat_eq r RBP ≡ false → source_selected words globals symbols literals x ≡ true → Kept (source_code r x)
+  source_kept : (r : ℕ) (x : Source Place) → nat_eq r FRAME_REGISTER ≡ false
+      → source_selected words globals symbols literals x ≡ true → Kept (source_code r x)
   source_kept r (source.Atom a) other e rest = atom_kept r a other e rest
   source_kept r (source.Field p k) other e rest =
       let there = Base32 r (pos (4 + 8 * k)) in
       unseen (item.Plain (MovFrom r (place_operand p))) (item.Plain (MovFrom r there) ∷ rest) (loaded_kept r p other (and_parts (is_place words p) (nat_lt k 1000) e).0)
-      ∙ unseen (item.Plain (MovFrom r there)) rest (and_from (not (nat_eq r RBP)) true (ap not other) refl)
+      ∙ unseen (item.Plain (MovFrom r there)) rest (and_from (not (nat_eq r FRAME_REGISTER)) true (ap not other) refl)
 
   pair_kept : (n : ℕ) (which : Primitive) → Kept (pair_or_binary heap_end n which)
   pair_kept n Cons rest = refl
@@ -173,7 +177,8 @@ module _ (words globals symbols literals heap_end : ℕ) where
       let p = member_selected m members e in record_kept offset m.closure p.1.0 _ ∙ records_kept (offset + closure_bytes m.closure) members p.1.1 rest
 
   group_kept : (members : List (Member Place)) (spills : List ℕ) → members_selected words globals symbols literals members ≡ true → Kept (group_code heap_end members spills)
-  group_kept members spills e rest = places_kept 0 members spills e _ ∙ records_kept 0 members e (item.Plain (AddNumber (Reg R12) (pos (group_bytes members))) ∷ rest)
+  group_kept members spills e rest = places_kept 0 members spills e _
+      ∙ records_kept 0 members e (item.Plain (AddNumber (Reg HEAP_REGISTER) (pos (group_bytes members))) ∷ rest)
 
   operation_kept : (n : ℕ) (o : Operation Place) → operation_selected words globals symbols literals o ≡ true → Kept (operation_code heap_end literals n o)
   operation_kept n (operation.Operand o) e rest = operand_kept n o e rest

@@ -59,7 +59,7 @@ use Rattle.sch_select_data.specs.NameWords.{symbol_words}
 use Rattle.sch_select_data.specs.PlacedWords.{placed_values, placed_each}
 use Rattle.sch_select_operations.proofs.simulation.SelectedPrograms.{members_few, operation_few, labels_few}
 use Rattle.sch_select.proofs.items.Labels.{unary_labels, binary_labels, read_labels, operand_labels, operation_labels}
-use Rattle.sch_select.proofs.items.ProgramLabels.{inner_labels, entry_labels, body_labels, own_labels, form_labels}
+use Rattle.sch_select.proofs.items.ProgramLabels.{inner_labels, entry_labels, body_labels, labels_behind, form_labels}
 use Rattle.sch_select.proofs.items.ProgramLabels.{forms_labels, forms_labelled, last_code}
 use Rattle.sch_select.proofs.items.AppendedItems.{spill_same}
 use Rattle.sch_select_memory.proofs.Sound.{in_front}
@@ -322,7 +322,7 @@ module _ (all : List ℕ) where
         → Uses (form_code words heap_end literals label n c)
     form_uses label n c e f h rest =
         let body = body_labels n (n + c.labels + 2) c.instructions in
-        let whole : Among (own_labels n c) = among_right (body_label label ∷ []) (own_labels n c) h in
+        let whole : Among (labels_behind n c) = among_right (body_label label ∷ []) (labels_behind n c) h in
         let list = n + c.labels + 1 in
         let own : Among (inner_labels n c) = among_right (entry_labels c.entry list) (inner_labels n c) whole in
         let out_in = own (n + c.labels) (right_in body ((n + c.labels) ∷ []) (n + c.labels)
@@ -413,7 +413,7 @@ words_use p =
 body_in : (label n : ℕ) (cs : List Code) (j : ℕ) → j < length cs
     → has (body_label (label + j)) (forms_labels label n cs) ≡ true
 body_in label n [] j lt = absurd (omega (arith, lt))
-body_in label n (c ∷ cs) zero lt = ap (λ b. b || has (body_label (label + 0)) (own_labels n c ++ forms_labels (suc label) (labels_end n c) cs))
+body_in label n (c ∷ cs) zero lt = ap (λ b. b || has (body_label (label + 0)) (labels_behind n c ++ forms_labels (suc label) (labels_end n c) cs))
     (eq-eqb (body_label (label + 0)) (body_label label) (omega arith))
 body_in label n (c ∷ cs) (suc j) lt =
     let z : suc label + j ≡ label + suc j = omega arith in

@@ -255,11 +255,12 @@ abbrev pub entry_labels : Option Entry → (n : ℕ) → List ℕ
 entry_labels None n = []
 entry_labels (Some e) n = count_labels e.rest n
 
-abbrev pub own_labels : ℕ → Code → List ℕ
-own_labels n c = entry_labels c.entry (n + c.labels + 1) ++ inner_labels n c
+-- the labels of a body behind the one at which it begins
+abbrev pub labels_behind : ℕ → Code → List ℕ
+labels_behind n c = entry_labels c.entry (n + c.labels + 1) ++ inner_labels n c
 
 abbrev pub form_labels : (label n : ℕ) → Code → List ℕ
-form_labels label n c = body_label label ∷ own_labels n c
+form_labels label n c = body_label label ∷ labels_behind n c
 
 passed_labelled : (o : Option Entry) (out : ℕ) → Labelled (passed_code o out) []
 passed_labelled None out rest = refl
@@ -313,7 +314,7 @@ with_entry (Some e) k low high ls le lt absent b = by e.rest
       above = λ y far. absent_more y k ls (λ s. omega (arith, s, far, lt)) (b.above y far);
     }
 
-own_block : (n : ℕ) (c : Code) → forward c.labels c.instructions ≡ true → Block n (labels_end n c) (own_labels n c)
+own_block : (n : ℕ) (c : Code) → forward c.labels c.instructions ≡ true → Block n (labels_end n c) (labels_behind n c)
 own_block n c e = with_entry c.entry (n + c.labels + 1) n (labels_end n c) (inner_labels n c) (omega arith) (omega arith)
     (absent_append (body_labels n (n + c.labels + 2) c.instructions) ((n + c.labels) ∷ []) (n + c.labels + 1)
     (absent_end n c.labels (n + c.labels + 1) (n + c.labels + 2) c.instructions e (omega arith) (omega arith))
@@ -354,17 +355,17 @@ forms_block label n (c ∷ cs) le e =
     let rest = forms_labels (suc label) (labels_end n c) cs in
     let others = forms_block (suc label) (labels_end n c) cs (omega (arith, le)) p.1 in
     record {
-      distinct = distinct_more (body_label label) (own_labels n c ++ rest)
-          (absent_append (own_labels n c) rest (body_label label) (own.below (body_label label) (omega (arith, le)))
+      distinct = distinct_more (body_label label) (labels_behind n c ++ rest)
+          (absent_append (labels_behind n c) rest (body_label label) (own.below (body_label label) (omega (arith, le)))
           (others.below (body_label label) (omega arith)))
-          (distinct_append (own_labels n c) rest own.distinct others.distinct
-          (apart_by (own_labels n c) rest (λ x h. let lo = low_end own x h in let hi = high_end own x h in
+          (distinct_append (labels_behind n c) rest own.distinct others.distinct
+          (apart_by (labels_behind n c) rest (λ x h. let lo = low_end own x h in let hi = high_end own x h in
           others.between x (omega (arith, lo, le)) hi)));
-      below = λ y lt. absent_more y (body_label label) (own_labels n c ++ rest) (λ s. omega (arith, s, lt))
-          (absent_append (own_labels n c) rest y (own.below y (omega (arith, lt, le)))
+      below = λ y lt. absent_more y (body_label label) (labels_behind n c ++ rest) (λ s. omega (arith, s, lt))
+          (absent_append (labels_behind n c) rest y (own.below y (omega (arith, lt, le)))
           (others.below y (omega (arith, lt))));
-      between = λ y lo hi. absent_more y (body_label label) (own_labels n c ++ rest) (λ s. omega (arith, s, lo))
-          (absent_append (own_labels n c) rest y (own.below y hi)
+      between = λ y lo hi. absent_more y (body_label label) (labels_behind n c ++ rest) (λ s. omega (arith, s, lo))
+          (absent_append (labels_behind n c) rest y (own.below y hi)
           (others.between y (omega (arith, lo)) (omega (arith, hi))));
     }
 

@@ -23,10 +23,11 @@ use Rattle.sch_frames.specs.Tree as tree
 use Rattle.sch_insn.specs.declared.insn.Arg.TheVariants.{Reg}
 use Rattle.sch_insn.specs.declared.insn.Insn.{Insn}
 use Rattle.sch_insn.specs.declared.insn.Insn.TheVariants.{AddNumber, AddTo, CmpNumber, CmpNumber8, MovNumber, MovTo, Shl, Shr, SubNumber}
-use Rattle.sch_insn.specs.declared.register.TheConstants.{RAX, RCX, RDX, RBP, R12}
+use Rattle.sch_insn.specs.declared.register.TheConstants.{RAX, RCX, RDX}
 use Rattle.sch_asm.specs.declared.item.Item.{Item}
 use Rattle.sch_asm.specs.declared.item.Item.TheVariants as item
 use Rattle.sch_word.specs.declared.mark.MarkKind.TheVariants.{Enter}
+use Rattle.sch_word.specs.declared.registers.TheConstants.{FRAME_REGISTER, HEAP_REGISTER}
 use Rattle.sch_asm.specs.declared.routine.Routine.TheVariants as routine
 use Rattle.sch_jumps.specs.declared.piece.Piece.{Piece}
 use Rattle.sch_jumps.specs.declared.piece.Piece.TheVariants as piece
@@ -101,14 +102,18 @@ module _ (heap_end other literals : ℕ) (long : is_byte (pos (heap_offset heap_
       ∙ ap (λ ps. bytes_of (CmpNumber (Reg RDX) (pos (heap_offset other))) ∷ (piece.Jump 6 (stop_label HeapLimit) ∷ ps)) h
 
   heap_same : (bytes : ℕ) (rest more : List Item) → pieces rest ≡ pieces more → pieces (check_heap heap_end bytes rest) ≡ pieces (check_heap other bytes more)
-  heap_same bytes rest more h = ap (λ ps. bytes_of (MovTo (Reg RDX) R12) ∷ (bytes_of (SubNumber (Reg RDX) (pos (data_address - bytes))) ∷ ps)) (test_same rest more h)
+  heap_same bytes rest more h =
+      ap (λ ps. bytes_of (MovTo (Reg RDX) HEAP_REGISTER) ∷ (bytes_of (SubNumber (Reg RDX) (pos (data_address - bytes))) ∷ ps))
+      (test_same rest more h)
 
   room_same : (rest more : List Item) → pieces rest ≡ pieces more → pieces (check_room heap_end rest) ≡ pieces (check_room other more)
-  room_same rest more h = ap (λ ps. bytes_of (AddTo (Reg RDX) R12) ∷ (bytes_of (SubNumber (Reg RDX) (pos data_address)) ∷ ps)) (test_same rest more h)
+  room_same rest more h =
+      ap (λ ps. bytes_of (AddTo (Reg RDX) HEAP_REGISTER) ∷ (bytes_of (SubNumber (Reg RDX) (pos data_address)) ∷ ps)) (test_same rest more h)
 
   pairs_same : (rest more : List Item) → pieces rest ≡ pieces more → pieces (check_pairs heap_end rest) ≡ pieces (check_pairs other more)
   pairs_same rest more h =
-      ap (λ ps. bytes_of (MovTo (Reg RDX) RAX) ∷ (bytes_of (Shl (Reg RDX) 4) ∷ (bytes_of (AddTo (Reg RDX) R12) ∷ (bytes_of (SubNumber (Reg RDX) (pos data_address)) ∷ ps))))
+      ap (λ ps. bytes_of (MovTo (Reg RDX) RAX) ∷ (bytes_of (Shl (Reg RDX) 4) ∷ (bytes_of (AddTo (Reg RDX) HEAP_REGISTER)
+      ∷ (bytes_of (SubNumber (Reg RDX) (pos data_address)) ∷ ps))))
       (test_same rest more h)
 
   -- ---- operations
@@ -150,7 +155,8 @@ module _ (heap_end other literals : ℕ) (long : is_byte (pos (heap_offset heap_
         → pieces (instruction_code base out words heap_end literals n i []) ≡ pieces (instruction_code base out words other literals n i [])
     instruction_same n (Do o) = operation_same n o
     instruction_same n (Fix members spills) =
-        let filled = places_code 0 members spills (records_code 0 members (item.Plain (AddNumber (Reg R12) (pos (group_bytes members))) ∷ [])) in
+        let filled = places_code 0 members spills (records_code 0 members
+        (item.Plain (AddNumber (Reg HEAP_REGISTER) (pos (group_bytes members))) ∷ [])) in
         heap_same (group_bytes members) filled filled refl
     instruction_same n _ = refl
 
@@ -193,7 +199,7 @@ module _ (heap_end other literals : ℕ) (long : is_byte (pos (heap_offset heap_
   rests_same =
       let filled = first_slot_code (registers_code 1 later_registers (slots_code [])) in
       firsts_same 0 argument_registers (item.Label (list_label 6) ∷ slot_address (check_pairs heap_end filled)) (item.Label (list_label 6) ∷ slot_address (check_pairs other filled))
-      (ap (λ ps. piece.Label (list_label 6) ∷ (bytes_of (AddTo (Reg RCX) RBP) ∷ ps)) (pairs_same filled filled refl))
+      (ap (λ ps. piece.Label (list_label 6) ∷ (bytes_of (AddTo (Reg RCX) FRAME_REGISTER) ∷ ps)) (pairs_same filled filled refl))
 
   -- what a string is filled with, and what stands before its room is looked at
   abbrev string_filled : List Item → List Item

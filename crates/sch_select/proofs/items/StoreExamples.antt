@@ -24,10 +24,10 @@ use Rattle.sch_select.specs.Select.{copy_insn}
 use Rattle.sch_select.specs.Sizes.{kinds_in, kinds_of, steps_size}
 
 -- a word of the frame, whose address RBP has, and one of the heap
-abbrev slot : Arg
+abbrev pub slot : Arg
 slot = Base32 5 (pos 8)
 
-abbrev part : Arg
+abbrev pub part : Arg
 part = Base32 12 (pos 8)
 
 bases : map (has_base 5) (Reg 5 ∷ Base 5 ∷ slot ∷ Base 1 ∷ part ∷ Rip (pos 8) ∷ []) ≡ false ∷ true ∷ true ∷ false ∷ false ∷ false ∷ []

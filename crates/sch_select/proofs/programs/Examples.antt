@@ -31,9 +31,10 @@ use Rattle.sch_asm.specs.Codes.{bytes_of}
 use Rattle.sch_asm.specs.Data.{data_at}
 use Rattle.sch_asm.specs.Layout.{emitted_from}
 use Rattle.sch_asm.specs.Pieces.{skeleton}
-use Rattle.sch_jumps.specs.Sizes.{Set, placed_from}
+use Rattle.sch_jumps.specs.Sizes.{placed_from}
 use Rattle.sch_asm.specs.Views.{text_at}
 use Rattle.sch_runtime.specs.Code.{all_routines}
+use Rattle.sch_runtime.proofs.Examples.{all_long}
 use Rattle.sch_select_data.specs.Data.{heap_of, program_words}
 use Rattle.sch_select.specs.Program.{labels_of, own_labels, program_code, program_zeros}
 use Rattle.sch_select.specs.Reach.{names_below}
@@ -56,9 +57,6 @@ abbrev items_of : (heap : ℕ) → Source → List Item
 items_of heap p = program_code p heap 1 ++ all_routines (heap_of p + heap)
 
 -- their text, with all jumps long
-abbrev pub all_long : Set
-all_long = λ k. true
-
 abbrev pub text_of : List Item → List ℕ
 text_of items =
     let places = placed_from all_long 0 0x400000 (skeleton items) (replicate 1600 0) in

@@ -5,7 +5,7 @@ use Rattle.std.specs.Borrow.{Bor}
 use Rattle.std.proofs.lemmas.List.{map-append}
 use Rattle.std.proofs.lemmas.List.Sums.{sum_by-cons, sum_by-append}
 use Rattle.sch_word.specs.trees.InOrder.{AreInOrder}
-use Rattle.sch_word.specs.values.Literals.{Literal, Literals, constant, text, list, elements, no_literals, and_literal, literals, count_literals}
+use Rattle.sch_word.specs.values.Literals.{Literal, Literals, constant, text, list, elements, no_literals, and_literal, literals}
 use Rattle.sch_word.specs.declared.literal.Lit.{Lit}
 use Rattle.sch_word.specs.values.LiteralView.{literal, literals_of}
 use Rattle.sch_word.specs.values.LiteralParts.{each_of, parts, plain, lent_literal, lent}

@@ -12,7 +12,7 @@ use Rattle.sch_select_memory.specs.Encoded.{vector_tag, string_tag}
 use Rattle.sch_select_data.specs.declared.placed_values.PlacedValues.{PlacedValues}
 use Rattle.sch_select_data.specs.declared.placing.Placed.{Placed}
 use Rattle.sch_select_data.specs.ObjectWords.{value_word, vector_contents, string_contents}
-use Rattle.sch_select_data.specs.PlacedWords.{units_in, units_in_each, no_parts, placed_values, list_word, linked_words, placed_each, ArePlaced}
+use Rattle.sch_select_data.specs.PlacedWords.{units_in_each, no_parts, placed_values, list_word, linked_words, placed_each, ArePlaced}
 use Rattle.sch_select_data.specs.PlacedView.{in_turn, ArePut, IsObjectPut, IsPut}
 use Rattle.sch_select_data.proofs.literals.PutSteps.{more_placed, vector_placed, list_placed}
 use Rattle.sch_select_data.proofs.literals.Sizes.{vector_contents_length, string_contents_length}

@@ -1,13 +1,12 @@
 -- A literal is put, whose parts came first of those that were put.
-use Rattle.std.proofs.Common.{◌≡◌, ◌≤◌, ℕ, suc, ◌+◌, ◌*◌, ◌/◌, List, [], ◌∷◌, ◌++◌, length, take, drop, refl, sym, ap, ◌∙◌, subst, arith, append_assoc, length-append}
+use Rattle.std.proofs.Common.{◌≡◌, ◌≤◌, ℕ, suc, ◌+◌, ◌*◌, ◌/◌, List, [], ◌∷◌, ◌++◌, length, take, drop, refl, sym, ap, ◌∙◌, arith, append_assoc, length-append}
 use Rattle.std.proofs.Math.Seq.{take-append_seam, drop-append_seam}
-use Rattle.sch_word.specs.values.Values.{constant_value}
-use Rattle.sch_word.specs.values.Literals.{Literal, Literals, constant, text, list, elements, no_literals, and_literal, literals, count_literals}
-use Rattle.sch_word.specs.values.LiteralParts.{each_of, parts}
+use Rattle.sch_word.specs.values.Literals.{Literal, Literals, list, elements, no_literals, and_literal, literals, count_literals}
+use Rattle.sch_word.specs.values.LiteralParts.{each_of}
 use Rattle.sch_word.proofs.facts.Lists.{head_same, tail_same, cons_same, append_same}
-use Rattle.sch_select_memory.specs.Encoded.{vector_tag, string_tag}
-use Rattle.sch_select_data.specs.ObjectWords.{value_word, vector_contents, string_contents}
-use Rattle.sch_select_data.specs.PlacedWords.{units_in, units_in_each, no_parts, placed_value, placed_values, list_word, linked_words, placed_words, placed_each, ArePlaced}
+use Rattle.sch_select_memory.specs.Encoded.{vector_tag}
+use Rattle.sch_select_data.specs.ObjectWords.{vector_contents}
+use Rattle.sch_select_data.specs.PlacedWords.{units_in, units_in_each, placed_value, placed_values, list_word, linked_words, placed_words, placed_each, ArePlaced}
 use Rattle.sch_select_data.proofs.literals.NodeUnits.{units_joined}
 
 -- ---- literals before others

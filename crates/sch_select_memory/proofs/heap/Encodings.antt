@@ -6,7 +6,8 @@ use Rattle.std.proofs.lemmas.Int.{ints}
 use Rattle.sch_word.specs.declared.constant.Const.{Const}
 use Rattle.sch_word.specs.declared.constant.Const.TheVariants.{Fixnum, Character, Boolean, Nil, Unspecified, Symbol}
 use Rattle.sch_word.specs.values.Fixnum.{IsFixnum}
-use Rattle.sch_word.specs.values.Values.{Value, fixnum, character, boolean, nil, unspecified, symbol, object, procedure, cell, constant_value, is_constant, is_true, same_value, Object, pair, vector, string}
+use Rattle.sch_word.specs.values.Values.{Value, fixnum, character, boolean, nil, unspecified, symbol, object, procedure, cell}
+use Rattle.sch_word.specs.values.Values.{constant_value, is_constant, is_true, same_value, Object, pair, vector, string}
 use Rattle.sch_word.specs.values.PrimitiveRows.{is_integer, is_character, is_boolean, is_null, is_procedure, is_symbol, is_pair, is_vector, is_string}
 use Rattle.sch_word.specs.values.Literals.{constant_known}
 use Rattle.sch_word.proofs.values.Fixnums.{is_fixnum_says}

@@ -4,7 +4,7 @@ use Rattle.std.specs.Prelude.{◌||◌}
 use Rattle.std.proofs.lemmas.Bool.{eq-eqb}
 use Rattle.sch_word.specs.trees.Assigned.{marked}
 use Rattle.sch_word.specs.trees.Bindings.{numbers}
-use Rattle.sch_word.proofs.facts.Booleans.{or_false, or_or, or_swap}
+use Rattle.sch_word.proofs.facts.Booleans.{or_right_false, or_or, or_swap}
 use Rattle.sch_word.proofs.facts.NumberTests.{differ}
 use Rattle.sch_word.proofs.facts.Lists.{cons_same}
 
@@ -14,7 +14,7 @@ marked_same f g j (b ∷ bs) h = cons_same (ap (λ x. b || x) (h j)) (marked_sam
 
 pub marked_none : (j : ℕ) (bs : List Bool) → marked (λ i. false) j bs ≡ bs
 marked_none j [] = refl
-marked_none j (b ∷ bs) = cons_same (or_false b) (marked_none (suc j) bs)
+marked_none j (b ∷ bs) = cons_same (or_right_false b) (marked_none (suc j) bs)
 
 pub marked_twice : (f g : ℕ → Bool) (j : ℕ) (bs : List Bool) → marked g j (marked f j bs) ≡ marked (λ i. f i || g i) j bs
 marked_twice f g j [] = refl
@@ -41,12 +41,12 @@ inside_marked f n j m bs e h = h ∙ ap (λ i. marked f i bs) e ∙ sym (marked_
 pub marked_past : (k j : ℕ) (bs : List Bool) → k < j → marked (λ i. nat_eq k i) j bs ≡ bs
 marked_past k j [] h = refl
 marked_past k j (b ∷ bs) h =
-    cons_same (ap (λ x. b || x) (differ k j (λ e. omega (arith, e, h))) ∙ or_false b) (marked_past k (suc j) bs (omega (arith, h)))
+    cons_same (ap (λ x. b || x) (differ k j (λ e. omega (arith, e, h))) ∙ or_right_false b) (marked_past k (suc j) bs (omega (arith, h)))
 
 pub marked_far : (k j : ℕ) (bs : List Bool) → j + length bs ≤ k → marked (λ i. nat_eq k i) j bs ≡ bs
 marked_far k j [] h = refl
 marked_far k j (b ∷ bs) h =
-    cons_same (ap (λ x. b || x) (differ k j (λ e. omega (arith, e, h))) ∙ or_false b) (marked_far k (suc j) bs (omega (arith, h)))
+    cons_same (ap (λ x. b || x) (differ k j (λ e. omega (arith, e, h))) ∙ or_right_false b) (marked_far k (suc j) bs (omega (arith, h)))
 
 or_true : (b : Bool) → (b || true) ≡ true
 or_true true = refl
@@ -57,7 +57,7 @@ marked_at k j i [] e h = absurd (omega (arith, h))
 marked_at k j zero (b ∷ bs) e h =
     cons_same (sym (ap (λ x. b || x) (eq-eqb k j (omega (arith, e))) ∙ or_true b)) (sym (marked_past k (suc j) bs (omega (arith, e))))
 marked_at k j (suc i) (b ∷ bs) e h =
-    cons_same (sym (ap (λ x. b || x) (differ k j (λ d. omega (arith, d, e))) ∙ or_false b)) (marked_at k (suc j) i bs (omega (arith, e)) (omega (arith, h)))
+    cons_same (sym (ap (λ x. b || x) (differ k j (λ d. omega (arith, d, e))) ∙ or_right_false b)) (marked_at k (suc j) i bs (omega (arith, e)) (omega (arith, h)))
 
 pub all_marked : (f : ℕ → Bool) (n j : ℕ) → marked f j (replicate n false) ≡ map f (numbers j n)
 all_marked f zero j = refl

@@ -54,9 +54,9 @@ pub not_right : (a b : Bool) → (a || b) ≡ false → b ≡ false
 not_right true b h = absurd (cc)
 not_right false b h = h
 
-pub or_false : (a : Bool) → (a || false) ≡ a
-or_false true = refl
-or_false false = refl
+pub or_right_false : (a : Bool) → (a || false) ≡ a
+or_right_false true = refl
+or_right_false false = refl
 
 pub or_or : (a b c : Bool) → ((a || b) || c) ≡ (a || (b || c))
 or_or true b c = refl

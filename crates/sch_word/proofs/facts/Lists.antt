@@ -82,10 +82,6 @@ tail_same e = cc
 pub some_same : {A : Type 0} {x y : A} → Some x ≡ Some y → x ≡ y
 some_same e = cc
 
-pub take_whole : {A : Type 0} (xs : List A) → take (length xs) xs ≡ xs
-take_whole [] = refl
-take_whole (x ∷ xs) = ap (λ l. x ∷ l) (take_whole xs)
-
 pub length_none : {A : Type 0} (xs : List A) → length xs ≡ 0 → xs ≡ []
 length_none [] e = refl
 length_none (x ∷ xs) e = absurd (omega (arith, e))

@@ -5,7 +5,7 @@ use Rattle.std.proofs.lemmas.Bool.{eqb-true}
 use Rattle.std.proofs.lemmas.List.{reverse-append, get_or_default}
 use Rattle.sch_word.specs.trees.NumberSets.{has, unless, insert, union}
 use Rattle.sch_word.specs.trees.Bindings.{numbers}
-use Rattle.sch_word.proofs.facts.Booleans.{or_swap, or_false}
+use Rattle.sch_word.proofs.facts.Booleans.{or_swap, or_right_false}
 use Rattle.sch_word.proofs.facts.Lists.{next_left, reverse_cons}
 use Rattle.sch_word.proofs.facts.NumberTests.{same, below_differs}
 
@@ -72,7 +72,7 @@ pub has_reverse : (x : ℕ) (xs : List ℕ) → has x (reverse xs) ≡ has x xs
 has_reverse x [] = refl
 has_reverse x (y ∷ xs) =
     ap (has x) (reverse_cons y xs) ∙ has_append x (reverse xs) (y ∷ []) ∙ or_swap (has x (reverse xs)) (nat_eq x y || false)
-    ∙ ap (λ b. b || has x (reverse xs)) (or_false (nat_eq x y)) ∙ ap (λ b. nat_eq x y || b) (has_reverse x xs)
+    ∙ ap (λ b. b || has x (reverse xs)) (or_right_false (nat_eq x y)) ∙ ap (λ b. nat_eq x y || b) (has_reverse x xs)
 
 pub inserted : (x : ℕ) (xs : List ℕ) → has x xs ≡ false → reverse (xs ++ x ∷ []) ≡ insert x (reverse xs)
 inserted x xs e = rw (reverse-append xs (x ∷ []), has_reverse x xs, e) refl

@@ -4,6 +4,7 @@ use Rattle.std.specs.Prelude.{◌+ℤ◌, ◌-ℤ◌}
 use Rattle.sch_word.specs.declared.fix.TheConstants.{FIXNUM_MIN, FIXNUM_MAX}
 use Rattle.sch_word.specs.declared.constant.Const.TheVariants.{Fixnum, Character, Nil}
 use Rattle.sch_word.specs.declared.stop.Stop.TheVariants.{NotProcedure, DepthLimit}
+use Rattle.sch_word.specs.trees.NumberSets.{without_repeats}
 use Rattle.sch_word.specs.values.Values.{fixnum, procedure, is_constant, are_bytes}
 use Rattle.sch_word.specs.values.Checked.{passes, refused, exhausted, unreachable}
 use Rattle.sch_word.specs.runs.Handed.{handed}
@@ -50,3 +51,14 @@ depths = (refl, refl, refl, refl)
 
 entries : (entry_left {V = ℕ} 0 8 ≡ exhausted) × (entry_left {V = ℕ} 2 8 ≡ passes 8)
 entries = (refl, refl)
+
+-- ## Sets of numbers
+
+-- wherever a number stands again
+repeats :
+    (without_repeats [] ≡ true)
+    × (without_repeats (1 ∷ 2 ∷ 3 ∷ []) ≡ true)
+    × (without_repeats (1 ∷ 2 ∷ 2 ∷ []) ≡ false)
+    × (without_repeats (1 ∷ 1 ∷ 2 ∷ []) ≡ false)
+    × (without_repeats (2 ∷ 1 ∷ 2 ∷ []) ≡ false)
+repeats = (refl, refl, refl, refl, refl)

@@ -1,5 +1,5 @@
 -- A vector of a dotted pair, in the order in which each comes before its parts, and in others.
-use Rattle.std.proofs.Common.{[], ◌∷◌, refl}
+use Rattle.std.proofs.Common.{[], ◌∷◌}
 use Rattle.sch_word.specs.trees.InOrder.{AreInOrder, none, next}
 use Rattle.sch_word.specs.values.LiteralParts.{parts}
 use Rattle.sch_word.specs.values.Literals.{Literal, constant, list, elements, no_literals, and_literal}

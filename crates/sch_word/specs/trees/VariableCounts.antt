@@ -1,4 +1,4 @@
--- How many of the variables that a body may have in the languages to come one of its variables or parts stands for.
+-- What a variable or a part of a body adds to the number of variables that the body may have in the languages to come.
 use Rattle.std.specs.Prelude.{ℕ, zero, suc, ◌+◌, Bool, true, false}
 
 -- an operator, an operand, a value that is set or defined, or a part of a sequence before its last

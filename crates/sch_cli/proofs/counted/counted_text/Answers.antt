@@ -1,4 +1,5 @@
 use Rattle.std.proofs.Common.{◌≡◌, Err, subst}
+use Rattle.sch_word.proofs.facts.KnownErrors.{kept_error}
 use Rattle.sch_elf.specs.Stands.{StandsFor}
 use Rattle.sch_prelude.specs.LibraryText.{library_text}
 use Rattle.sch_count.specs.CountsText.{counts_text}
@@ -7,7 +8,7 @@ use Rattle.sch_cli.specs.LoneRuns.{HasNoExit}
 use Rattle.sch_cli.specs.declared.failure.Failure.TheVariants.{Memory}
 use Rattle.sch_cli.proofs.CompiledFiles.{has_image}
 use Rattle.sch_cli.proofs.ListedEntries.{enters_listed}
-use Rattle.sch_cli.proofs.LoneRuns.{are_counts, counts_never_stuck, counts_spent, kept_failure, refused_exit}
+use Rattle.sch_cli.proofs.LoneRuns.{are_counts, counts_never_stuck, counts_spent, refused_exit}
 use Rattle.sch_cli.proofs.counted.counted_text.Goals as goal
 
 pub image_in-requires : goal.image_in-requires
@@ -19,12 +20,12 @@ pub returns-in_err-compiled-clause-not_counted : goal.returns-in_err-compiled-cl
 returns-in_err-compiled-clause-not_counted c =
     let source = c.args.source.now in
     let why = c.in_err-compiled.field-0.0 in
-    kept_failure c.from_residual.result why (HasNoExit source c.args.limits.heap c.args.limits.depth c.args.steps) c.from_residual.ensures.1
+    kept_error c.from_residual.result why (HasNoExit source c.args.limits.heap c.args.limits.depth c.args.steps) c.from_residual.ensures.1
     (refused_exit source c.args.limits.heap c.args.limits.depth c.args.steps why c.in_err-compiled.ensures.refused)
 
 pub returns-in_err-image-clause-not_counted : goal.returns-in_err-image-clause-not_counted
 returns-in_err-image-clause-not_counted c =
-    kept_failure c.from_residual-in_err-image.result Memory (HasNoExit c.args.source.now c.args.limits.heap c.args.limits.depth c.args.steps) c.from_residual-in_err-image.ensures.1 tt
+    kept_error c.from_residual-in_err-image.result Memory (HasNoExit c.args.source.now c.args.limits.heap c.args.limits.depth c.args.steps) c.from_residual-in_err-image.ensures.1 tt
 
 pub count_image-requires : goal.count_image-requires
 count_image-requires c =
@@ -59,5 +60,5 @@ unreachable-requires c =
 
 pub returns-in_err-print_counts-in-Ok-clause-not_counted : goal.returns-in_err-print_counts-in-Ok-clause-not_counted
 returns-in_err-print_counts-in-Ok-clause-not_counted c =
-    kept_failure c.from_residual-in_err-print_counts-in-Ok.result Memory (HasNoExit c.args.source.now c.args.limits.heap c.args.limits.depth c.args.steps)
+    kept_error c.from_residual-in_err-print_counts-in-Ok.result Memory (HasNoExit c.args.source.now c.args.limits.heap c.args.limits.depth c.args.steps)
     c.from_residual-in_err-print_counts-in-Ok.ensures.1 tt

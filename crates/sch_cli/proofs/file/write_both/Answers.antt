@@ -1,7 +1,8 @@
 use Rattle.std.proofs.Common.{refl, subst, sym}
+use Rattle.sch_word.proofs.facts.KnownErrors.{known_error}
 use Rattle.sch_cli.specs.Files.{WritesBoth}
 use Rattle.sch_cli.specs.Seen.{disk_change}
-use Rattle.sch_cli.proofs.DiskSteps.{both_done, failed_with, first_fails, second_fails}
+use Rattle.sch_cli.proofs.DiskSteps.{both_done, first_fails, second_fails}
 use Rattle.sch_cli.proofs.file.write_both.Goals as goal
 
 pub returns-in_err-write_file : goal.returns-in_err-write_file
@@ -9,7 +10,7 @@ returns-in_err-write_file g c =
     let target = c.args.target.now in
     let disk = disk_change g.D.Disk.files g.D.Disk.faults g.D.Disk.calls c.args.disk.now c.write_file.new.disk in
     let why = c.in_err-write_file.field-0.0 in
-    subst (WritesBoth target c.args.file.now c.args.listing.now c.args.text.now disk) (sym (failed_with c.from_residual.result why c.from_residual.ensures.1))
+    subst (WritesBoth target c.args.file.now c.args.listing.now c.args.text.now disk) (sym (known_error c.from_residual.result why c.from_residual.ensures.1))
     (first_fails target c.args.file.now c.args.listing.now c.args.text.now disk why c.in_err-write_file.ensures.only c.in_err-write_file.ensures.failed c.in_err-write_file.ensures.err
     c.write_file.ensures.calls)
 

@@ -1,4 +1,5 @@
 use Rattle.std.proofs.Common.{refl, subst}
+use Rattle.sch_word.proofs.facts.KnownErrors.{kept_error}
 use Rattle.sch_elf.specs.Stands.{StandsFor}
 use Rattle.sch_prelude.specs.LibraryText.{library_text}
 use Rattle.sch_driver.specs.Compiled.{IsCompiled}
@@ -7,7 +8,7 @@ use Rattle.sch_cli.specs.Figures.{HasNoFigures}
 use Rattle.sch_cli.specs.Refusals.{IsRefused}
 use Rattle.sch_cli.specs.declared.failure.Failure.TheVariants.{Memory}
 use Rattle.sch_cli.proofs.CompiledFiles.{has_image}
-use Rattle.sch_cli.proofs.LoneRuns.{are_figures, kept_failure, never_stuck, refused_exit, spends_steps}
+use Rattle.sch_cli.proofs.LoneRuns.{are_figures, never_stuck, refused_exit, spends_steps}
 use Rattle.sch_cli.proofs.generated.measure.Goals as goal
 
 pub image_in-requires : goal.image_in-requires
@@ -19,14 +20,14 @@ pub returns-in_err-compiled-clause-not_measured : goal.returns-in_err-compiled-c
 returns-in_err-compiled-clause-not_measured c =
     let text = c.args.text.now in
     let why = c.in_err-compiled.field-0.0 in
-    kept_failure c.from_residual.result why (HasNoFigures text c.args.steps) c.from_residual.ensures.1
+    kept_error c.from_residual.result why (HasNoFigures text c.args.steps) c.from_residual.ensures.1
     (refused_exit text default_heap default_depth c.args.steps why (subst (λ depth. IsRefused text depth why) c.default_limits.ensures.1 c.in_err-compiled.ensures.refused))
 
 pub returns-in_err-image-clause-not_measured : goal.returns-in_err-image-clause-not_measured
-returns-in_err-image-clause-not_measured c = kept_failure c.from_residual-in_err-image.result Memory (HasNoFigures c.args.text.now c.args.steps) c.from_residual-in_err-image.ensures.1 tt
+returns-in_err-image-clause-not_measured c = kept_error c.from_residual-in_err-image.result Memory (HasNoFigures c.args.text.now c.args.steps) c.from_residual-in_err-image.ensures.1 tt
 
 pub returns-in_err-lone-clause-not_measured : goal.returns-in_err-lone-clause-not_measured
-returns-in_err-lone-clause-not_measured c = kept_failure c.from_residual-in_err-lone.result Memory (HasNoFigures c.args.text.now c.args.steps) c.from_residual-in_err-lone.ensures.1 tt
+returns-in_err-lone-clause-not_measured c = kept_error c.from_residual-in_err-lone.result Memory (HasNoFigures c.args.text.now c.args.steps) c.from_residual-in_err-lone.ensures.1 tt
 
 pub returns-in-Exited-clause-measured : goal.returns-in-Exited-clause-measured
 returns-in-Exited-clause-measured c =

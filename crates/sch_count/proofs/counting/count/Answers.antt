@@ -1,5 +1,6 @@
 use Rattle.std.proofs.Common.{◌≡◌, ◌<◌, ◌^◌, [], length, Ok, Err, sym, ap, ◌∙◌, subst, arith}
 use Rattle.std.specs.Prelude.{All}
+use Rattle.sch_word.proofs.facts.KnownErrors.{known_error}
 use Rattle.sch_asm.specs.Stands.{marks_at}
 use Rattle.sch_step.specs.Run.{Does}
 use Rattle.sch_count.specs.declared.error.CountError.TheVariants as count_error
@@ -8,21 +9,21 @@ use Rattle.sch_count.specs.MarkTables.{table_marks}
 use Rattle.sch_count.specs.Tallied.{IsKnown, TalliesMarks}
 use Rattle.sch_count.specs.TracedCounts.{AreCounted, Follows, status_of}
 use Rattle.sch_count.proofs.AddressMarks.{all_at, length-marks_at}
-use Rattle.sch_count.proofs.MachineMarks.{behind_look, first_exits, first_stuck, forgets_first, no_memory, passed_on}
+use Rattle.sch_count.proofs.MachineMarks.{behind_look, first_exits, first_stuck, forgets_first}
 use Rattle.sch_count.proofs.counting.count.Goals as goal
 
 pub returns-in_err-table-clause-did : goal.returns-in_err-table-clause-did
 returns-in_err-table-clause-did g c =
     let r = c.from_residual.result in
     subst (λ x. Does (Follows c.args.extent.steps (marks_at c.args.marks.now) (AreCounted c.args.extent.bodies x) (status_of x) c.args.m.now c.args.m.now) (g.O.Outlet.bytes c.args.out.now) (g.O.Outlet.bytes c.args.out.now) (g.O.Outlet.left c.args.out.now) (g.O.Outlet.left c.args.out.now) (g.O.Outlet.faults c.args.out.now) (g.O.Outlet.faults c.args.out.now))
-    (sym (no_memory r c.from_residual.ensures.1))
+    (sym (known_error r count_error.Memory c.from_residual.ensures.1))
     (forgets_first (marks_at c.args.marks.now) (AreCounted c.args.extent.bodies (Err count_error.Memory)) c.args.extent.steps c.args.m.now (g.O.Outlet.bytes c.args.out.now) (g.O.Outlet.left c.args.out.now) (g.O.Outlet.faults c.args.out.now))
 
 pub returns-in_err-tally-clause-did : goal.returns-in_err-tally-clause-did
 returns-in_err-tally-clause-did g c =
     let r = c.from_residual-in_err-tally.result in
     subst (λ x. Does (Follows c.args.extent.steps (marks_at c.args.marks.now) (AreCounted c.args.extent.bodies x) (status_of x) c.args.m.now c.args.m.now) (g.O.Outlet.bytes c.args.out.now) (g.O.Outlet.bytes c.args.out.now) (g.O.Outlet.left c.args.out.now) (g.O.Outlet.left c.args.out.now) (g.O.Outlet.faults c.args.out.now) (g.O.Outlet.faults c.args.out.now))
-    (sym (no_memory r c.from_residual-in_err-tally.ensures.1))
+    (sym (known_error r count_error.Memory c.from_residual-in_err-tally.ensures.1))
     (forgets_first (marks_at c.args.marks.now) (AreCounted c.args.extent.bodies (Err count_error.Memory)) c.args.extent.steps c.args.m.now (g.O.Outlet.bytes c.args.out.now) (g.O.Outlet.left c.args.out.now) (g.O.Outlet.faults c.args.out.now))
 
 pub returns-in-Exited-clause-did : goal.returns-in-Exited-clause-did
@@ -61,7 +62,7 @@ returns-in_err-status-clause-did g c =
     let marks = marks_at c.args.marks.now in
     let ends : c.follow.result ≡ Err error = c.in_err-status.was in
     subst (λ x. Does (Follows c.args.extent.steps marks (AreCounted c.args.extent.bodies x) (status_of x) c.args.m.now c.follow.new.m) (g.O.Outlet.bytes c.args.out.now) (g.O.Outlet.bytes c.follow.new.out) (g.O.Outlet.left c.args.out.now) (g.O.Outlet.left c.follow.new.out) (g.O.Outlet.faults c.args.out.now) (g.O.Outlet.faults c.follow.new.out))
-    (sym (passed_on c.from_residual-in_err-status.result error c.from_residual-in_err-status.ensures.1))
+    (sym (known_error c.from_residual-in_err-status.result error c.from_residual-in_err-status.ensures.1))
     (behind_look (table_marks c.in_ok-table.table) marks c.in_ok-table.ensures.table (TalliesMarks c.follow.new.self) (AreCounted c.args.extent.bodies (Err error)) (λ l h. tt) c.args.extent.steps c.args.m.now c.run.new.m
     c.follow.new.m (Err error) (g.O.Outlet.bytes c.args.out.now) (g.O.Outlet.bytes c.run.new.out) (g.O.Outlet.bytes c.follow.new.out) (g.O.Outlet.left c.args.out.now) (g.O.Outlet.left c.run.new.out) (g.O.Outlet.left c.follow.new.out) (g.O.Outlet.faults c.args.out.now) (g.O.Outlet.faults c.run.new.out) (g.O.Outlet.faults c.follow.new.out) c.in-Spent.ensures.stands c.in-Spent.ensures.did
     (subst (λ x. Does (Follows c.args.extent.steps (table_marks c.in_ok-table.table) (TalliesMarks c.follow.new.self) x c.run.new.m c.follow.new.m) (g.O.Outlet.bytes c.run.new.out) (g.O.Outlet.bytes c.follow.new.out) (g.O.Outlet.left c.run.new.out) (g.O.Outlet.left c.follow.new.out) (g.O.Outlet.faults c.run.new.out) (g.O.Outlet.faults c.follow.new.out)) ends c.follow.ensures.did))

@@ -1,5 +1,6 @@
 use Rattle.std.proofs.Common.{◌≡◌, ◌≤◌, ℕ, ◌+◌, ◌*◌, ◌∙◌, ap, subst, sym, length, arith}
 use Rattle.std.specs.Prelude.{IsTrue}
+use Rattle.sch_word.proofs.facts.KnownErrors.{kept_error}
 use Rattle.sch_control.specs.ProgramView.{source}
 use Rattle.sch_control.specs.Work.{codes_work}
 use Rattle.sch_frames.specs.ProgramView as frames
@@ -11,7 +12,7 @@ use Rattle.sch_select_memory.specs.Addresses.{max_heap_end}
 use Rattle.sch_select.specs.Sizes.{kinds_of}
 use Rattle.sch_driver.specs.Assembled.{IsFrameSize, IsUnfit, assembled_bound}
 use Rattle.sch_driver.specs.ListedCycles.{listed_cycles}
-use Rattle.sch_driver.proofs.Images.{assembled, few_words, framed_parts, kept_error, refused_for, size_of_frames, text_within, unfit}
+use Rattle.sch_driver.proofs.Images.{assembled, few_words, framed_parts, refused_for, size_of_frames, text_within, unfit}
 use Rattle.sch_driver.proofs.Resolved.{resolved_kinds}
 use Rattle.sch_driver.proofs.labels.FewLabels.{few_tests, frames_labelled}
 use Rattle.sch_driver.proofs.assembly.assemble.Goals as goal
@@ -110,6 +111,8 @@ returns-clause-does c =
     r.resolved.code r.resolved.marks r.resolved.words c.into_bytes-text.result r.resolved.zeros c.in_ok-image.image c.len-instructions.result c.len-instructions.ensures
     made.same (framed_parts p f made.statics made.library made.made made.words)
     (record { follows = code.follows; ends = code.steps; passes = code.passes; enters = code.entries; takes = code.takes; stand = made.stand; stores = code.stores made.stand; followed = made.called; units = code.instructions; zeros = code.zeros; items = code.items; words_end = code.words })
-    (c.in_ok-routines.ensures.items ∙ ap all_routines ends) (record { largest = made.words; few = few_words c.in_ok-framed.framed.frames; bound = made.covered_words c.requires.covered }) c.in_ok-check_stack.ensures.fits r.ensures.words
+    (c.in_ok-routines.ensures.items ∙ ap all_routines ends)
+    (record { largest = made.words; few = few_words c.in_ok-framed.framed.frames; bound = made.covered_words c.requires.covered })
+    c.in_ok-check_stack.ensures.fits r.ensures.words
     c.in_ok-routines.ensures.effective r.ensures.stands r.ensures.valid r.ensures.fits r.ensures.size (subst (λ k. k ≤ assembled_bound p) (sym r.ensures.size) n)
     c.into_bytes-text.ensures r.ensures.zeros c.in_ok-image.ensures.layout

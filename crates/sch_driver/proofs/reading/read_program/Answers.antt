@@ -1,11 +1,11 @@
 use Rattle.std.proofs.Common.{ℕ, sym, subst}
+use Rattle.sch_word.proofs.facts.KnownErrors.{kept_error}
 use Rattle.sch_read.specs.Text.{Spells}
 use Rattle.sch_read.specs.Views.{data_of}
 use Rattle.sch_link_program.specs.Definitions.{definitions_of}
 use Rattle.sch_core.specs.Programs.{IsProgramOf}
 use Rattle.sch_lang.specs.ProgramView.{source}
 use Rattle.sch_driver.specs.Causes.{IsErrorOf, IsLibraryText}
-use Rattle.sch_driver.proofs.Images.{kept_error}
 use Rattle.sch_driver.proofs.PartErrors.{unread_library, undefined_library, unread_text, unexpanded_text}
 use Rattle.sch_driver.proofs.reading.read_program.Goals as goal
 
@@ -46,7 +46,8 @@ returns-in_err-program-clause-refused c =
     let defined : IsLibraryText library ds = record { items = data_of c.as_slice.result.now; spells = spelled; stands = c.in_ok-known.ensures.found } in
     let e = c.in_err-program.field-0.0 in
     kept_error c.from_residual-in_err-program.result e (λ e. (depth : ℕ) → IsErrorOf library text depth e) c.from_residual-in_err-program.ensures.1
-    (λ depth. unexpanded_text library text depth e ds defined (data_of c.as_slice-2.result.now) (subst (λ l. Spells text (data_of l)) (sym c.as_slice-2.ensures) c.in_ok-items.ensures.found) c.in_err-program.ensures.refused)
+    (λ depth. unexpanded_text library text depth e ds defined (data_of c.as_slice-2.result.now)
+    (subst (λ l. Spells text (data_of l)) (sym c.as_slice-2.ensures) c.in_ok-items.ensures.found) c.in_err-program.ensures.refused)
 
 pub returns-clause-means : goal.returns-clause-means
 returns-clause-means c =

@@ -12,4 +12,5 @@ returns-in-None c =
 pub returns-in-Some : goal.returns-in-Some
 returns-in-Some c =
     IfOk-weaker c.operand_at-in-Some.result _ _
-    (λ o h. h ∙ sym (argument_found (place_in c.args.lives.now.places.now) c.args.a.now c.args.k _ c.if-k-eq0.false (sym c.get.ensures.value ∙ ap option_copied c.in-Some.is))) c.operand_at-in-Some.ensures
+    (λ o h. h ∙ sym (argument_found (place_in c.args.lives.now.places.now) c.args.a.now c.args.k _ c.if-k-eq0.false
+    (sym c.get.ensures.value ∙ ap option_copied c.in-Some.is))) c.operand_at-in-Some.ensures

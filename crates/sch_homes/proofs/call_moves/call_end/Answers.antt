@@ -1,5 +1,4 @@
-use Rattle.std.proofs.Common.{◌≡◌, ◌≤◌, ◌+◌, ◌∙◌, ap, arith, length, suc, sym, true}
-use Rattle.std.proofs.lemmas.Result.{IfOk-weaker}
+use Rattle.std.proofs.Common.{◌≡◌, ◌≤◌, ◌+◌, ◌∙◌, ap, arith, sym, true}
 use Rattle.sch_writer.specs.View.{moves_of}
 use Rattle.sch_homes.specs.CallMoves.{aside_end, call_end, first_temporary}
 use Rattle.sch_homes.specs.HomeTable.{place_in}

@@ -43,7 +43,9 @@ pub calls_end-requires : goal.calls_end-requires
 calls_end-requires g c =
     let b = c.args.b.now in
     let e = restored b.exp in
-    let test = homes_by b.entry e b.places (set.contains c.mark_saved.new.saved) (set.contains c.new-saved.result) c.mark_saved.ensures (λ x. ap (λ s. set.contains s x) c.new-saved.ensures ∙ contains-empty x) in
+    let test =
+    homes_by b.entry e b.places (set.contains c.mark_saved.new.saved) (set.contains c.new-saved.result) c.mark_saved.ensures
+    (λ x. ap (λ s. set.contains s x) c.new-saved.ensures ∙ contains-empty x) in
     let ends : c.in_ok-homes.homes.end ≡ homes_end b.entry e b.places =
     (room_is b.entry e b.places _ _ _ _ _ (set.contains c.mark_saved.new.saved) _ c.as_slice-places.ensures c.late_slots.ensures c.slots_end-first.ensures
     test c.in_ok-homes.ensures.homes c.in_ok-homes.ensures.end refl).1.0 in
@@ -53,7 +55,9 @@ pub returns-clause-homes : goal.returns-clause-homes
 returns-clause-homes g c =
     let b = c.args.b.now in
     let e = restored b.exp in
-    let test = homes_by b.entry e b.places (set.contains c.mark_saved.new.saved) (set.contains c.new-saved.result) c.mark_saved.ensures (λ x. ap (λ s. set.contains s x) c.new-saved.ensures ∙ contains-empty x) in
+    let test =
+    homes_by b.entry e b.places (set.contains c.mark_saved.new.saved) (set.contains c.new-saved.result) c.mark_saved.ensures
+    (λ x. ap (λ s. set.contains s x) c.new-saved.ensures ∙ contains-empty x) in
     (room_is b.entry e b.places _ _ _ _ _ (set.contains c.mark_saved.new.saved) _ c.as_slice-places.ensures c.late_slots.ensures c.slots_end-first.ensures
     test c.in_ok-homes.ensures.homes c.in_ok-homes.ensures.end c.in_ok-words.ensures).0
 
@@ -61,7 +65,9 @@ pub returns-clause-end : goal.returns-clause-end
 returns-clause-end g c =
     let b = c.args.b.now in
     let e = restored b.exp in
-    let test = homes_by b.entry e b.places (set.contains c.mark_saved.new.saved) (set.contains c.new-saved.result) c.mark_saved.ensures (λ x. ap (λ s. set.contains s x) c.new-saved.ensures ∙ contains-empty x) in
+    let test =
+    homes_by b.entry e b.places (set.contains c.mark_saved.new.saved) (set.contains c.new-saved.result) c.mark_saved.ensures
+    (λ x. ap (λ s. set.contains s x) c.new-saved.ensures ∙ contains-empty x) in
     (room_is b.entry e b.places _ _ _ _ _ (set.contains c.mark_saved.new.saved) _ c.as_slice-places.ensures c.late_slots.ensures c.slots_end-first.ensures
     test c.in_ok-homes.ensures.homes c.in_ok-homes.ensures.end c.in_ok-words.ensures).1.0
 
@@ -69,6 +75,8 @@ pub returns-clause-words : goal.returns-clause-words
 returns-clause-words g c =
     let b = c.args.b.now in
     let e = restored b.exp in
-    let test = homes_by b.entry e b.places (set.contains c.mark_saved.new.saved) (set.contains c.new-saved.result) c.mark_saved.ensures (λ x. ap (λ s. set.contains s x) c.new-saved.ensures ∙ contains-empty x) in
+    let test =
+    homes_by b.entry e b.places (set.contains c.mark_saved.new.saved) (set.contains c.new-saved.result) c.mark_saved.ensures
+    (λ x. ap (λ s. set.contains s x) c.new-saved.ensures ∙ contains-empty x) in
     (room_is b.entry e b.places _ _ _ _ _ (set.contains c.mark_saved.new.saved) _ c.as_slice-places.ensures c.late_slots.ensures c.slots_end-first.ensures
     test c.in_ok-homes.ensures.homes c.in_ok-homes.ensures.end c.in_ok-words.ensures).1.1

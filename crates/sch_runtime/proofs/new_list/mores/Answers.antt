@@ -1,6 +1,5 @@
-use Rattle.std.proofs.Common.{◌≡◌, ℕ, ◌+◌, ◌<◌, List, [], ◌∷◌, ◌++◌, drop, length, refl, sym, ap, ◌∙◌, arith}
+use Rattle.std.proofs.Common.{◌≡◌, ℕ, ◌+◌, ◌<◌, [], ◌∷◌, ◌++◌, drop, refl, ap, ◌∙◌, arith}
 use Rattle.sch_word.specs.values.Registers.{argument_registers}
-use Rattle.sch_asm.specs.declared.item.Item.{Item}
 use Rattle.sch_select_memory.specs.RestCode.{later_registers, more_code, registers_code}
 use Rattle.sch_runtime.proofs.EachRegister.{one_further}
 use Rattle.sch_runtime.proofs.new_list.mores.Goals as goal

@@ -1,8 +1,9 @@
 use Rattle.std.proofs.Common.{◌≡◌, ℕ, List, [], ◌∷◌, ◌++◌, ap, ◌∙◌, append_assoc, pos}
 use Rattle.std.proofs.lemmas.Result.{on_ok_weaker}
+use Rattle.sch_word.specs.declared.registers.TheConstants.{HEAP_REGISTER}
 use Rattle.sch_insn.specs.declared.insn.Arg.TheVariants.{Reg}
 use Rattle.sch_insn.specs.declared.insn.Insn.TheVariants.{MovTo, AddNumber, Shr}
-use Rattle.sch_insn.specs.declared.register.TheConstants.{RAX, RCX, RDX, R12}
+use Rattle.sch_insn.specs.declared.register.TheConstants.{RAX, RCX, RDX}
 use Rattle.sch_asm.specs.declared.item.Item.{Item}
 use Rattle.sch_asm.specs.declared.item.Item.TheVariants as item
 use Rattle.sch_asm.specs.declared.routine.Routine.TheVariants.{FillBytes}
@@ -22,7 +23,7 @@ abbrev made_items : ℕ → List Item
 made_items fill =
     item.Plain (MovTo (part_operand 0) RAX) ∷ (item.Plain (Shr (Reg RCX) character_shift)
     ∷ (item.Plain (MovTo (Reg RDX) RAX) ∷ (item.Plain (Shr (Reg RDX) fixnum_shift)
-    ∷ (item.Plain (MovTo (Reg RAX) R12) ∷ (item.Plain (AddNumber (Reg RAX) (pos 8)) ∷ (item.Jump fill ∷ []))))))
+    ∷ (item.Plain (MovTo (Reg RAX) HEAP_REGISTER) ∷ (item.Plain (AddNumber (Reg RAX) (pos 8)) ∷ (item.Jump fill ∷ []))))))
 
 -- a label and four parts, one behind the other
 parts_joined : (a z b c d e : List Item) (heap_end entry fill : ℕ) → z ≡ a ++ item.Label entry ∷ [] → entry ≡ string_label

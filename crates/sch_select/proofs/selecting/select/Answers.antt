@@ -2,6 +2,7 @@ use Rattle.std.proofs.Common.{◌≡◌, ℕ, List, ap, ◌∙◌, ◌+◌, ◌*
 use Rattle.std.specs.Prelude.{IsTrue, None, false}
 use Rattle.std.specs.List.{list_all}
 use Rattle.std.proofs.Math.Nat.{le_trans}
+use Rattle.sch_word.specs.runs.ProgramLayout.{max_data_size}
 use Rattle.sch_word.specs.values.LiteralView.{literals_of}
 use Rattle.sch_word.specs.values.StaticsView.{statics}
 use Rattle.sch_asm.specs.declared.assembly.Word.{Word}
@@ -18,7 +19,7 @@ use Rattle.sch_select_data.proofs.literals.PlacedLiterals.{placed_objects, place
 use Rattle.sch_select_data.proofs.literals.Rows.{count_rows}
 use Rattle.sch_select_data.specs.Data.{static_count, objects_unit, names_of, closures_of, heap_of, max_heap_address}
 use Rattle.sch_select_data.specs.Data.{data_words, program_words}
-use Rattle.sch_select.specs.Program.{labels_of, max_data, max_stack, program_code, program_zeros, own_label, selected_code, stack_bytes}
+use Rattle.sch_select.specs.Program.{labels_of, max_stack, program_code, program_zeros, own_label, selected_code, stack_bytes}
 use Rattle.sch_select_memory.specs.Addresses.{max_heap_end, max_labels, names_address}
 use Rattle.sch_select.specs.MarkedStores.{stores_marked}
 use Rattle.sch_select.specs.FrameWords.{keeps_frame}
@@ -266,7 +267,7 @@ pub returns-clause-ends : goal.returns-clause-ends
 returns-clause-ends c =
     let p = c.args.p.now in
     let l = c.args.limits in
-    made c.before (λ is ws z. 8 * length ws + z ≤ max_data) (data_end (source p) l.heap l.depth
+    made c.before (λ is ws z. 8 * length ws + z ≤ max_data_size) (data_end (source p) l.heap l.depth
     (length (program_words (source p))) (stack_few c.before) (ends_there c.before) (low c.before) l.admitted.heap_high)
 
 pub returns-clause-zeros : goal.returns-clause-zeros

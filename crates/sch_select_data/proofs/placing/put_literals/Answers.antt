@@ -1,11 +1,11 @@
-use Rattle.std.proofs.Common.{◌≡◌, ◌≤◌, ℕ, ◌+◌, List, [], ◌∷◌, ◌++◌, length, reverse, sym, ap, ◌∙◌, subst, arith}
+use Rattle.std.proofs.Common.{◌≡◌, ◌≤◌, ℕ, ◌+◌, [], ◌∷◌, ◌++◌, reverse, ap, ◌∙◌, subst, arith}
 use Rattle.sch_word.specs.trees.InOrder.{AreInOrder}
-use Rattle.sch_word.specs.values.Literals.{Literal, literals}
+use Rattle.sch_word.specs.values.Literals.{literals}
 use Rattle.sch_word.specs.values.LiteralView.{literal, literals_of}
 use Rattle.sch_word.specs.values.LiteralParts.{parts, plain, lent}
 use Rattle.sch_word.proofs.facts.TreesInOrder.{ComeBefore, back_begun, back_ended}
 use Rattle.sch_select_data.specs.PlacedView.{in_turn, ArePut}
-use Rattle.sch_select_data.specs.PlacedWords.{units_in_each, own_units, ArePlaced}
+use Rattle.sch_select_data.specs.PlacedWords.{units_in_each}
 use Rattle.sch_select_data.proofs.literals.NodeUnits.{units_of_order, last_parts, last_room}
 use Rattle.sch_select_data.proofs.literals.PutSteps.{none_placed, values_there}
 use Rattle.sch_select_data.proofs.literals.Sizes.{units_bound}

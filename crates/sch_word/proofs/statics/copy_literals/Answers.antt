@@ -1,11 +1,12 @@
 use Rattle.std.proofs.Common.{◌≡◌, [], ◌∷◌, ◌++◌, length, take, sym, ap, ◌∙◌, subst, arith}
 use Rattle.std.proofs.lemmas.List.{map-append, append_cancel_left}
 use Rattle.std.proofs.lemmas.Result.{IfOk-weaker}
+use Rattle.std.proofs.Math.Seq.{take-length}
 use Rattle.sch_word.specs.trees.InOrder.{AreInOrder}
 use Rattle.sch_word.specs.values.LiteralView.{literal}
 use Rattle.sch_word.specs.values.LiteralParts.{parts, plain, lent, lent_literal}
 use Rattle.sch_word.specs.values.MadeView.{made}
-use Rattle.sch_word.proofs.facts.Lists.{map_length, take_whole}
+use Rattle.sch_word.proofs.facts.Lists.{map_length}
 use Rattle.sch_word.proofs.facts.TreesInOrder.{ComeBefore, back_begun, parts_there, back_ended}
 use Rattle.sch_word.proofs.worked.LiteralRows.{same_literals}
 use Rattle.sch_word.proofs.statics.copy_literals.Goals as goal
@@ -47,5 +48,5 @@ returns c =
     let none = ap lent c.in_default.ensures.0 in
     let all = back_ended parts (made c.each.copies) (plain c.args.ls.now) (subst (λ o. ComeBefore parts o (made c.each.copies) (plain c.args.ls.now)) none c.each.invariant) in
     let whole : take c.len.result (made c.each.copies) ≡ plain c.args.ls.now =
-    ap (take c.len.result) all ∙ ap (λ k. take k (plain c.args.ls.now)) (c.len.ensures ∙ sym (map_length literal c.args.ls.now)) ∙ take_whole (plain c.args.ls.now) in
+    ap (take c.len.result) all ∙ ap (λ k. take k (plain c.args.ls.now)) (c.len.ensures ∙ sym (map_length literal c.args.ls.now)) ∙ take-length (plain c.args.ls.now) in
     IfOk-weaker c.take.result _ _ (λ copies h. same_literals copies c.args.ls.now (h ∙ whole)) c.take.ensures.taken

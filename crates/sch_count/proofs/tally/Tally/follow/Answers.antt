@@ -1,11 +1,13 @@
 use Rattle.std.proofs.Common.{◌≡◌, ◌<◌, ◌^◌, ◌++◌, length, sym, ap, ◌∙◌, subst, arith, length-append}
 use Rattle.std.specs.Prelude.{All}
+use Rattle.sch_word.proofs.facts.KnownErrors.{known_error}
 use Rattle.sch_step.specs.Machine.{core_of}
 use Rattle.sch_step.specs.Run.{Does}
+use Rattle.sch_count.specs.declared.error.CountError.TheVariants as count_error
 use Rattle.sch_count.specs.TracedCounts.{Follows}
 use Rattle.sch_count.specs.MarkTables.{table_marks}
 use Rattle.sch_count.specs.Tallied.{IsKnown, TalliesMarks}
-use Rattle.sch_count.proofs.MachineMarks.{counting_starts, exits, forgets, is_stuck, no_memory, one_address, rests, runs_on}
+use Rattle.sch_count.proofs.MachineMarks.{counting_starts, exits, forgets, is_stuck, one_address, rests, runs_on}
 use Rattle.sch_count.proofs.tally.Tally.follow.Goals as goal
 
 pub loop-i-init : goal.loop-i-init
@@ -46,7 +48,7 @@ returns-in_err-pass_all-clause-did g c =
     let f = table_marks c.args.table.now in
     let before = c.loop-i-test.true in
     subst (λ r. Does (Follows c.args.steps f (TalliesMarks c.pass_all.new.self) r c.args.m.now c.loop-i.m) (g.O.Outlet.bytes c.args.out.now) (g.O.Outlet.bytes c.loop-i.out) (g.O.Outlet.left c.args.out.now) (g.O.Outlet.left c.loop-i.out) (g.O.Outlet.faults c.args.out.now) (g.O.Outlet.faults c.loop-i.out))
-    (sym (no_memory c.from_residual.result c.from_residual.ensures.1))
+    (sym (known_error c.from_residual.result count_error.Memory c.from_residual.ensures.1))
     (forgets f (TalliesMarks c.pass_all.new.self) c.args.steps c.args.m.now c.loop-i.i p.events c.loop-i.m (g.O.Outlet.bytes c.args.out.now) (g.O.Outlet.bytes c.loop-i.out) (g.O.Outlet.left c.args.out.now) (g.O.Outlet.left c.loop-i.out) (g.O.Outlet.faults c.args.out.now) (g.O.Outlet.faults c.loop-i.out) p.on p.follows (omega (arith, before)))
 
 pub returns-in-Exited-clause-did : goal.returns-in-Exited-clause-did

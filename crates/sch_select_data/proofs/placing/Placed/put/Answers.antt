@@ -1,4 +1,4 @@
-use Rattle.std.proofs.Common.{◌≡◌, ◌≤◌, ℕ, ◌+◌, ◌-◌, ◌/◌, List, [], ◌∷◌, ◌++◌, length, drop, sym, ap, subst, ◌∙◌, arith, length-append, length-drop}
+use Rattle.std.proofs.Common.{◌≡◌, ◌≤◌, ℕ, ◌+◌, ◌-◌, ◌/◌, List, [], ◌∷◌, ◌++◌, length, sym, ap, subst, ◌∙◌, arith, length-append, length-drop}
 use Rattle.std.proofs.lemmas.Result.{on_ok_weaker}
 use Rattle.sch_word.specs.declared.literal.Lit.{Lit}
 use Rattle.sch_word.specs.values.Literals.{list, elements, count_literals}
@@ -8,7 +8,7 @@ use Rattle.sch_word.proofs.values.LiteralSteps.{plain_count}
 use Rattle.sch_select_data.specs.ObjectWords.{string_contents}
 use Rattle.sch_select_data.specs.PlacedView.{in_turn, IsPut}
 use Rattle.sch_select_data.specs.PlacedWords.{own_units}
-use Rattle.sch_select_data.proofs.literals.PutLiterals.{constant_put, taken_count, text_units, text_put, vector_units, vector_put, list_put}
+use Rattle.sch_select_data.proofs.literals.PutLiterals.{taken_count, text_units, text_put, vector_units, vector_put, list_put}
 use Rattle.sch_select_data.proofs.literals.Rows.{count_rows}
 use Rattle.sch_select_data.proofs.placing.Placed.put.Goals as goal
 
