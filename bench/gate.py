@@ -6,6 +6,11 @@ It looks at the prover's processes ten times a second: what a process took after
 from its crate, and stands in the line `rest` with what the gate itself took. With names of crates as words
 it is the run of these crates and those below them. `--watch PID` looks at a gate that runs already, from now
 to its end; what it took before is not seen, and there is no line `rest`.
+
+`--modules CRATE` runs no gate: it prints what of the last check of a crate from nothing took longest. A check
+of one job (`rt check --jobs 1`) keeps each module as it ends with it, so a module took as long as its file is
+younger than the one before. Of a function the module `Lts` is the walk over its code, and `Proof` the goals
+that have no answer of their own.
 """
 import collections
 import os
@@ -125,7 +130,26 @@ def table(taken):
     return sum(sums)
 
 
+def modules(crate):
+    """Prints the modules of a crate that took longest to check, with their seconds on the clock, and the sum of all."""
+    ends = []
+    for folder, _, names in os.walk(os.path.join(TOP, "crates", crate, "out", "incremental")):
+        for name in names:
+            if name.endswith(".oantt"):
+                ends.append((os.stat(os.path.join(folder, name)).st_mtime_ns / 1e9, name))
+    ends.sort()
+    took = collections.Counter()
+    for (before, _), (end, name) in zip(ends, ends[1:]):
+        took[name.removesuffix(".oantt").removesuffix(".decls")] += end - before
+    for name, seconds in took.most_common(40):
+        print(f"{seconds:8.1f} {name}")
+    print(f"{took.total():8.1f} of {len(took)} modules")
+
+
 def main():
+    if sys.argv[1:2] == ["--modules"]:
+        modules(sys.argv[2])
+        return
     if sys.argv[1:2] == ["--watch"]:
         table(watch(int(sys.argv[2])))
         return

@@ -8,8 +8,9 @@ use Rattle.sch_word.specs.declared.primitive.Primitive.TheVariants.{Add, Car, Co
 use Rattle.sch_word.specs.values.Literals.{no_literals}
 use Rattle.sch_word.specs.runs.Runs.{ended}
 use Rattle.sch_flat.specs.Covered as from
+use Rattle.sch_flat.specs.Examples.{number}
 use Rattle.sch_flat.specs.Tree as flat
-use Rattle.sch_flat.specs.Tree.{Tree, constant, global, set_global, sequence, bind, call, operation, make_closure, variable, cell_set, trees}
+use Rattle.sch_flat.specs.Tree.{Tree, constant, global, set_global, sequence, call, operation, make_closure, variable, cell_set, trees}
 use Rattle.sch_control.specs.declared.operation.Atom.TheVariants as atom
 use Rattle.sch_control.specs.declared.operation.Operand.{Operand}
 use Rattle.sch_control.specs.declared.operation.Operand.TheVariants as operand
@@ -24,9 +25,6 @@ use Rattle.sch_control.specs.Sizes.{bind_within}
 use Rattle.sch_flat.specs.Measures.{variables, weight}
 use Rattle.sch_control.specs.Valid.{is_valid, code_valid}
 use Rattle.sch_anf_laws.specs.Normal.{normal, normal_source, new_label}
-
-abbrev number : ℕ → Tree
-number n = constant (Fixnum (pos n))
 
 abbrev fixed : ℕ → Operand ℕ
 fixed n = operand.Atom (atom.Constant (Fixnum (pos n)))

@@ -1,5 +1,6 @@
 -- What normalizing makes of a flat tree: an expression of the language Control.
 use Rattle.std.specs.Prelude.{ℕ, suc, ◌+◌, ◌-◌, Bool, true, false, ◌&&◌, ◌||◌, cond, nat_le, List, [], ◌∷◌, ◌++◌, length, map, take, drop, Option, Some, None, codes}
+use Rattle.std.specs.Option.{unwrap_or}
 use Rattle.sch_word.specs.declared.constant.Const.TheVariants.{Unspecified}
 use Rattle.sch_word.specs.trees.Bindings.{Bindings, bound_to, numbers, with_variables}
 use Rattle.sch_word.specs.runs.Orders.{order_or_none}
@@ -27,12 +28,8 @@ use Rattle.sch_control.specs.Tree.{Expression}
 abbrev pub Scope : Type 0
 Scope = Bindings ℕ
 
-abbrev pub number_or_zero : Option ℕ → ℕ
-number_or_zero None = 0
-number_or_zero (Some y) = y
-
 abbrev pub number_of : Scope → ℕ → ℕ
-number_of scope x = number_or_zero (bound_to x scope)
+number_of scope x = unwrap_or (bound_to x scope) 0
 
 -- a variable of the body, or a field of the closure in variable 1
 abbrev pub source_of : Scope → Variable → Source ℕ

@@ -16,6 +16,7 @@ use Rattle.sch_insn.proofs.Paths.{leads_step}
 use Rattle.sch_asm.specs.declared.item.Item.{Item}
 use Rattle.sch_asm.specs.declared.item.Item.TheVariants.{Jump, JumpIf, LoadLabel, LoadWord, StoreWord}
 use Rattle.sch_word.specs.declared.mark.MarkKind.{MarkKind}
+use Rattle.sch_word.specs.runs.ProgramLayout.{data_address}
 use Rattle.sch_asm.specs.Stands.{Setting, Found, Stands, GoesTo, BranchesTo}
 use Rattle.sch_asm.specs.Data.{data_at, word_in, with_word, Inside}
 use Rattle.sch_asm.specs.Views.{View, full, Leads}
@@ -102,35 +103,35 @@ module _ (setting : Setting) where
   stores_number x v n a m waiting f e h = goes x _ (insn.MovNumber m v) n waiting f (number_performs x v (x.place + n) a m e h)
 
   abbrev byte_loaded : View → ℕ → ℕ → ℕ → View
-  byte_loaded x r next a = record x { registers = set_register x.registers r (first_or_0 (drop (a - 0x10000000) x.bytes)); place = next }
+  byte_loaded x r next a = record x { registers = set_register x.registers r (first_or_0 (drop (a - data_address) x.bytes)); place = next }
 
-  byte_read_by : (x : View) (r next a b : ℕ) → b ≡ a → 0x10000000 ≤ a → a < 0x10000000 + length x.bytes → loaded_to x r next (byte_at (memory setting x.bytes) b) ≡ Runs (full setting (byte_loaded x r next a))
+  byte_read_by : (x : View) (r next a b : ℕ) → b ≡ a → data_address ≤ a → a < data_address + length x.bytes → loaded_to x r next (byte_at (memory setting x.bytes) b) ≡ Runs (full setting (byte_loaded x r next a))
   byte_read_by x r next a b e low high = ap (loaded_to x r next) (ap (byte_at (memory setting x.bytes)) e ∙ loads_byte setting x.bytes a low high)
 
-  load_byte_performs : (x : View) (r next a : ℕ) (m : Arg) → Names x next m a → 0x10000000 ≤ a → a < 0x10000000 + length x.bytes → perform (insn.LoadByte r m) next (full setting x) ≡ Runs (full setting (byte_loaded x r next a))
+  load_byte_performs : (x : View) (r next a : ℕ) (m : Arg) → Names x next m a → data_address ≤ a → a < data_address + length x.bytes → perform (insn.LoadByte r m) next (full setting x) ≡ Runs (full setting (byte_loaded x r next a))
   load_byte_performs x r next a (Reg b) e low high = absurd e
   load_byte_performs x r next a (Base b) e low high = byte_read_by x r next a _ e low high
   load_byte_performs x r next a (Base8 b d) e low high = byte_read_by x r next a _ e low high
   load_byte_performs x r next a (Base32 b d) e low high = byte_read_by x r next a _ e low high
   load_byte_performs x r next a (Rip d) e low high = byte_read_by x r next a _ e low high
 
-  pub loads_one_byte : (x : View) (r n a : ℕ) (m : Arg) (waiting : List MarkKind) → Found setting x.place (insn.LoadByte r m) n waiting → Names x (x.place + n) m a → 0x10000000 ≤ a → a < 0x10000000 + length x.bytes → Leads setting 1 1 waiting x (byte_loaded x r (x.place + n) a)
+  pub loads_one_byte : (x : View) (r n a : ℕ) (m : Arg) (waiting : List MarkKind) → Found setting x.place (insn.LoadByte r m) n waiting → Names x (x.place + n) m a → data_address ≤ a → a < data_address + length x.bytes → Leads setting 1 1 waiting x (byte_loaded x r (x.place + n) a)
   loads_one_byte x r n a m waiting f e low high = goes x _ (insn.LoadByte r m) n waiting f (load_byte_performs x r (x.place + n) a m e low high)
 
   abbrev byte_stored : View → ℕ → ℕ → ℕ → View
   byte_stored x v next a = record x { bytes = with_byte x.bytes a v; place = next }
 
-  byte_written_by : (x : View) (v next a b : ℕ) → b ≡ a → 0x10000000 ≤ a → a < 0x10000000 + length x.bytes → stored_to x next b (stored (memory setting x.bytes) b (v ∷ [])) ≡ Runs (full setting (byte_stored x v next a))
+  byte_written_by : (x : View) (v next a b : ℕ) → b ≡ a → data_address ≤ a → a < data_address + length x.bytes → stored_to x next b (stored (memory setting x.bytes) b (v ∷ [])) ≡ Runs (full setting (byte_stored x v next a))
   byte_written_by x v next a b e low high = ap (λ b. stored_to x next b (stored (memory setting x.bytes) b (v ∷ []))) e ∙ ap (stored_to x next a) (stores_byte setting x.bytes a v low high)
 
-  store_byte_performs : (x : View) (r next a : ℕ) (m : Arg) → Names x next m a → 0x10000000 ≤ a → a < 0x10000000 + length x.bytes → perform (insn.StoreByte m r) next (full setting x) ≡ Runs (full setting (byte_stored x (x.registers r % 256) next a))
+  store_byte_performs : (x : View) (r next a : ℕ) (m : Arg) → Names x next m a → data_address ≤ a → a < data_address + length x.bytes → perform (insn.StoreByte m r) next (full setting x) ≡ Runs (full setting (byte_stored x (x.registers r % 256) next a))
   store_byte_performs x r next a (Reg b) e low high = absurd e
   store_byte_performs x r next a (Base b) e low high = byte_written_by x (x.registers r % 256) next a _ e low high
   store_byte_performs x r next a (Base8 b d) e low high = byte_written_by x (x.registers r % 256) next a _ e low high
   store_byte_performs x r next a (Base32 b d) e low high = byte_written_by x (x.registers r % 256) next a _ e low high
   store_byte_performs x r next a (Rip d) e low high = byte_written_by x (x.registers r % 256) next a _ e low high
 
-  pub stores_one_byte : (x : View) (r n a : ℕ) (m : Arg) (waiting : List MarkKind) → Found setting x.place (insn.StoreByte m r) n waiting → Names x (x.place + n) m a → 0x10000000 ≤ a → a < 0x10000000 + length x.bytes → Leads setting 1 1 waiting x (byte_stored x (x.registers r % 256) (x.place + n) a)
+  pub stores_one_byte : (x : View) (r n a : ℕ) (m : Arg) (waiting : List MarkKind) → Found setting x.place (insn.StoreByte m r) n waiting → Names x (x.place + n) m a → data_address ≤ a → a < data_address + length x.bytes → Leads setting 1 1 waiting x (byte_stored x (x.registers r % 256) (x.place + n) a)
   stores_one_byte x r n a m waiting f e low high = goes x _ (insn.StoreByte m r) n waiting f (store_byte_performs x r (x.place + n) a m e low high)
 
   -- ---- jumps: only here it is seen which form one has

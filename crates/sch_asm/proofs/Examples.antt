@@ -7,7 +7,7 @@ use Rattle.sch_insn.specs.declared.insn.Arg.TheVariants.{Rip}
 use Rattle.sch_insn.specs.declared.insn.Insn.{Insn}
 use Rattle.sch_insn.specs.declared.insn.Insn.TheVariants as insn
 use Rattle.sch_insn.specs.declared.condition.TheConstants.{L}
-use Rattle.sch_insn.specs.declared.register.TheConstants.{RAX, RBX, RSI, R11, R12}
+use Rattle.sch_word.specs.declared.registers.TheConstants.{RAX, RBX, RSI, R11, R12}
 use Rattle.sch_asm.specs.declared.assembly.Word.TheVariants.{Fixed, Address}
 use Rattle.sch_asm.specs.declared.error.AsmError.TheVariants.{TextTooLarge}
 use Rattle.sch_asm.specs.declared.item.Item.{Item}

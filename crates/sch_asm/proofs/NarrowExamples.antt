@@ -5,7 +5,7 @@ use Rattle.sch_insn.specs.declared.insn.Arg.{Arg}
 use Rattle.sch_insn.specs.declared.insn.Arg.TheVariants.{Reg, Base, Base8, Base32, Rip}
 use Rattle.sch_insn.specs.declared.insn.Insn.{Insn}
 use Rattle.sch_insn.specs.declared.insn.Insn.TheVariants as insn
-use Rattle.sch_insn.specs.declared.register.TheConstants.{RAX, RDX, RBP, R12}
+use Rattle.sch_word.specs.declared.registers.TheConstants.{RAX, RDX, RBP, R12}
 use Rattle.sch_asm.specs.declared.item.Item.TheVariants.{Label, Plain}
 use Rattle.sch_asm.specs.Narrow.{is_byte, is_narrow, is_narrow_item, narrow, narrowed}
 

@@ -12,6 +12,7 @@ use Rattle.sch_asm.specs.declared.item.Item.{Item}
 use Rattle.sch_asm.specs.declared.item.Item.TheVariants.{Label, Plain, Jump, JumpIf, LoadLabel, LoadWord, StoreWord, Mark}
 use Rattle.sch_asm.specs.declared.item.Mark as mark
 use Rattle.sch_word.specs.declared.mark.MarkKind.{MarkKind}
+use Rattle.sch_word.specs.runs.ProgramLayout.{data_address}
 use Rattle.sch_asm.specs.Items.{marks_arrive}
 use Rattle.sch_asm.specs.Codes.{Codes}
 use Rattle.sch_asm.specs.Stands.{Setting, Stands, marks_at}
@@ -71,7 +72,7 @@ module _ (all : List mark.Mark) where
       by false t = ap (λ t. cond t (m ∷ marks_at rest b) (marks_at rest b)) (ne_eqb a b (λ e. eqb-false b a t (sym e)))
 
 -- Items stand in a text whose instructions they are resolved to.
-module _ (text : Segment) (place_of : ℕ → ℕ) (all : List mark.Mark) (apart : text.address + length text.bytes ≤ 0x10000000) where
+module _ (text : Segment) (place_of : ℕ → ℕ) (all : List mark.Mark) (apart : text.address + length text.bytes ≤ data_address) where
   abbrev pub setting_of : Setting
   setting_of = record { text = text; marks = marks_at all; place_of = place_of; apart = apart }
 

@@ -9,6 +9,7 @@ use Rattle.std.proofs.lemmas.Nat.{from_le_bytes-to_le_bytes_8}
 use Rattle.std.proofs.lemmas.Slice.{between-put_mid, between_is, take-put_mid_below, drop-put_mid}
 use borrow.Rule.Slice.PartMut.{put_mid}
 use Rattle.sch_word.specs.values.Memory.{Segment}
+use Rattle.sch_word.specs.runs.ProgramLayout.{data_address}
 use Rattle.sch_insn.specs.declared.state.StuckCause.{StuckCause}
 use Rattle.sch_insn.specs.Machine.{holds, bytes_from, put_bytes, with_bytes, behind_segment, stored, or_access, when_ok, word_at}
 use Rattle.sch_insn.proofs.PutSize.{size_put}
@@ -75,25 +76,25 @@ bytes_before bs k j n v within le =
 -- ---- by addresses: the word itself, other words, the bytes behind and before, and the size
 
 pub word_same : (bs : List ℕ) (a v : ℕ) → Inside (length bs) a → v < 2 ^ 64 → word_in (with_word bs a v) a ≡ v
-word_same bs a v h fits = from_same bs (a - 0x10000000) v (omega (arith, h.low, h.high)) fits
+word_same bs a v h fits = from_same bs (a - data_address) v (omega (arith, h.low, h.high)) fits
 
-pub word_other : (bs : List ℕ) (a v b : ℕ) → Inside (length bs) a → 0x10000000 ≤ b → (b + 8 ≤ a) ⊎ (a + 8 ≤ b) → word_in (with_word bs a v) b ≡ word_in bs b
+pub word_other : (bs : List ℕ) (a v b : ℕ) → Inside (length bs) a → data_address ≤ b → (b + 8 ≤ a) ⊎ (a + 8 ≤ b) → word_in (with_word bs a v) b ≡ word_in bs b
 word_other bs a v b h low far =
     ⊎_elim
-    (λ le. from_below bs (a - 0x10000000) (b - 0x10000000) v (omega (arith, h.low, h.high)) (omega (arith, h.low, low, le)))
-    (λ le. ap (from_le_bytes w64) (drop_above bs (a - 0x10000000) (b - 0x10000000) v (omega (arith, h.low, h.high)) (omega (arith, h.low, low, le))))
+    (λ le. from_below bs (a - data_address) (b - data_address) v (omega (arith, h.low, h.high)) (omega (arith, h.low, low, le)))
+    (λ le. ap (from_le_bytes w64) (drop_above bs (a - data_address) (b - data_address) v (omega (arith, h.low, h.high)) (omega (arith, h.low, low, le))))
     far
 
 pub size_kept : (bs : List ℕ) (a v : ℕ) → Inside (length bs) a → length (with_word bs a v) ≡ length bs
-size_kept bs a v h = length_put bs (a - 0x10000000) v (omega (arith, h.low, h.high))
+size_kept bs a v h = length_put bs (a - data_address) v (omega (arith, h.low, h.high))
 
 -- the bytes from an offset on that lies behind the word
-pub behind_word : (bs : List ℕ) (a v j : ℕ) → Inside (length bs) a → a + 8 ≤ 0x10000000 + j → drop j (with_word bs a v) ≡ drop j bs
-behind_word bs a v j h le = drop_above bs (a - 0x10000000) j v (omega (arith, h.low, h.high)) (omega (arith, h.low, le))
+pub behind_word : (bs : List ℕ) (a v j : ℕ) → Inside (length bs) a → a + 8 ≤ data_address + j → drop j (with_word bs a v) ≡ drop j bs
+behind_word bs a v j h le = drop_above bs (a - data_address) j v (omega (arith, h.low, h.high)) (omega (arith, h.low, le))
 
 -- n bytes from an offset on that end before the word
-pub before_word : (bs : List ℕ) (a v j n : ℕ) → Inside (length bs) a → 0x10000000 + (j + n) ≤ a → take n (drop j (with_word bs a v)) ≡ take n (drop j bs)
-before_word bs a v j n h le = bytes_before bs (a - 0x10000000) j n v (omega (arith, h.low, h.high)) (omega (arith, h.low, le))
+pub before_word : (bs : List ℕ) (a v j n : ℕ) → Inside (length bs) a → data_address + (j + n) ≤ a → take n (drop j (with_word bs a v)) ≡ take n (drop j bs)
+before_word bs a v j n h le = bytes_before bs (a - data_address) j n v (omega (arith, h.low, h.high)) (omega (arith, h.low, le))
 
 -- ---- loads and stores
 
@@ -101,21 +102,21 @@ module _ (setting : Setting) where
   abbrev pub memory : List ℕ → List Segment
   memory bs = setting.text ∷ data_at bs ∷ []
 
-  pub not_text : (a n : ℕ) → 0x10000000 ≤ a → 0 < n → holds setting.text a n ≡ false
+  pub not_text : (a n : ℕ) → data_address ≤ a → 0 < n → holds setting.text a n ≡ false
   not_text a n low some = go (setting.text.address + length setting.text.bytes) setting.apart
     where
-      go : (end : ℕ) → end ≤ 0x10000000 → (nat_le setting.text.address a && nat_le (a + n) end) ≡ false
+      go : (end : ℕ) → end ≤ data_address → (nat_le setting.text.address a && nat_le (a + n) end) ≡ false
       go end le = grind (arith, nat_tests)
 
-  pub in_data : (bs : List ℕ) (a n : ℕ) → 0x10000000 ≤ a → a + n ≤ 0x10000000 + length bs → holds (data_at bs) a n ≡ true
-  in_data bs a n low high = go (0x10000000 + length bs) high
+  pub in_data : (bs : List ℕ) (a n : ℕ) → data_address ≤ a → a + n ≤ data_address + length bs → holds (data_at bs) a n ≡ true
+  in_data bs a n low high = go (data_address + length bs) high
     where
-      go : (end : ℕ) → a + n ≤ end → (nat_le 0x10000000 a && nat_le (a + n) end) ≡ true
+      go : (end : ℕ) → a + n ≤ end → (nat_le data_address a && nat_le (a + n) end) ≡ true
       go end le = grind (arith, nat_tests)
 
   pub loads : (bs : List ℕ) (a : ℕ) → Inside (length bs) a → word_at (memory bs) a ≡ Ok (word_in bs a)
   loads bs a h =
-      let found : Option (List ℕ) = Some (drop (a - 0x10000000) bs) in
+      let found : Option (List ℕ) = Some (drop (a - data_address) bs) in
       let none : Option (List ℕ) = None in
       let read : Option (List ℕ) → Result ℕ StuckCause = λ o. when_ok (or_access a o) (λ l. Ok (from_le_bytes w64 l)) in
       ap (λ b. read (cond b (cond setting.text.readable (Some (drop (a - setting.text.address) setting.text.bytes)) none) (bytes_from (λ g. g.readable) (data_at bs ∷ []) a 8))) (not_text a 8 h.low (omega arith))

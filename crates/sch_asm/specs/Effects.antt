@@ -5,9 +5,11 @@ use Rattle.sch_word.specs.declared.answer.Answer.{Answer}
 use Rattle.sch_word.specs.runs.ProgramLayout.{data_address}
 use Rattle.sch_word.specs.values.Put.{put}
 use Rattle.sch_word.specs.runs.Stops.{status_of}
-use Rattle.sch_insn.specs.declared.register.TheConstants.{RAX, RCX, RDX, R11}
+use Rattle.sch_word.specs.declared.registers.TheConstants.{RAX, RCX, RDX, R11}
+use Rattle.sch_word.specs.declared.stop.Stop.TheVariants.{OutputFailed}
 use Rattle.sch_insn.specs.Step.{Exited, step}
 use Rattle.sch_asm.specs.declared.item.Item.{Item}
+use Rattle.sch_asm.specs.declared.routine.TheConstants.{OWN_WORDS}
 use Rattle.sch_asm.specs.declared.routine.Routine.{Routine}
 use Rattle.sch_asm.specs.declared.routine.Routine.TheVariants.{End, Stop, Put, PutFixnum, FillWords, FillBytes, PutValue, NewVector, NewString, NewList}
 use Rattle.sch_asm.specs.Stands.{Setting, Stands}
@@ -19,9 +21,9 @@ use Rattle.sch_asm.specs.Views.{View, full, Leads}
 abbrev pub is_scratch : ℕ → Bool
 is_scratch r = (r == RAX) || ((r == RCX) || ((r == RDX) || (r == R11)))
 
--- the bytes of the routines' own 64 words, with which the data begin
+-- the bytes of the routines' own words, with which the data begin
 abbrev pub own_size : ℕ
-own_size = 512
+own_size = 8 * OWN_WORDS
 
 -- What a routine needs of a machine: the data have the routines' own words and end below 2^63, and r11 has
 -- the address to which the routine returns.
@@ -97,7 +99,7 @@ module _ (setting : Setting) where
   -- A put that took the whole piece comes back, and any other is stop 74.
   abbrev pub PutEnds : Bool → View → ℕ → List ℕ → List Answer → Type 0
   PutEnds true x bound output left = Returns x bound output left
-  PutEnds false x bound output left = Stops x bound 74 output left
+  PutEnds false x bound output left = Stops x bound (status_of OutputFailed) output left
 
   -- A piece is written against the kernel's answers.
   abbrev pub Puts : View → ℕ → List ℕ → Type 0

@@ -14,4 +14,4 @@ pub use error::AsmError;
 pub use item::{Item, Mark};
 pub use narrowing::narrowed;
 pub use resolving::{Resolved, resolve};
-pub use routine::{FIRST_INNER_LABEL, FIRST_LABEL, LeftOver, Routine};
+pub use routine::{FIRST_INNER_LABEL, FIRST_LABEL, LeftOver, OWN_WORDS, Routine};

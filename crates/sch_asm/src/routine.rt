@@ -11,6 +11,9 @@ pub const FIRST_LABEL: u32 = 1024;
 /// The labels inside routines are this one or more.
 pub const FIRST_INNER_LABEL: u32 = 64;
 
+/// How many words of the data are the routines' own. With these the data begin.
+pub const OWN_WORDS: usize = 64;
+
 /// Which operands are left over for a list, by where the first of them was handed over: from one of the six argument
 /// registers on, or in slots alone.
 #[derive(Clone, Copy)]

@@ -9,7 +9,7 @@ use Rattle.sch_word.specs.runs.Computation.{Outcome, gives, stops, spent, State,
 use Rattle.sch_word.specs.runs.Runs.{seen, starting_state}
 use Rattle.sch_word.proofs.Similar.{Correspondence, Similar, SimilarOutcome, Same, similar_checked, similar_after}
 use Rattle.sch_word.proofs.SameStore.{Gives, Pairs, no_pairs, and_pair, pairs_length, pairs_append, SameEntry, checked_call_same}
-use Rattle.sch_assign.proofs.Worlds.{World, Cells, Grows, stays, on, Holds, holds_none, holds_plain, holds_boxed, boxes, rank, get_plain, get_boxed, set_holds, set_boxes, holds_append, boxes_append, rank_grow}
+use Rattle.sch_assign.proofs.Worlds.{World, Grows, stays, on, Holds, holds_none, holds_plain, holds_boxed, boxes, rank, get_plain, get_boxed, set_holds, set_boxes, holds_append, boxes_append, rank_grow}
 use Rattle.sch_word.proofs.Lengths.{procedures_length}
 use Rattle.sch_word.proofs.facts.Lists.{get_grown}
 
@@ -23,13 +23,13 @@ boxed_count [] = zero
 boxed_count (Some v ∷ w) = boxed_count w
 boxed_count (None ∷ w) = suc (boxed_count w)
 
-count_boxes : {w : World} {cs : Cells} → Holds w cs → length (boxes w cs) ≡ boxed_count w
+count_boxes : {w : World} {cs : List (Option Value)} → Holds w cs → length (boxes w cs) ≡ boxed_count w
 unfolding boxed_count
 count_boxes holds_none = refl
 count_boxes (holds_plain v h) = count_boxes h
 count_boxes (holds_boxed c h) = ap suc (count_boxes h)
 
-holds_length : {w : World} {cs : Cells} → Holds w cs → length cs ≡ length w
+holds_length : {w : World} {cs : List (Option Value)} → Holds w cs → length cs ≡ length w
 holds_length holds_none = refl
 holds_length (holds_plain v h) = ap suc (holds_length h)
 holds_length (holds_boxed c h) = ap suc (holds_length h)
@@ -76,7 +76,7 @@ module _ {P Q : Type 0} (Becomes : World → P → Q → Type 0) (grow : (w w' :
   abbrev pub DoesSame : {V : Type 0} → World → Computation P V → Computation Q V → Type 0
   DoesSame w c d = Similar link (Same link) w c d
 
-  store_kept : {V : Type 0} (Promise : V → Type 0) (w : World) (a : Outcome Store V) (cs : Cells) (ps : List P) (qs : List Q) → Gives Promise a → Holds w cs → Pairs (Becomes w) ps qs → SimilarOutcome link (λ _ v v'. (v ≡ v') × Promise v) w (with_rest cs ps a) (with_rest (boxes w cs) qs a)
+  store_kept : {V : Type 0} (Promise : V → Type 0) (w : World) (a : Outcome Store V) (cs : List (Option Value)) (ps : List P) (qs : List Q) → Gives Promise a → Holds w cs → Pairs (Becomes w) ps qs → SimilarOutcome link (λ _ v v'. (v ≡ v') × Promise v) w (with_rest cs ps a) (with_rest (boxes w cs) qs a)
   store_kept Promise w (gives v t) cs ps qs k h p = (w, _, v, stays w, record { qs = qs; holds = h; pairs = p; is = refl }, (refl, k), refl)
   store_kept Promise w (stops why t) cs ps qs k h p = (w, _, stays w, record { qs = qs; holds = h; pairs = p; is = refl }, refl)
   store_kept Promise w (spent t) cs ps qs k h p = (w, _, stays w, record { qs = qs; holds = h; pairs = p; is = refl }, refl)
@@ -84,7 +84,7 @@ module _ {P Q : Type 0} (Becomes : World → P → Q → Type 0) (grow : (w w' :
   pub keeps_in_store : {V : Type 0} {w : World} (Promise : V → Type 0) (action : Action V) → ((t : Store) → Gives Promise (action t)) → Similar link (λ _ v v'. (v ≡ v') × Promise v) w (in_store action) (in_store action)
   keeps_in_store Promise action k = record { from = λ w0 g s t r. rw r.is (store_kept Promise w0 (action s.store) s.cells s.procedures r.qs (k s.store) r.holds r.pairs) }
 
-  store_same : {V : Type 0} (w : World) (a : Outcome Store V) (cs : Cells) (ps : List P) (qs : List Q) → Holds w cs → Pairs (Becomes w) ps qs → SimilarOutcome link (Same link) w (with_rest cs ps a) (with_rest (boxes w cs) qs a)
+  store_same : {V : Type 0} (w : World) (a : Outcome Store V) (cs : List (Option Value)) (ps : List P) (qs : List Q) → Holds w cs → Pairs (Becomes w) ps qs → SimilarOutcome link (Same link) w (with_rest cs ps a) (with_rest (boxes w cs) qs a)
   store_same w (gives v t) cs ps qs h p = (w, _, v, stays w, record { qs = qs; holds = h; pairs = p; is = refl }, refl, refl)
   store_same w (stops why t) cs ps qs h p = (w, _, stays w, record { qs = qs; holds = h; pairs = p; is = refl }, refl)
   store_same w (spent t) cs ps qs h p = (w, _, stays w, record { qs = qs; holds = h; pairs = p; is = refl }, refl)

@@ -3,11 +3,10 @@
 use Rattle.std.proofs.Common.{◌≡◌, ℕ, Bool, true, false, List, ◌++◌, refl, sym, ◌∙◌}
 use Rattle.std.specs.Prelude.{IsTrue, ◌||◌, ◌&&◌, nat_eq}
 use Rattle.std.proofs.lemmas.Bool.{eqb-true}
-use Rattle.sch_word.proofs.facts.Booleans.{neither, not_left, not_right}
+use Rattle.sch_word.proofs.facts.Booleans.{neither, not_left, not_right, and_parts}
 use Rattle.sch_word.proofs.facts.NumberSets.{has_append}
 use Rattle.sch_word.specs.trees.NumberSets.{has}
 use Rattle.sch_word.specs.trees.Bindings.{numbers, scope_with}
-use Rattle.sch_word.proofs.Shaped.{parts}
 use Rattle.sch_cells.specs.Tree.{Tree, Trees, Lambdas, constant, literal, variable, global, set_variable, set_global, define, branch, sequence, bind, fix, letrec, lambda, call, operation, new_cells, cell_get, cell_set, no_trees, and_tree, no_lambdas, and_lambda, count, count_lambdas}
 use Rattle.sch_cells.specs.Variables.{scope_of, cells_bound, cells_used, all_in, assigns, assigns_each, assigns_lambdas, bound, bound_each, bound_lambdas, closed, closed_each, closed_lambdas}
 use Rattle.sch_cells.proofs.Clearing.{scope_has, list_has}
@@ -33,34 +32,34 @@ mutual
   not_celled (variable x) S y k s b = refl
   not_celled (global g) S y k s b = refl
   not_celled (set_variable x e) S y k s b =
-      let p = parts (has x S) (closed e S) k in
+      let p = and_parts (has x S) (closed e S) k in
       neither (nat_eq x y) (celled e y) (not_used x y S p.0 s) (not_celled e S y p.1 s b)
   not_celled (set_global g e) S y k s b = not_celled e S y k s b
   not_celled (define g e) S y k s b = not_celled e S y k s b
   not_celled (branch t u v) S y k s b =
-      let p = parts (closed t S) (closed u S && closed v S) k in
-      let q = parts (closed u S) (closed v S) p.1 in
+      let p = and_parts (closed t S) (closed u S && closed v S) k in
+      let q = and_parts (closed u S) (closed v S) p.1 in
       let r = not_second y (bound t) (bound u ++ bound v) b in
       neither (celled t y) (celled u y || celled v y) (not_celled t S y p.0 s (not_first y (bound t) (bound u ++ bound v) b))
       (neither (celled u y) (celled v y) (not_celled u S y q.0 s (not_first y (bound u) (bound v) r)) (not_celled v S y q.1 s (not_second y (bound u) (bound v) r)))
   not_celled (sequence es) S y k s b = none_celled es S y k s b
   not_celled (bind site x es e) S y k s b =
       let m = count es in
-      let p = parts (closed_each es S) (closed e (scope_with x m S)) k in
+      let p = and_parts (closed_each es S) (closed e (scope_with x m S)) k in
       let g = not_first y (numbers x m) (bound_each es ++ bound e) b in
       let r = not_second y (numbers x m) (bound_each es ++ bound e) b in
       neither (celled_each es y) (celled e y) (none_celled es S y p.0 s (not_first y (bound_each es) (bound e) r))
       (not_celled e (scope_with x m S) y p.1 (scope_has y x m S g s) (not_second y (bound_each es) (bound e) r))
   not_celled (fix x ls e) S y k s b =
       let m = count_lambdas ls in
-      let p = parts (closed_lambdas ls (scope_with x m S)) (closed e (scope_with x m S)) k in
+      let p = and_parts (closed_lambdas ls (scope_with x m S)) (closed e (scope_with x m S)) k in
       let g = scope_has y x m S (not_first y (numbers x m) (bound_lambdas ls ++ bound e) b) s in
       let r = not_second y (numbers x m) (bound_lambdas ls ++ bound e) b in
       neither (celled_lambdas ls y) (celled e y) (no_lambda_celled ls (scope_with x m S) y p.0 g (not_first y (bound_lambdas ls) (bound e) r))
       (not_celled e (scope_with x m S) y p.1 g (not_second y (bound_lambdas ls) (bound e) r))
   not_celled (letrec site x es e) S y k s b =
       let m = count es in
-      let p = parts (closed_each es (scope_with x m S)) (closed e (scope_with x m S)) k in
+      let p = and_parts (closed_each es (scope_with x m S)) (closed e (scope_with x m S)) k in
       let f = not_first y (numbers x m) (bound_each es ++ bound e) b in
       let g = scope_has y x m S f s in
       let r = not_second y (numbers x m) (bound_each es ++ bound e) b in
@@ -70,25 +69,25 @@ mutual
   not_celled (lambda name x m rest e) S y k s b =
       not_celled e (scope_with x m S) y k (scope_has y x m S (not_first y (numbers x m) (bound e) b) s) (not_second y (numbers x m) (bound e) b)
   not_celled (call site spread f es) S y k s b =
-      let p = parts (closed f S) (closed_each es S) k in
+      let p = and_parts (closed f S) (closed_each es S) k in
       neither (celled f y) (celled_each es y) (not_celled f S y p.0 s (not_first y (bound f) (bound_each es) b)) (none_celled es S y p.1 s (not_second y (bound f) (bound_each es) b))
   not_celled (operation site which es) S y k s b = none_celled es S y k s b
   not_celled (new_cells cs e) S y k s b =
-      let p = parts (all_in (cells_used cs) S) (closed e (scope_of (cells_bound cs) S)) k in
+      let p = and_parts (all_in (cells_used cs) S) (closed e (scope_of (cells_bound cs) S)) k in
       not_celled e (scope_of (cells_bound cs) S) y p.1 (list_has y (cells_bound cs) S (not_first y (cells_bound cs) (bound e) b) s) (not_second y (cells_bound cs) (bound e) b)
   not_celled (cell_get x) S y k s b = refl
-  not_celled (cell_set x e) S y k s b = not_celled e S y (parts (has x S) (closed e S) k).1 s b
+  not_celled (cell_set x e) S y k s b = not_celled e S y (and_parts (has x S) (closed e S) k).1 s b
 
   pub none_celled : (es : Trees) (S : List ℕ) (y : ℕ) → IsTrue (closed_each es S) → has y S ≡ false → has y (bound_each es) ≡ false → celled_each es y ≡ false
   none_celled no_trees S y k s b = refl
   none_celled (and_tree e es) S y k s b =
-      let p = parts (closed e S) (closed_each es S) k in
+      let p = and_parts (closed e S) (closed_each es S) k in
       neither (celled e y) (celled_each es y) (not_celled e S y p.0 s (not_first y (bound e) (bound_each es) b)) (none_celled es S y p.1 s (not_second y (bound e) (bound_each es) b))
 
   pub no_lambda_celled : (ls : Lambdas) (S : List ℕ) (y : ℕ) → IsTrue (closed_lambdas ls S) → has y S ≡ false → has y (bound_lambdas ls) ≡ false → celled_lambdas ls y ≡ false
   no_lambda_celled no_lambdas S y k s b = refl
   no_lambda_celled (and_lambda name x m rest e ls) S y k s b =
-      let p = parts (closed e (scope_with x m S)) (closed_lambdas ls S) k in
+      let p = and_parts (closed e (scope_with x m S)) (closed_lambdas ls S) k in
       let f = not_first y (numbers x m) (bound e ++ bound_lambdas ls) b in
       let r = not_second y (numbers x m) (bound e ++ bound_lambdas ls) b in
       neither (celled e y) (celled_lambdas ls y) (not_celled e (scope_with x m S) y p.0 (scope_has y x m S f s) (not_first y (bound e) (bound_lambdas ls) r))

@@ -10,8 +10,8 @@ use Rattle.sch_word.specs.trees.Bindings.{Bindings, bound_to, with_variables, sc
 use Rattle.sch_cells.specs.Variables.{assigns, cells_of}
 use Rattle.sch_cells.specs.Tree.{Tree}
 use Rattle.sch_cells.specs.BoxedMeaning.{with_cells, contents}
-use Rattle.sch_assign.specs.Converted.{and_cell, cells_for, Agree, AllAre, Low}
-use Rattle.sch_word.proofs.facts.NumberSets.{in_more}
+use Rattle.sch_assign.specs.Converted.{and_cell, cells_for, Agree, AllAre, Low, empty_cells}
+use Rattle.sch_word.proofs.facts.NumberSets.{in_deeper}
 use Rattle.sch_word.proofs.facts.NumberTests.{differ, same as self}
 
 -- y is none of the m from x on
@@ -48,10 +48,6 @@ in_outside x (suc m) y S h i =
     let j : (nat_eq y x || has y S) ≡ true = in_outside (suc x) m y (x ∷ S) (apart_next x m y h) i in
     rw d at j
 
-pub in_deeper : (x m y : ℕ) (S : List ℕ) → has y S ≡ true → has y (scope_with x m S) ≡ true
-in_deeper x zero y S h = h
-in_deeper x (suc m) y S h = in_deeper (suc x) m y (x ∷ S) (in_more y x S h)
-
 pub in_group : (x m i : ℕ) (S : List ℕ) → i < m → has (x + i) (scope_with x m S) ≡ true
 in_group x zero i S l = absurd (omega (arith, l))
 in_group x (suc m) zero S l =
@@ -78,6 +74,10 @@ pub numbers_get : {V : Type 0} (k i : ℕ) (vs : List V) → i < length vs → s
 numbers_get k i [] l = absurd (omega (arith, l))
 numbers_get k zero (v ∷ vs) l = ap Some (omega arith)
 numbers_get k (suc i) (v ∷ vs) l = numbers_get (suc k) i vs (omega (arith, l)) ∙ ap Some (omega arith)
+
+pub empty_length : (n x m : ℕ) → length (empty_cells n x m) ≡ m
+empty_length n x zero = refl
+empty_length n x (suc m) = ap suc (empty_length n (suc x) m)
 
 module _ (has_cell : ℕ → Bool) (n : ℕ) where
   -- how many of the variables from x on become cells

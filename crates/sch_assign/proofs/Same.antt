@@ -14,7 +14,7 @@ use Rattle.sch_cells.specs.Tree.{Tree, Trees, Lambdas, Source, constant, literal
 use Rattle.sch_word.specs.values.CellBytes.{cells_bytes}
 use Rattle.sch_word.specs.trees.Bindings.{Bindings, bound_to, value_or, value_of, with_variables, scope_with}
 use Rattle.sch_cells.specs.declared.tree.NewCell.{NewCell}
-use Rattle.sch_cells.specs.Clear.{In}
+use Rattle.sch_word.specs.trees.NumberSets.{In}
 use Rattle.sch_cells.specs.Variables.{cells_of}
 use Rattle.sch_cells.specs.UnboxedMeaning as from
 use Rattle.sch_cells.specs.UnboxedMeaning.{with_cell}
@@ -25,7 +25,7 @@ use Rattle.sch_word.specs.runs.Orders.{Orders, order_at}
 use Rattle.sch_assign.specs.Converted.{cells_for, empty_cells, wrapped, reading, filling, converted, converted_each, converted_lambdas, converted_source, Agree, AllAre, Low, Right, RightEach, RightLambdas}
 use Rattle.sch_assign.proofs.kept.FreeMoved.{AllLow, low_with, count_lambdas_same, lambda_free}
 use Rattle.sch_assign.proofs.Worlds.{World, Grows, stays, on, Holds, holds_none, holds_plain, holds_boxed, boxes, rank, rank_grow}
-use Rattle.sch_assign.proofs.Lookups.{Apart, Where, inside, outside, where_is, in_outside, in_group, outside_variables, inside_variables, numbers_get, one_more_if, count_before, charges_same, outside_cells, inside_cells, and_content, chosen, contents_are, chosen_length, all_next, all_first}
+use Rattle.sch_assign.proofs.Lookups.{Apart, Where, inside, outside, where_is, in_outside, in_group, outside_variables, inside_variables, numbers_get, one_more_if, count_before, charges_same, outside_cells, inside_cells, and_content, chosen, contents_are, chosen_length, all_next, all_first, empty_length}
 use Rattle.sch_assign.proofs.Boxes as boxes_lib
 use Rattle.sch_assign.proofs.Boxes.{similar_keeping, boxed_count, rank_behind, Made, Fixed}
 use Rattle.sch_word.proofs.Lengths.{some_length, unset_length, numbers_length}
@@ -204,10 +204,6 @@ module _ (has_cell : ℕ → Bool) (n : ℕ) where
   keys_length x zero h = refl
   keys_length x (suc m) h = rw (all_first has_cell n true x m h) (ap suc (keys_length (suc x) m (all_next has_cell n true x m h)))
 
-  empty_length : (x m : ℕ) → length (empty_cells n x m) ≡ m
-  empty_length x zero = refl
-  empty_length x (suc m) = ap suc (empty_length (suc x) m)
-
   empty_contents : (x m : ℕ) (env : Bindings Value) → contents (empty_cells n x m) env ≡ unset_each m
   empty_contents x zero env = refl
   empty_contents x (suc m) env = ap (λ l. None ∷ l) (empty_contents (suc x) m env)
@@ -261,14 +257,11 @@ module _ (has_cell : ℕ → Bool) (n : ℕ) where
           (k.0, look_to refl refl (ap value_or (outside_variables x y vs env' (record { at = λ i l e. p.at i (omega (arith, l, long)) e }))) (away y) k.1)
 
   -- the cells of a Rec, by their places
-  scope_has : (x m i : ℕ) (S : List ℕ) → i < m → In (x + i) (scope_with x m S)
-  scope_has x m i S l = in_group x m i S l
-
   cell_at : {w : World} (S : List ℕ) (env : Bindings ℕ) {env' : Bindings Value} (x m i : ℕ) → i < m → (cs : List ℕ) → length cs ≡ m → EnvRel w (scope_with x m S) (with_variables x cs env) env' → AllAre has_cell n true x m → Look w true (slice_get cs i) unspecified (value_of (x + i + n) env')
   cell_at {w} S env {env'} x m i l cs many h all =
       let a : has_cell (x + i) ≡ true = all.at i l in
       let o : bound_to (x + i) (with_variables x cs env) ≡ slice_get cs i = inside_variables x i cs env (omega (arith, l, many)) in
-      let k : Look w (has_cell (x + i)) (bound_to (x + i) (with_variables x cs env)) (value_of (x + i) env') (value_of (x + i + n) env') = (h.at (x + i) (scope_has x m i S l)).1 in
+      let k : Look w (has_cell (x + i)) (bound_to (x + i) (with_variables x cs env)) (value_of (x + i) env') (value_of (x + i + n) env') = (h.at (x + i) (in_group x m i S l)).1 in
       look_any unspecified (look_to (sym a) (sym o) refl refl k)
 
   -- ## Procedures
@@ -403,7 +396,7 @@ module _ (has_cell : ℕ → Bool) (n : ℕ) where
           (λ w2 g2 cs vs fixed. evaluate_same e depth tail (env_fix x (count_lambdas ls) cs vs r.0 r.1 fixed (env_grow w1 w2 g2 (env_grow w w1 g h))) r.3)))
       evaluate_same (letrec site x es e) {w} {S} {env} {env'} depth tail h r =
           let m = count es in
-          rw (empty_length x m, empty_contents x m env')
+          rw (empty_length n x m, empty_contents x m env')
           (similar_then link (boxes_lib.same_in_store Becomes grow (charge_each (cells_bytes m)))
           (λ w1 g _. similar_after link (boxes_lib.same_new_cells Becomes grow (unset_each m) (unset_each m) (unset_each m) (unset_holds m) (unset_boxes m) (λ k i l. numbers_get k i (unset_each m) l) (λ k. numbers_length k (unset_each m)))
           (λ w2 g2 cs ns made.

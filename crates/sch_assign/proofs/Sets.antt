@@ -4,9 +4,8 @@ use Rattle.std.specs.Prelude.{IsTrue, ◌||◌, ◌&&◌, not, nat_eq}
 use Rattle.std.proofs.lemmas.Bool.{eqb-true}
 use Rattle.sch_word.specs.trees.NumberSets.{has, unless, insert, union, without_repeats}
 use Rattle.sch_word.specs.trees.Bindings.{numbers, remove, without}
-use Rattle.sch_word.proofs.Shaped.{both_true}
 use Rattle.sch_cells.specs.Variables.{without_each}
-use Rattle.sch_word.proofs.facts.Booleans.{or_swap}
+use Rattle.sch_word.proofs.facts.Booleans.{or_swap, and_of}
 
 -- a set without those of which something holds
 abbrev pub drop : (ℕ → Bool) → List ℕ → List ℕ
@@ -95,7 +94,7 @@ distinct_insert x xs h = go (has x xs) refl
   where
     go : (b : Bool) → has x xs ≡ b → IsTrue (without_repeats (unless b x xs))
     go true e = h
-    go false e = both_true (ap not e) h
+    go false e = and_of _ _ (ap not e) h
 
 pub distinct_union : (xs ys : List ℕ) → IsTrue (without_repeats ys) → IsTrue (without_repeats (union xs ys))
 distinct_union [] ys h = h
@@ -124,7 +123,7 @@ distinct_drop p (x ∷ xs) h = go (p x) (first (has x xs) refl) (distinct_drop p
 
     go : (b : Bool) → has x xs ≡ false → IsTrue (without_repeats (drop p xs)) → IsTrue (without_repeats (unless b x (drop p xs)))
     go true e k = k
-    go false e k = both_true (ap not (fewer p x xs e)) k
+    go false e k = and_of _ _ (ap not (fewer p x xs e)) k
 
 pub union_nothing : (xs : List ℕ) → IsTrue (without_repeats xs) → union xs [] ≡ xs
 union_nothing [] h = refl

@@ -4,7 +4,7 @@ use Rattle.sch_cells.specs.Tree.{Tree, Trees, Lambdas, Source, constant, literal
 use Rattle.sch_word.specs.trees.Bindings.{scope_with}
 use Rattle.sch_cells.specs.declared.tree.NewCell.{NewCell}
 use Rattle.sch_cells.specs.Variables.{assigns}
-use Rattle.sch_cells.specs.Clear.{In}
+use Rattle.sch_word.specs.trees.NumberSets.{In}
 
 -- The cell of the variable x is in the variable x + n, where n is more than any number of the tree's.
 module _ (n : ℕ) where

@@ -7,8 +7,8 @@ ghost use Rattle.sch_assign.specs.Converted.{Low, and_cell, cells_for, empty_cel
 ghost use Rattle.sch_assign.specs.InRange.{InRange, EachInRange, LambdasInRange};
 ghost use Rattle.sch_assign.specs.Table.{table};
 
-use crate::marking::{count, variable_at};
-use sch_cells::{Exp, Lambda, NewCell};
+use crate::marking::variable_at;
+use sch_cells::{Exp, Lambda, NewCell, count};
 use sch_word::{List, Mem};
 use std::alloc::Global;
 

@@ -1,22 +1,13 @@
 //! Which variables get a cell: one walk over the text records them in a table.
 
 ghost use Rattle.std.specs.Prelude.{◌≡◌, ◌+◌, ◌<◌, ◌^◌, length};
-ghost use Rattle.sch_cells.specs.Tree as plain;
 ghost use Rattle.sch_cells.specs.View.{tree, trees_of, lambdas_of};
 ghost use Rattle.sch_assign.specs.Converted.{Low};
 ghost use Rattle.sch_assign.specs.InRange.{InRange, EachInRange, LambdasInRange};
 ghost use Rattle.sch_assign.specs.Table.{marked, each_marked, lambdas_marked, group_marked};
 
-use sch_cells::{Exp, Lambda};
+use sch_cells::{Exp, Lambda, count};
 use sch_word::List;
-
-/// How many expressions there are.
-#[tactic(auto, using(sch_cells::proofs::Rows::count_is))]
-pub(crate) fn count(es: &List<Exp>) -> usize
-    ensures { result ≡ plain.count (trees_of es.now) }
-{
-    es.len()
-}
 
 /// The variable that has this place in a group.
 pub(crate) fn variable_at(first: u32, place: usize) -> u32

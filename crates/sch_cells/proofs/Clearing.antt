@@ -2,15 +2,14 @@
 use Rattle.std.proofs.Common.{◌≡◌, ℕ, zero, suc, Bool, true, false, List, [], ◌∷◌, ◌++◌, refl, sym, ap, ◌∙◌, subst}
 use Rattle.std.specs.Prelude.{IsTrue, ◌&&◌, ◌||◌, not, nat_eq}
 use Rattle.std.proofs.lemmas.Bool.{eqb-true}
-use Rattle.sch_word.specs.trees.NumberSets.{has, without_repeats}
-use Rattle.sch_word.proofs.Shaped.{parts, both_true}
+use Rattle.sch_word.specs.trees.NumberSets.{has, without_repeats, In}
 use Rattle.sch_cells.specs.Tree.{Tree, Trees, Lambdas, Source, constant, literal, variable, global, set_variable, set_global, define, branch, sequence, bind, fix, letrec, lambda, call, operation, new_cells, cell_get, cell_set, no_trees, and_tree, no_lambdas, and_lambda, count, count_lambdas}
 use Rattle.sch_word.specs.trees.Bindings.{numbers, scope_with}
 use Rattle.sch_cells.specs.Variables.{scope_of, cells_bound, cells_used, all_in, bound, bound_each, bound_lambdas, closed, closed_each, closed_lambdas, below}
 use Rattle.sch_cells.specs.Valid.{scoped, bound_of}
-use Rattle.sch_cells.specs.Clear.{In, Apart, Clear, ClearEach, ClearLambdas}
+use Rattle.sch_cells.specs.Clear.{Apart, Clear, ClearEach, ClearLambdas}
 use Rattle.sch_word.proofs.facts.NumberSets.{has_append, in_more}
-use Rattle.sch_word.proofs.facts.Booleans.{not_true, or_left, or_right, neither, not_left, not_right}
+use Rattle.sch_word.proofs.facts.Booleans.{not_true, or_left, or_right, neither, not_left, not_right, and_of, and_parts}
 
 -- ## Lists that are apart
 
@@ -60,21 +59,15 @@ pub record Parts (xs ys : List ℕ) : Type 0 where
 pub distinct_parts : (xs ys : List ℕ) → IsTrue (without_repeats (xs ++ ys)) → Parts xs ys
 distinct_parts [] ys h = record { left = refl; right = h; apart = record { at = λ y i. absurd (cc) } }
 distinct_parts (x ∷ xs) ys h =
-    let p = parts (not (has x (xs ++ ys))) (without_repeats (xs ++ ys)) h in
+    let p = and_parts (not (has x (xs ++ ys))) (without_repeats (xs ++ ys)) h in
     let d = distinct_parts xs ys p.1 in
     let f : (has x xs || has x ys) ≡ false = sym (has_append x xs ys) ∙ not_true (has x (xs ++ ys)) p.0 in
     let n : IsTrue (not (has x xs)) = ap not (not_left (has x xs) (has x ys) f) in
-    record { left = both_true n d.left; right = d.right; apart = record { at = λ y i. go y (nat_eq y x) refl i (not_right (has x xs) (has x ys) f) (d.apart.at y) } }
+    record { left = and_of _ _ n d.left; right = d.right; apart = record { at = λ y i. go y (nat_eq y x) refl i (not_right (has x xs) (has x ys) f) (d.apart.at y) } }
   where
     go : (y : ℕ) (b : Bool) → nat_eq y x ≡ b → (nat_eq y x || has y xs) ≡ true → has x ys ≡ false → (In y xs → has y ys ≡ false) → has y ys ≡ false
     go y true e i f k = subst (λ z. has z ys ≡ false) (sym (eqb-true y x e)) f
     go y false e i f k = k (let j : (false || has y xs) ≡ true = rw e at i in j)
-
-pub distinct_left : (xs ys : List ℕ) → IsTrue (without_repeats (xs ++ ys)) → IsTrue (without_repeats xs)
-distinct_left xs ys h = (distinct_parts xs ys h).left
-
-pub distinct_right : (xs ys : List ℕ) → IsTrue (without_repeats (xs ++ ys)) → IsTrue (without_repeats ys)
-distinct_right xs ys h = (distinct_parts xs ys h).right
 
 -- ## Trees
 
@@ -84,12 +77,12 @@ mutual
   clear (literal n) S k d a = tt
   clear (variable x) S k d a = k
   clear (global g) S k d a = tt
-  clear (set_variable x e) S k d a = let p = parts (has x S) (closed e S) k in (p.0, clear e S p.1 d a)
+  clear (set_variable x e) S k d a = let p = and_parts (has x S) (closed e S) k in (p.0, clear e S p.1 d a)
   clear (set_global g e) S k d a = clear e S k d a
   clear (define g e) S k d a = clear e S k d a
   clear (branch x y z) S k d a =
-      let p = parts (closed x S) (closed y S && closed z S) k in
-      let q = parts (closed y S) (closed z S) p.1 in
+      let p = and_parts (closed x S) (closed y S && closed z S) k in
+      let q = and_parts (closed y S) (closed z S) p.1 in
       let s = distinct_parts (bound x) (bound y ++ bound z) d in
       let t = distinct_parts (bound y) (bound z) s.right in
       let r = right_apart (bound x) (bound y ++ bound z) S a in
@@ -97,7 +90,7 @@ mutual
   clear (sequence es) S k d a = clear_each es S k d a
   clear (bind site x es e) S k d a =
       let m = count es in
-      let p = parts (closed_each es S) (closed e (scope_with x m S)) k in
+      let p = and_parts (closed_each es S) (closed e (scope_with x m S)) k in
       let s = distinct_parts (numbers x m) (bound_each es ++ bound e) d in
       let t = distinct_parts (bound_each es) (bound e) s.right in
       let r = right_apart (numbers x m) (bound_each es ++ bound e) S a in (
@@ -107,7 +100,7 @@ mutual
       )
   clear (fix x ls e) S k d a =
       let m = count_lambdas ls in
-      let p = parts (closed_lambdas ls (scope_with x m S)) (closed e (scope_with x m S)) k in
+      let p = and_parts (closed_lambdas ls (scope_with x m S)) (closed e (scope_with x m S)) k in
       let s = distinct_parts (numbers x m) (bound_lambdas ls ++ bound e) d in
       let t = distinct_parts (bound_lambdas ls) (bound e) s.right in
       let r = right_apart (numbers x m) (bound_lambdas ls ++ bound e) S a in (
@@ -119,7 +112,7 @@ mutual
       )
   clear (letrec site x es e) S k d a =
       let m = count es in
-      let p = parts (closed_each es (scope_with x m S)) (closed e (scope_with x m S)) k in
+      let p = and_parts (closed_each es (scope_with x m S)) (closed e (scope_with x m S)) k in
       let s = distinct_parts (numbers x m) (bound_each es ++ bound e) d in
       let t = distinct_parts (bound_each es) (bound e) s.right in
       let r = right_apart (numbers x m) (bound_each es ++ bound e) S a in (
@@ -132,30 +125,30 @@ mutual
       let s = distinct_parts (numbers x m) (bound e) d in
       (left_apart (numbers x m) (bound e) S a, clear e (scope_with x m S) k s.right (apart_scope (bound e) x m S (apart_back _ _ s.apart) (right_apart (numbers x m) (bound e) S a)))
   clear (call site spread f es) S k d a =
-      let p = parts (closed f S) (closed_each es S) k in
+      let p = and_parts (closed f S) (closed_each es S) k in
       let s = distinct_parts (bound f) (bound_each es) d in
       (clear f S p.0 s.left (left_apart (bound f) (bound_each es) S a), clear_each es S p.1 s.right (right_apart (bound f) (bound_each es) S a))
   clear (operation site which es) S k d a = clear_each es S k d a
   clear (new_cells cs e) S k d a =
-      let p = parts (all_in (cells_used cs) S) (closed e (scope_of (cells_bound cs) S)) k in
+      let p = and_parts (all_in (cells_used cs) S) (closed e (scope_of (cells_bound cs) S)) k in
       let s = distinct_parts (cells_bound cs) (bound e) d in
       let r = right_apart (cells_bound cs) (bound e) S a in
       let b = apart_back _ _ s.apart in
       (p.0, left_apart (cells_bound cs) (bound e) S a, clear e (scope_of (cells_bound cs) S) p.1 s.right (record { at = λ y i. list_has y (cells_bound cs) S (b.at y i) (r.at y i) }))
   clear (cell_get x) S k d a = k
-  clear (cell_set x e) S k d a = let p = parts (has x S) (closed e S) k in (p.0, clear e S p.1 d a)
+  clear (cell_set x e) S k d a = let p = and_parts (has x S) (closed e S) k in (p.0, clear e S p.1 d a)
 
   pub clear_each : (es : Trees) (S : List ℕ) → IsTrue (closed_each es S) → IsTrue (without_repeats (bound_each es)) → Apart (bound_each es) S → ClearEach es S
   clear_each no_trees S k d a = tt
   clear_each (and_tree e es) S k d a =
-      let p = parts (closed e S) (closed_each es S) k in
+      let p = and_parts (closed e S) (closed_each es S) k in
       let s = distinct_parts (bound e) (bound_each es) d in
       (clear e S p.0 s.left (left_apart (bound e) (bound_each es) S a), clear_each es S p.1 s.right (right_apart (bound e) (bound_each es) S a))
 
   pub clear_lambdas : (ls : Lambdas) (S : List ℕ) → IsTrue (closed_lambdas ls S) → IsTrue (without_repeats (bound_lambdas ls)) → Apart (bound_lambdas ls) S → ClearLambdas ls S
   clear_lambdas no_lambdas S k d a = tt
   clear_lambdas (and_lambda name x m rest e ls) S k d a =
-      let p = parts (closed e (scope_with x m S)) (closed_lambdas ls S) k in
+      let p = and_parts (closed e (scope_with x m S)) (closed_lambdas ls S) k in
       let s = distinct_parts (numbers x m) (bound e ++ bound_lambdas ls) d in
       let t = distinct_parts (bound e) (bound_lambdas ls) s.right in
       let r = right_apart (numbers x m) (bound e ++ bound_lambdas ls) S a in (
@@ -173,8 +166,8 @@ nothing_apart xs = record { at = λ y i. refl }
 -- a valid program is clear
 pub program_clear : (p : Source) → IsTrue (scoped p) → ClearLambdas p.library [] × ClearEach p.forms []
 program_clear p h =
-    let q = parts (without_repeats (bound_of p) && below p.variables (bound_of p)) (closed_lambdas p.library [] && closed_each p.forms []) h in
-    let d = parts (without_repeats (bound_of p)) (below p.variables (bound_of p)) q.0 in
-    let c = parts (closed_lambdas p.library []) (closed_each p.forms []) q.1 in
+    let q = and_parts (without_repeats (bound_of p) && below p.variables (bound_of p)) (closed_lambdas p.library [] && closed_each p.forms []) h in
+    let d = and_parts (without_repeats (bound_of p)) (below p.variables (bound_of p)) q.0 in
+    let c = and_parts (closed_lambdas p.library []) (closed_each p.forms []) q.1 in
     let s = distinct_parts (bound_lambdas p.library) (bound_each p.forms) d.0 in
     (clear_lambdas p.library [] c.0 s.left (nothing_apart _), clear_each p.forms [] c.1 s.right (nothing_apart _))

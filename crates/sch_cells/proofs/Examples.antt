@@ -1,10 +1,10 @@
 -- What the small programs do: what each prints, how it ends, how many entries it takes and how many bytes it
 -- is charged. A program does the same in both forms. Each statement is computed.
-use Rattle.std.proofs.Common.{◌≡◌, refl, true, false, [], ◌∷◌, List, ℕ}
+use Rattle.std.proofs.Common.{◌≡◌, refl, true, false, [], ◌∷◌, ℕ}
 use Rattle.std.specs.Prelude.{codes}
 use Rattle.std.specs.Fmt.{digits}
 use Rattle.sch_word.specs.runs.Runs.{Runs, Run}
-use Rattle.sch_word.specs.runs.WorkedRuns.{ends}
+use Rattle.sch_word.specs.runs.WorkedRuns.{ends, plain_orders, call_orders}
 use Rattle.sch_cells.specs.Examples.{assigned_formal, assigned_formal_boxed, unset_init, unset_init_boxed, recursive_inits, recursive_inits_boxed, even_odd, nested_lambdas, let_of}
 use Rattle.sch_cells.specs.UnboxedMeaning as unboxed
 use Rattle.sch_cells.specs.BoxedMeaning as boxed
@@ -12,15 +12,8 @@ use Rattle.sch_cells.specs.Bodies.{bodies_of}
 use Rattle.sch_cells.specs.Measures.{sites_of, tests_of, program_size}
 use Rattle.sch_cells.specs.Valid.{is_valid}
 
--- the first parts of a table of orders from left to right
-abbrev plain : List (List ℕ)
-plain = (0 ∷ (1 ∷ [])) ∷ ((0 ∷ (1 ∷ [])) ∷ ((0 ∷ (1 ∷ [])) ∷ ((0 ∷ (1 ∷ [])) ∷ ((0 ∷ (1 ∷ [])) ∷ ((0 ∷ (1 ∷ [])) ∷ ((0 ∷ []) ∷ ((0 ∷ (1 ∷ [])) ∷ [])))))))
-
-abbrev calls : List (List ℕ)
-calls = (0 ∷ []) ∷ ((0 ∷ []) ∷ ((0 ∷ []) ∷ ((2 ∷ (1 ∷ (0 ∷ []))) ∷ [])))
-
 abbrev on : Runs → (heap : ℕ) → Run
-on run heap = run plain heap 1 [] 9
+on run heap = run plain_orders heap 1 [] 9
 
 assigned_formal_runs : on (unboxed.run assigned_formal) 4096 ≡ ends (codes "5") 0 1 32
 unfolding digits
@@ -72,11 +65,11 @@ even_odd_boxed_runs : on (boxed.run even_odd) 4096 ≡ ends (codes "1") 0 4 32
 unfolding digits
 even_odd_boxed_runs = refl
 
-nested_lambdas_runs : unboxed.run nested_lambdas calls 4096 3 [] 9 ≡ ends (codes "7") 0 3 48
+nested_lambdas_runs : unboxed.run nested_lambdas call_orders 4096 3 [] 9 ≡ ends (codes "7") 0 3 48
 unfolding digits
 nested_lambdas_runs = refl
 
-nested_lambdas_boxed_runs : boxed.run nested_lambdas calls 4096 3 [] 9 ≡ ends (codes "7") 0 3 48
+nested_lambdas_boxed_runs : boxed.run nested_lambdas call_orders 4096 3 [] 9 ≡ ends (codes "7") 0 3 48
 unfolding digits
 nested_lambdas_boxed_runs = refl
 

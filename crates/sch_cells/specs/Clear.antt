@@ -1,12 +1,9 @@
 -- Trees in which each variable that is used is bound around it, and none that is bound is bound already.
 use Rattle.std.specs.Prelude.{◌≡◌, ℕ, true, false, List}
-use Rattle.sch_word.specs.trees.NumberSets.{has}
+use Rattle.sch_word.specs.trees.NumberSets.{has, In}
 use Rattle.sch_cells.specs.Tree.{Tree, Trees, Lambdas, constant, literal, variable, global, set_variable, set_global, define, branch, sequence, bind, fix, letrec, lambda, call, operation, new_cells, cell_get, cell_set, no_trees, and_tree, no_lambdas, and_lambda, count, count_lambdas}
 use Rattle.sch_word.specs.trees.Bindings.{numbers, scope_with}
 use Rattle.sch_cells.specs.Variables.{scope_of, cells_bound, cells_used, all_in}
-
-abbrev pub In : ℕ → List ℕ → Type 0
-In x xs = has x xs ≡ true
 
 -- none of one list is in the other
 pub record Apart (xs ys : List ℕ) : Type 0 where

@@ -1,6 +1,7 @@
 -- A source whose program's run ends, and that has steps enough, ends in time.
 use Rattle.std.proofs.Common.{◌≡◌, ◌≢◌, ℕ, Bool, true, false, List, Option, Some, None, ap, ◌∙◌, subst}
 use Rattle.std.specs.Prelude.{◌==◌, if◌then◌else◌}
+use Rattle.sch_io.proofs.PutSteps.{tells_map}
 use Rattle.sch_word.specs.declared.answer.Answer.{Answer}
 use Rattle.sch_word.specs.declared.stop.Stop.{Stop}
 use Rattle.sch_word.specs.runs.Stops.{stop_of}
@@ -22,7 +23,6 @@ use Rattle.sch_cli.specs.Statuses.{end_status, exit_status, status_number, stop_
 use Rattle.sch_cli.specs.Steps.{EndsInTime, RunsProgram, RunsText}
 use Rattle.sch_cli.specs.declared.status.Status.TheVariants.{Done, StepsSpent}
 use Rattle.sch_cli.proofs.CompiledFiles.{does_text}
-use Rattle.sch_cli.proofs.MachineEnds.{related}
 use Rattle.sch_cli.proofs.ProgramRuns.{IsNamed, run_named, runs_program}
 
 -- ---- an exit is no end of steps
@@ -88,7 +88,7 @@ runs_text text heap depth steps end out image built executed =
       stands = built.stands;
       runs = ran;
       in_time_given = in_time ran.executed.given ran.executed.output ran.executed.under_given;
-      in_time_left = related out.before.left out.after.left (λ before after. EndsUnder image steps before end executed.output)
+      in_time_left = tells_map out.before.left out.after.left (λ before after. EndsUnder image steps before end executed.output)
           (λ before after. EndsInTime (run p orders heap depth) count steps before (end_status end))
-          (λ before after r. in_time before executed.output r) executed.under_left;
+          executed.under_left (λ before after r. in_time before executed.output r);
     }

@@ -1,8 +1,8 @@
 -- A bounded run of the machine that an image was loaded into is what was executed.
-use Rattle.std.proofs.Common.{◌≡◌, ℕ, List, [], ◌++◌, Option, Some, None, refl, sym, ap, ◌∙◌, subst}
+use Rattle.std.proofs.Common.{◌≡◌, ℕ, List, [], ◌++◌, refl, sym, ap, ◌∙◌, subst}
 use Rattle.std.proofs.lemmas.List.{append-nil}
 use Rattle.sch_word.specs.declared.answer.Answer.{Answer}
-use Rattle.sch_io.specs.Told.{Tells}
+use Rattle.sch_io.proofs.PutSteps.{tells_map}
 use Rattle.sch_elf.specs.declared.image.Image.{Image}
 use Rattle.sch_elf.specs.Layout.{memory}
 use Rattle.sch_insn.specs.Machine.{Core}
@@ -15,11 +15,6 @@ use Rattle.sch_step.specs.declared.ends.RunEnd.{RunEnd}
 use Rattle.sch_step.specs.declared.ends.RunEnd.TheVariants as run_end
 use Rattle.sch_cli.specs.Executes.{Executes, EndsUnder, started, run_end_of}
 use Rattle.sch_cli.specs.Seen.{StreamChange}
-
-pub related : {A : Type 0} (before after : Option A) (P Q : A → A → Type 0) → ((b a : A) → P b a → Q b a) → Tells before after P → Tells before after Q
-related before None P Q f t = tt
-related None (Some a) P Q f t = absurd t
-related (Some b) (Some a) P Q f t = f b a t
 
 end_same : (end : RunEnd) (core : Core) (output : List ℕ) (answers : List Answer) → IsRunAt end core.place → run_end_of (reached_by_run end core output answers) ≡ end
 end_same run_end.Spent core output answers at = refl
@@ -47,8 +42,8 @@ module _ (image : Image) (steps : ℕ) (old new : Machine) (end : RunEnd) (at : 
     output = did.took;
     given = did.given;
     under_given = comes_to did.given [] did.took (subst (λ answers. MachineRuns steps end old new [] answers did.took []) (append-nil did.given) (did.untold [] []));
-    under_left = related out.before.left out.after.left (λ before after. (bytes : List ℕ) → MachineRuns steps end old new bytes before (bytes ++ did.took) after)
-        (λ before after. EndsUnder image steps before end did.took) (λ before after runs. comes_to before after did.took (runs [])) did.told;
+    under_left = tells_map out.before.left out.after.left (λ before after. (bytes : List ℕ) → MachineRuns steps end old new bytes before (bytes ++ did.took) after)
+        (λ before after. EndsUnder image steps before end did.took) did.told (λ before after runs. comes_to before after did.took (runs []));
     took = did.bytes_told;
     refused = did.refused;
   }

@@ -1,5 +1,6 @@
 -- A program that was run ends as it means, and stops at a failed output only where the outlet failed.
 use Rattle.std.proofs.Common.{◌≡◌, ℕ, List, [], refl, sym, ap, ◌∙◌, subst, arith}
+use Rattle.sch_io.proofs.PutSteps.{tells_map}
 use Rattle.sch_word.specs.declared.answer.Answer.{Answer}
 use Rattle.sch_word.specs.declared.stop.Stop.{Stop}
 use Rattle.sch_word.specs.declared.stop.Stop.TheVariants.{WrongType, OutOfRange, NotProcedure, WrongCount, DivideByZero, Overflow, HeapLimit, DepthLimit, Unset, OutputFailed}
@@ -25,7 +26,6 @@ use Rattle.sch_cli.specs.Executes.{EndsUnder, Executes, run_end_of, started}
 use Rattle.sch_cli.specs.Seen.{StreamChange, StreamFailed}
 use Rattle.sch_cli.specs.Statuses.{end_status, exit_status, status_number}
 use Rattle.sch_cli.specs.Steps.{EndsAs, RunsProgram}
-use Rattle.sch_cli.proofs.MachineEnds.{related}
 
 -- ---- a run ends with 0 or a stop's status
 
@@ -102,8 +102,8 @@ runs_program p table heap depth image steps end out does executed =
     record {
       executed = executed;
       under_given = given;
-      under_left = related out.before.left out.after.left (λ before after. EndsUnder image steps before end executed.output) (λ before after. EndsAs runs steps before (end_status end) executed.output)
-          (λ before after r. end_is before end executed.output r) executed.under_left;
+      under_left = tells_map out.before.left out.after.left (λ before after. EndsUnder image steps before end executed.output) (λ before after. EndsAs runs steps before (end_status end) executed.output)
+          executed.under_left (λ before after r. end_is before end executed.output r);
       output_failed = λ is.
           refused_gives (StreamFailed out) executed.given
           ((fails_by_answer p).nothing_taken table heap depth executed.given steps (end_number runs steps executed.given (end_status end) executed.output is given))

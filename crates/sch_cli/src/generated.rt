@@ -1,6 +1,6 @@
 //! The verb `gen`: the text that is made of a number is compiled and run, and its figures are printed.
 
-ghost use Rattle.std.specs.Prelude.{◌≡◌, ◌≢◌, ◌≤◌, length, IfOk, IfErr, IfSome};
+ghost use Rattle.std.specs.Prelude.{◌≡◌, ◌≢◌, ◌≤◌, ◌<◌, ◌^◌, length, IfOk, IfErr, IfSome, OnOk};
 ghost use Rattle.std.specs.Fmt.{decimal};
 ghost use Rattle.sch_driver.specs.Causes.{max_source_size};
 ghost use Rattle.sch_cli.specs.Executes.{EndsAlone};
@@ -26,10 +26,8 @@ use sch_step::RunEnd;
 use sch_word::Mem;
 use std::alloc::Global;
 
-/// Rooms for the output of a program, as powers of 2: the first is of 65,536 bytes.
-const FIRST_ROOM: u32 = 16;
-
-const LAST_ROOM: u32 = 62;
+/// The first room for the output of a program, in bytes.
+const FIRST_ROOM: usize = 65536;
 
 /// How a program ended, and how many bytes it wrote.
 #[derive(Clone, Copy)]
@@ -91,17 +89,19 @@ fn measure(alloc: Global, text: &[u8], steps: u64) -> Result<Figures, Failure>
 fn run_alone(alloc: Global, image: &Image, steps: u64) -> Result<LoneRun, Mem>
     ensures { IfOk result (EndsAlone image.now steps) }
 {
-    for power in FIRST_ROOM..LAST_ROOM {
-        if let Some(lone) = run_within(alloc, image, steps, 1 << power)? {
+    let mut room = FIRST_ROOM;
+    'rooms: loop {
+        if let Some(lone) = run_within(alloc, image, steps, room)? {
             return Ok(lone);
         }
+        room *= 2;
     }
-    Err(Mem)
 }
 
-// Runs an image with room for so many bytes of output, if they suffice.
+// Runs an image with room for so many bytes of output, if they suffice. There is memory for fewer than 2^63 bytes alone.
 fn run_within(alloc: Global, image: &Image, steps: u64, room: usize) -> Result<Option<LoneRun>, Mem>
-    ensures { IfOk result (λ found. IfSome found (EndsAlone image.now steps)) }
+    ensures ends { IfOk result (λ found. IfSome found (EndsAlone image.now steps)) }
+    ensures room { OnOk result (room < 2 ^ 63) }
 {
     let mut outlet = MemOutlet::new(alloc, &[], room)?;
     let end = execute(alloc, image, steps, &mut outlet)?;

@@ -9,3 +9,4 @@ mod Examples
 pub mod kept
 pub mod Loops
 pub mod Fields
+pub mod AsManyBodies

@@ -1,15 +1,16 @@
 -- What the walk makes of a program is its flat program.
-use Rattle.std.proofs.Common.{◌≡◌, ℕ, suc, ◌+◌, ◌<◌, ◌≤◌, List, [], ◌++◌, length, map, refl, sym, ap, ◌∙◌, arith, length-append}
+use Rattle.std.proofs.Common.{◌≡◌, ℕ, ◌+◌, ◌<◌, ◌≤◌, List, [], ◌++◌, length, map, refl, sym, ap, ◌∙◌, arith, length-append}
+use Rattle.sch_closure.proofs.AsManyBodies.{bodies_count, lambdas_count}
 use Rattle.sch_word.specs.declared.statics.Statics as declared
 use Rattle.sch_word.specs.values.StaticsView.{statics}
-use Rattle.sch_cells.specs.Tree.{Source, Tree, Trees, Lambdas, constant, literal, variable, global, set_variable, set_global, define, branch, sequence, bind, fix, letrec, lambda, call, operation, new_cells, cell_get, cell_set, no_trees, and_tree, no_lambdas, and_lambda}
+use Rattle.sch_cells.specs.Tree.{Source, Trees, no_trees, and_tree}
 use Rattle.sch_cells.specs.Bodies as bodies
 use Rattle.sch_flat.specs.declared.tree.Exp as to
 use Rattle.sch_flat.specs.declared.tree.Made as to_made
 use Rattle.sch_flat.specs.declared.tree.Body as to_body
 use Rattle.sch_flat.specs.SourceView.{source_of}
 use Rattle.sch_flat.specs.View as view
-use Rattle.sch_closure.specs.Closed.{procedures, procedures_each, procedures_lambdas, body_of, all_of_each, all_of_lambdas, closed_source, labels, starts, made_each, closed_each}
+use Rattle.sch_closure.specs.Closed.{procedures_each, procedures_lambdas, body_of, all_of_each, all_of_lambdas, closed_source, labels, starts, made_each, closed_each}
 use Rattle.sch_closure.specs.Walked.{with_bodies_each, with_bodies_lambdas}
 use Rattle.sch_closure.proofs.Walks.{each_bodies, lambdas_bodies}
 use Rattle.sch_closure.proofs.MadeLists.{labels_made}
@@ -31,41 +32,9 @@ program_bodies p before after h k =
 
 -- ## How many procedures there are
 
-joined_count : {A : Type 0} (xs ys : List A) {a b : ℕ} → a ≡ length xs → b ≡ length ys → a + b ≡ length (xs ++ ys)
-joined_count xs ys p q = omega (arith, length-append xs ys, p, q)
-
-mutual
-  count_of : (e : Tree) → procedures e ≡ length (bodies.bodies e)
-  count_of (constant c) = refl
-  count_of (literal i) = refl
-  count_of (variable x) = refl
-  count_of (global g) = refl
-  count_of (set_variable x e) = count_of e
-  count_of (set_global g e) = count_of e
-  count_of (define g e) = count_of e
-  count_of (branch a b c) = joined_count (bodies.bodies a) _ (count_of a) (joined_count (bodies.bodies b) _ (count_of b) (count_of c))
-  count_of (sequence es) = each_count es
-  count_of (bind site x es e) = joined_count (bodies.bodies_each es) _ (each_count es) (count_of e)
-  count_of (letrec site x es e) = joined_count (bodies.bodies_each es) _ (each_count es) (count_of e)
-  count_of (fix x ls e) = joined_count (bodies.bodies_lambdas ls) _ (lambdas_count ls) (count_of e)
-  count_of (lambda name x m rest e) = ap suc (count_of e)
-  count_of (call site spread g es) = joined_count (bodies.bodies g) _ (count_of g) (each_count es)
-  count_of (operation site which es) = each_count es
-  count_of (new_cells cs e) = count_of e
-  count_of (cell_get x) = refl
-  count_of (cell_set x e) = count_of e
-
-  each_count : (es : Trees) → procedures_each es ≡ length (bodies.bodies_each es)
-  each_count no_trees = refl
-  each_count (and_tree e es) = joined_count (bodies.bodies e) _ (count_of e) (each_count es)
-
-  lambdas_count : (ls : Lambdas) → procedures_lambdas ls ≡ length (bodies.bodies_lambdas ls)
-  lambdas_count no_lambdas = refl
-  lambdas_count (and_lambda name x m rest e ls) = ap suc (joined_count (bodies.bodies e) _ (count_of e) (lambdas_count ls))
-
 forms_count : (es : Trees) → procedures_each es ≤ length (bodies.bodies_forms es)
 forms_count no_trees = omega arith
-forms_count (and_tree e es) = omega (arith, length-append (bodies.bodies e) (bodies.bodies_forms es), count_of e, forms_count es)
+forms_count (and_tree e es) = omega (arith, length-append (bodies.bodies e) (bodies.bodies_forms es), bodies_count e, forms_count es)
 
 pub few_procedures : (p : Source) (k : ℕ) → length (bodies.bodies_of p) < k → procedures_lambdas p.library + procedures_each p.forms < k
 few_procedures p k h = omega (arith, h, length-append (bodies.bodies_lambdas p.library) (bodies.bodies_forms p.forms), lambdas_count p.library, forms_count p.forms)

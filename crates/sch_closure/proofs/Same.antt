@@ -3,7 +3,7 @@ use Rattle.std.proofs.Common.{◌≡◌, ℕ, zero, suc, ◌+◌, Bool, true, fa
 use Rattle.std.specs.Prelude.{slice_get, nat_eq, ◌||◌}
 use Rattle.std.proofs.lemmas.Bool.{eqb-true}
 use Rattle.sch_word.specs.values.Values.{Value, unspecified, is_true, cell, fixnum, character, boolean, nil, symbol, object, procedure}
-use Rattle.sch_word.specs.trees.NumberSets.{has, union}
+use Rattle.sch_word.specs.trees.NumberSets.{has, union, In}
 use Rattle.sch_word.specs.trees.Bindings.{Bindings, bound_to, this_or, value_or, value_of, with_variables, numbers, scope_with, remove, without}
 use Rattle.sch_word.specs.runs.Computation.{Computation, read_literal, read_global, write_global, take_entry}
 use Rattle.sch_word.specs.runs.Charges.{charge, charge_each, procedure_bytes, fit}
@@ -11,12 +11,13 @@ use Rattle.sch_word.specs.values.CellBytes.{cells_bytes}
 use Rattle.sch_word.specs.runs.Orders.{Orders, order_at}
 use Rattle.sch_word.specs.values.PrimitiveRows.{primitive}
 use Rattle.sch_word.specs.runs.Runs.{SameRuns, starting_store}
+use Rattle.sch_word.specs.runs.Procedures.{Procedure, library_procedures}
 use Rattle.sch_word.proofs.Similar.{EachSimilar, no_similar, and_similar, similar_gives, similar_spent, similar_unreached, similar_either, similar_then, similar_all_values, similar_in_turn}
 use Rattle.sch_word.proofs.SameStore.{same_store, Pairs, no_pairs, and_pair, DoesSame, same_in_store, keeps_in_store, same_read_cell, same_write_cell, same_new_procedure, keeps_new_cells, keeps_new_group, same_keeping, same_call, same_seen, fit_length}
 use Rattle.sch_cells.specs.declared.tree.NewCell.{NewCell}
 use Rattle.sch_cells.specs.Tree.{Tree, Trees, Lambdas, Source, constant, literal, variable, global, set_variable, set_global, define, branch, sequence, bind, fix, letrec, lambda, call, operation, new_cells, cell_get, cell_set, no_trees, and_tree, no_lambdas, and_lambda, count, count_lambdas}
 use Rattle.sch_cells.specs.Variables.{free, free_each, free_lambdas, cells_bound, cells_used, and_some, without_each}
-use Rattle.sch_cells.specs.Clear.{In, Apart, ClearEach, ClearLambdas}
+use Rattle.sch_cells.specs.Clear.{Apart, ClearEach, ClearLambdas}
 use Rattle.sch_cells.specs.Procedures.{Closure, closures, lambdas_bytes}
 use Rattle.sch_cells.specs.BoxedMeaning as from
 use Rattle.sch_flat.specs.Tree as flat
@@ -165,7 +166,7 @@ free_of p = fields_of p.first p.formals p.body
 
 module _ (all : List flat.Body) where
   -- A procedure and its record: the values of its free variables, and its body at its label.
-  pub record Becomes (p : Closure Value) (q : to.Closure) : Type 0 where
+  pub record Becomes (p : Closure Value) (q : Procedure) : Type 0 where
     pub name : List ℕ
     pub fields : q.fields ≡ values_of (free_of p) p.environment
     pub body : slice_get all q.label ≡ Some (body_of name p.first p.formals p.rest p.body q.label)
@@ -182,7 +183,7 @@ module _ (all : List flat.Body) where
       (record { name = name; fields = captured fs (fields_of x m e) (seen_left (fields_of x m e) (free_lambdas ls) s); body = t.0.0; stand = t.0.1; apart = f.0.0; fresh = f.0.1 })
       (groups ls fs (suc n + procedures e) (seen_right (fields_of x m e) (free_lambdas ls) s) f.1 t.1)
 
-  same_cell : {v v' : Value} {c : ℕ → Computation (Closure Value) Value} {d : ℕ → Computation to.Closure Value} → v' ≡ v → ((k : ℕ) → DoesSame Becomes (c k) (d k))
+  same_cell : {v v' : Value} {c : ℕ → Computation (Closure Value) Value} {d : ℕ → Computation Procedure Value} → v' ≡ v → ((k : ℕ) → DoesSame Becomes (c k) (d k))
       → DoesSame Becomes (from.with_cell v c) (to.with_cell v' d)
   same_cell {v} {c = c} {d = d} e h = rw e (go v)
     where
@@ -198,7 +199,7 @@ module _ (all : List flat.Body) where
       go (cell n) = h n
 
   module _ (orders : Orders) (enter : from.Enter) (enter' : to.Enter)
-      (same_enter : (p : Closure Value) (q : to.Closure) → Becomes p q → (vs : List Value) (depth : ℕ) → DoesSame Becomes (enter p vs depth) (enter' q vs depth)) where
+      (same_enter : (p : Closure Value) (q : Procedure) → Becomes p q → (vs : List Value) (depth : ℕ) → DoesSame Becomes (enter p vs depth) (enter' q vs depth)) where
     each_length : (es : Trees) (environment : Bindings Value) (depth : ℕ) → length (from.each orders enter es environment depth) ≡ count es
     each_length no_trees environment depth = refl
     each_length (and_tree e es) environment depth = ap suc (each_length es environment depth)
@@ -269,7 +270,7 @@ module _ (all : List flat.Body) where
           and_similar (evaluate_same e fs n depth false (seen_left (free e) (free_each (and_tree e' es)) s) f.0 t.0)
           (parts_same (and_tree e' es) fs (n + procedures e) depth tail (seen_right (free e) (free_each (and_tree e' es)) s) f.1 t.1)
 
-  enter_same : (orders : Orders) (n : ℕ) (p : Closure Value) (q : to.Closure) → Becomes p q → (vs : List Value) (depth : ℕ)
+  enter_same : (orders : Orders) (n : ℕ) (p : Closure Value) (q : Procedure) → Becomes p q → (vs : List Value) (depth : ℕ)
       → DoesSame Becomes (from.enter orders n p vs depth) (to.enter all orders n q vs depth)
   enter_same orders zero p q h vs depth = similar_spent (same_store Becomes)
   enter_same orders (suc n) p q h vs depth =
@@ -286,7 +287,7 @@ none_within (x ∷ xs) w = absurd (let h : false ≡ true = w x (in_here x xs) i
 
 -- a library's procedure has no free variable
 library_becomes : (all : List flat.Body) (ls : Lambdas) (n : ℕ) → ClearLambdas ls [] → FreshLambdas ls → StandLambdas all ls n
-    → Pairs (Becomes all) (closures ls []) (runs.library_closures (labels ls n))
+    → Pairs (Becomes all) (closures ls []) (library_procedures (labels ls n))
 library_becomes all no_lambdas n c f t = no_pairs
 library_becomes all (and_lambda name x m rest e ls) n c f t =
     let none = none_within (fields_of x m e) (without_scope x m (free e) [] (free_within e (scope_with x m []) c.0.1)) in
@@ -307,6 +308,6 @@ runs_alike p cl c bl b = record {
       (each_same all (order_at table) (from.enter (order_at table) entries) (to.enter all (order_at table) entries) (enter_same all (order_at table) entries) p.forms []
       (procedures_lambdas p.library) depth
       (seen_none (free_each p.forms)) (fresh_each p.forms [] [] (λ x i. i) c b) (stands_forms body_of p.library p.forms)))
-      (starting_store p.statics heap answers entries) (closures p.library []) (runs.library_closures (labels p.library 0))
+      (starting_store p.statics heap answers entries) (closures p.library []) (library_procedures (labels p.library 0))
       (library_becomes all p.library 0 cl (fresh_lambdas p.library [] cl bl) (stands_library body_of p.library p.forms));
 }

@@ -2,18 +2,18 @@
 use Rattle.std.proofs.Common.{◌≡◌, ℕ, Bool, true, false, List, [], ◌∷◌, refl, sym, subst}
 use Rattle.std.specs.Prelude.{IsTrue, nat_eq, ◌||◌, ◌&&◌}
 use Rattle.std.proofs.lemmas.Bool.{eqb-true}
-use Rattle.sch_word.specs.trees.NumberSets.{has}
+use Rattle.sch_word.proofs.facts.NumberSets.{in_deeper}
+use Rattle.sch_word.specs.trees.NumberSets.{has, In}
 use Rattle.sch_word.specs.trees.Bindings.{numbers, without, scope_with}
-use Rattle.sch_word.proofs.Shaped.{parts}
 use Rattle.sch_cells.specs.Tree.{Tree, Trees, Lambdas, constant, literal, variable, global, set_variable, set_global, define, branch, sequence, bind, fix, letrec, lambda, call, operation, new_cells, cell_get, cell_set, no_trees, and_tree, no_lambdas, and_lambda, count, count_lambdas}
 use Rattle.sch_cells.specs.Variables.{free, free_each, free_lambdas, scope_of, cells_bound, cells_used, all_in}
 use Rattle.sch_cells.specs.Measures.{over, over_each, over_lambdas, shape}
 use Rattle.sch_cells.specs.Valid.{has_form}
-use Rattle.sch_cells.specs.Clear.{In, Apart, Clear, ClearEach, ClearLambdas}
+use Rattle.sch_cells.specs.Clear.{Apart, Clear, ClearEach, ClearLambdas}
 use Rattle.sch_closure.specs.Closed.{fields_of}
 use Rattle.sch_closure.specs.Fresh.{Fresh, FreshEach, FreshLambdas}
 use Rattle.sch_cells.proofs.Clearing.{in_under}
-use Rattle.sch_closure.proofs.Sets.{union_within, without_scope, scope_more, without_each_scope}
+use Rattle.sch_closure.proofs.Sets.{union_within, without_scope, without_each_scope}
 use Rattle.sch_word.proofs.facts.Booleans.{and_parts}
 
 abbrev pub Within : List ℕ → List ℕ → Type 0
@@ -83,7 +83,7 @@ apart_within : (ys fs S : List ℕ) → Within fs S → Apart ys S → Apart ys 
 apart_within ys fs S w a = record { at = λ y i. not_in y fs S w (a.at y i) }
 
 wider : (x m : ℕ) (fs S : List ℕ) → Within fs S → Within fs (scope_with x m S)
-wider x m fs S w y i = scope_more x m S y (w y i)
+wider x m fs S w y i = in_deeper x m y S (w y i)
 
 -- no node assigns a variable
 abbrev Boxed : Tree → Type 0
@@ -105,14 +105,14 @@ mutual
   fresh (set_global g e) fs S w c p = fresh e fs S w c p
   fresh (define g e) fs S w c p = fresh e fs S w c p
   fresh (branch a b d) fs S w c p =
-      let q = parts _ _ p in let r = parts _ _ q.1 in
+      let q = and_parts _ _ p in let r = and_parts _ _ q.1 in
       (fresh a fs S w c.0 q.0, fresh b fs S w c.1 r.0, fresh d fs S w c.2 r.1)
   fresh (sequence es) fs S w c p = fresh_each es fs S w c p
   fresh (bind site y es e) fs S w c p =
-      let q = parts _ _ p in
+      let q = and_parts _ _ p in
       (apart_within (numbers y (count es)) fs S w c.1, fresh_each es fs S w c.0 q.0, fresh e fs (scope_with y (count es) S) (wider y (count es) fs S w) c.2 q.1)
   fresh (fix y ls e) fs S w c p =
-      let q = parts _ _ p in (
+      let q = and_parts _ _ p in (
         apart_within (numbers y (count_lambdas ls)) fs S w c.0,
         fresh_lambdas ls (scope_with y (count_lambdas ls) S) c.1 q.0,
         fresh e fs (scope_with y (count_lambdas ls) S) (wider y (count_lambdas ls) fs S w) c.2 q.1,
@@ -122,7 +122,7 @@ mutual
       let v = without_scope y m (free e) S (free_within e (scope_with y m S) c.1) in
       (apart_within (numbers y m) (fields_of y m e) S v c.0, fresh e (fields_of y m e) (scope_with y m S) (wider y m (fields_of y m e) S v) c.1 p)
   fresh (call site spread f es) fs S w c p =
-      let q = parts _ _ p in
+      let q = and_parts _ _ p in
       (fresh f fs S w c.0 q.0, fresh_each es fs S w c.1 q.1)
   fresh (operation site which es) fs S w c p = fresh_each es fs S w c p
   fresh (new_cells cs e) fs S w c p =
@@ -132,11 +132,11 @@ mutual
 
   pub fresh_each : (es : Trees) (fs S : List ℕ) → Within fs S → ClearEach es S → BoxedEach es → FreshEach es fs
   fresh_each no_trees fs S w c p = tt
-  fresh_each (and_tree e es) fs S w c p = let q = parts _ _ p in (fresh e fs S w c.0 q.0, fresh_each es fs S w c.1 q.1)
+  fresh_each (and_tree e es) fs S w c p = let q = and_parts _ _ p in (fresh e fs S w c.0 q.0, fresh_each es fs S w c.1 q.1)
 
   pub fresh_lambdas : (ls : Lambdas) (S : List ℕ) → ClearLambdas ls S → BoxedLambdas ls → FreshLambdas ls
   fresh_lambdas no_lambdas S c p = tt
   fresh_lambdas (and_lambda name y m rest e ls) S c p =
       let v = without_scope y m (free e) S (free_within e (scope_with y m S) c.0.1) in
-      let q = parts _ _ p in
+      let q = and_parts _ _ p in
       ((apart_within (numbers y m) (fields_of y m e) S v c.0.0, fresh e (fields_of y m e) (scope_with y m S) (wider y m (fields_of y m e) S v) c.0.1 q.0), fresh_lambdas ls S c.1 q.1)

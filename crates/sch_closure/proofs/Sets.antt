@@ -2,9 +2,8 @@
 use Rattle.std.proofs.Common.{◌≡◌, ℕ, zero, suc, Bool, true, false, List, [], ◌∷◌, refl, sym, subst}
 use Rattle.std.specs.Prelude.{nat_eq, ◌||◌}
 use Rattle.std.proofs.lemmas.Bool.{eqb-true}
-use Rattle.sch_word.specs.trees.NumberSets.{has, unless, insert, union}
+use Rattle.sch_word.specs.trees.NumberSets.{has, unless, insert, union, In}
 use Rattle.sch_word.specs.trees.Bindings.{remove, without, scope_with}
-use Rattle.sch_cells.specs.Clear.{In}
 use Rattle.sch_cells.specs.Variables.{scope_of, without_each}
 use Rattle.sch_word.proofs.facts.NumberTests.{same as self}
 use Rattle.sch_word.proofs.facts.NumberSets.{in_more, in_here}
@@ -71,10 +70,6 @@ pub without_scope : (a m : ℕ) (xs S : List ℕ) → ((y : ℕ) → In y xs →
 without_scope a zero xs S f y h = f y h
 without_scope a (suc m) xs S f y h =
     in_cons y a S (remove_differs y a (without (suc a) m xs) h) (without_scope (suc a) m xs (a ∷ S) f y (remove_in y a (without (suc a) m xs) h))
-
-pub scope_more : (a m : ℕ) (S : List ℕ) (y : ℕ) → In y S → In y (scope_with a m S)
-scope_more a zero S y h = h
-scope_more a (suc m) S y h = scope_more (suc a) m (a ∷ S) y (in_more y a S h)
 
 -- the same for any list of numbers
 pub without_each_scope : (ys xs S : List ℕ) → ((y : ℕ) → In y xs → In y (scope_of ys S)) → (y : ℕ) → In y (without_each ys xs) → In y S

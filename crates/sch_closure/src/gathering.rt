@@ -5,7 +5,6 @@
 //! free variables or a body variables, at most; each variable that is used is looked for in one list.
 
 ghost use Rattle.std.specs.Prelude.{◌≡◌, [], ◌∷◌, reverse, IfOk, OnOk};
-ghost use Rattle.sch_cells.specs.Tree as plain;
 ghost use Rattle.sch_word.specs.trees.Bindings.{numbers, without};
 ghost use Rattle.sch_word.specs.trees.NumberSets.{has, union};
 ghost use Rattle.sch_cells.specs.Variables.{cells_bound, without_each};
@@ -13,7 +12,7 @@ ghost use Rattle.sch_cells.specs.View.{tree, trees_of, lambdas_of};
 ghost use Rattle.sch_closure.specs.Closed.{program_fields};
 ghost use Rattle.sch_closure.specs.Found.{found, found_cells, found_each, found_lambdas, fields_found, fields_of_each, fields_of_lambdas};
 
-use sch_cells::{Exp, Lambda, NewCell};
+use sch_cells::{Exp, Lambda, NewCell, count, count_lambdas};
 use sch_word::{List, Mem, insert_number, insert_numbers};
 use std::alloc::Global;
 
@@ -74,22 +73,6 @@ fn insert_contents(cs: &[NewCell], xs: &mut Vec<u32>) -> Result<(), Mem>
         }
     }
     Ok(())
-}
-
-// How many expressions there are.
-#[tactic(auto, using(sch_cells::proofs::Rows::count_is))]
-fn count(es: &List<Exp>) -> usize
-    ensures { result ≡ plain.count (trees_of es.now) }
-{
-    es.len()
-}
-
-// How many lambdas there are.
-#[tactic(auto, using(sch_cells::proofs::Rows::count_lambdas_is))]
-fn count_lambdas(ls: &List<Lambda>) -> usize
-    ensures { result ≡ plain.count_lambdas (lambdas_of ls.now) }
-{
-    ls.len()
 }
 
 // Puts the free variables of an expression before others, and the fields of its procedures before those of

@@ -37,6 +37,10 @@ held_in v = operand.Atom (Variable v)
 abbrev pub value_of : ℕ → Expression
 value_of x = perform (operation.Operand (held_in x))
 
+-- the value of a global
+abbrev pub global : Expression
+global = perform (operation.Global 0)
+
 abbrev pub shown : (site : ℕ) → Operand ℕ → Expression
 shown site o = perform (operation.Prim site Put (o ∷ []))
 

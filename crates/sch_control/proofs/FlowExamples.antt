@@ -12,10 +12,7 @@ use Rattle.sch_control.specs.Tree.{Expression, perform, bind, branch, fix, call,
 use Rattle.sch_control.specs.Meaning.{no_region}
 use Rattle.sch_control.specs.flow.Live.{known, MayGive, Live, Soon, Perhaps, nothing_later}
 use Rattle.sch_control.specs.flow.Paths.{Event, Binds, References, Saves, Calls, Tails, Returns, grouping, IsPath, Meets, live, refers, soon, calls, some_call, SavesFollowed, SavesCalled}
-use Rattle.sch_control.proofs.Examples.{truth, held_in, applied, value_of}
-
-abbrev nothing_done : Expression
-nothing_done = perform (operation.Global 0)
+use Rattle.sch_control.proofs.Examples.{truth, held_in, applied, value_of, global}
 
 abbrev gives : ℕ → Expression
 gives x = return (value_of x)
@@ -99,7 +96,7 @@ group_events = refl
 -- ## A region: 3 is saved at its head, 4 as it is bound inside
 
 abbrev region : Expression
-region = save (3 ∷ 4 ∷ []) (bind 4 nothing_done (bind 5 (call (applied 0 (held_in 2) []) (0 ∷ 3 ∷ 4 ∷ [])) (gives 4)))
+region = save (3 ∷ 4 ∷ []) (bind 4 global (bind 5 (call (applied 0 (held_in 2) []) (0 ∷ 3 ∷ 4 ∷ [])) (gives 4)))
 
 before_region : (x : ℕ) → Live x region (nothing_later x)
     ≡ ((false ≡ true) ⊎ Perhaps (λ t. (x ≢ 4) × ((has x (2 ∷ []) ≡ true) ⊎ Perhaps (λ t. (x ≢ 5) × ((has x (4 ∷ []) ≡ true) ⊎ Perhaps (λ t. x ≡ 0))))))

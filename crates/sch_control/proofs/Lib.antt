@@ -22,3 +22,4 @@ pub mod VariableLists
 pub mod Results
 pub mod MarksAlone
 pub mod SlotCounts
+pub mod RegisterOrSlot

@@ -15,7 +15,6 @@ use Rattle.sch_word.specs.trees.NumberSets.{has, without_repeats}
 use Rattle.sch_word.specs.trees.Bindings.{numbers}
 use Rattle.sch_word.proofs.facts.Lists.{next_left}
 use Rattle.sch_word.proofs.facts.Booleans.{and_left, and_right, and_of, not_true, never_true, or_around}
-use Rattle.sch_word.proofs.facts.NumberSets.{below_numbers}
 
 -- ## What is in a list
 
@@ -51,10 +50,6 @@ once_filter f (x ∷ xs) h = by (f x) (once_filter f xs (and_right (not (has x x
   by : (t : Bool) → without_repeats (filter f xs) ≡ true → without_repeats (cond t (x ∷ filter f xs) (filter f xs)) ≡ true
   by true rest = and_of (not (has x (filter f xs))) _ (ap not (has_filter f x xs ∙ ap (λ b. b && f x) gone)) rest
   by false rest = rest
-
-pub once_from : (k n : ℕ) → without_repeats (numbers k n) ≡ true
-once_from k zero = refl
-once_from k (suc n) = and_of (not (has k (numbers (suc k) n))) _ (ap not (below_numbers k (suc k) n (omega arith))) (once_from (suc k) n)
 
 pub below_from : (k n bound : ℕ) → k + n ≤ bound → list_all (λ x. nat_lt x bound) (numbers k n) ≡ true
 below_from k zero bound l = refl

@@ -20,13 +20,10 @@ use Rattle.sch_control.specs.Tree.{Expression, perform, bind, sequence, branch, 
 use Rattle.sch_control.specs.BoundParts as bound_parts
 use Rattle.sch_control.specs.BoundParts.{application_parts, in_turn, operation_parts, parts_in_turn}
 use Rattle.sch_control.specs.Valid.{bound_in, numbered, only_reads, operand_shaped, operation_shaped, application_shaped, group_shaped, entry_shaped, each_part, source_field, operation_field, group_fields, fields_known, is_bare, in_scope, atom_known, global_known, closure_known, operation_known, application_known, group_known, Names, sites_of, sites_once, bound_known, library_known, statics_known, code_valid, is_valid}
-use Rattle.sch_control.proofs.Examples.{number, held_in, applied, form, lambda, program, shown}
+use Rattle.sch_control.proofs.Examples.{number, held_in, applied, form, lambda, program, shown, global}
 
 abbrev fails : {A : Type 0} → (A → Bool) → List A → Bool
 fails test xs = list_all (λ x. not (test x)) xs
-
-abbrev nothing_done : Expression
-nothing_done = perform (operation.Global 0)
 
 -- ## What is simple
 
@@ -53,13 +50,13 @@ simple_not = refl
 -- ## The numbers of variables
 
 abbrev binding : ℕ → Expression
-binding x = bind x nothing_done (return nothing_done)
+binding x = bind x global (return global)
 
-numbers_fit : list_all numbered (form 1002 (end nothing_done) ∷ form 3 (bind 2 nothing_done (end nothing_done)) ∷ lambda 1 0 3 (return nothing_done) ∷ lambda 1 0 4 (binding 3) ∷ []) ≡ true
+numbers_fit : list_all numbered (form 1002 (end global) ∷ form 3 (bind 2 global (end global)) ∷ lambda 1 0 3 (return global) ∷ lambda 1 0 4 (binding 3) ∷ []) ≡ true
 numbers_fit = refl
 
 -- 1,003 variables; a formal past them; a variable that is bound as the return address, the closure or a formal; one past them
-numbers_past : fails numbered (form 1003 (end nothing_done) ∷ lambda 1 0 2 (return nothing_done) ∷ lambda 1 0 4 (binding 0) ∷ form 4 (bind 1 nothing_done (end nothing_done))
+numbers_past : fails numbered (form 1003 (end global) ∷ lambda 1 0 2 (return global) ∷ lambda 1 0 4 (binding 0) ∷ form 4 (bind 1 global (end global))
     ∷ lambda 1 0 4 (binding 2) ∷ lambda 1 0 4 (binding 4) ∷ []) ≡ true
 numbers_past = refl
 
@@ -69,9 +66,9 @@ closure label fields = record { label = label; fields = replicate fields (source
 abbrev member : (at fields : ℕ) → Member ℕ
 member at fields = record { at = at; closure = closure 1 fields }
 
-bound_everywhere : bound_in (bind 2 (bind 3 nothing_done nothing_done)
-    (sequence (bind 4 nothing_done nothing_done) (branch (bind 5 nothing_done nothing_done) (return (bind 6 nothing_done nothing_done))
-    (fix (member 7 0 ∷ member 8 0 ∷ []) (save (2 ∷ []) (end (bind 9 nothing_done nothing_done))))))) ≡ 2 ∷ 3 ∷ 4 ∷ 5 ∷ 6 ∷ 7 ∷ 8 ∷ 9 ∷ []
+bound_everywhere : bound_in (bind 2 (bind 3 global global)
+    (sequence (bind 4 global global) (branch (bind 5 global global) (return (bind 6 global global))
+    (fix (member 7 0 ∷ member 8 0 ∷ []) (save (2 ∷ []) (end (bind 9 global global))))))) ≡ 2 ∷ 3 ∷ 4 ∷ 5 ∷ 6 ∷ 7 ∷ 8 ∷ 9 ∷ []
 bound_everywhere = refl
 
 -- a variable is not bound in its own value, nor after the arm that binds it; a group is, in its closures and behind them
@@ -79,9 +76,9 @@ scopes : list_all (λ e. in_scope e (λ x. false)) (bind 2 (perform (operation.O
     ∷ fix (record { at = 2; closure = record { label = 1; fields = source.Atom (Variable 2) ∷ [] } } ∷ []) (end (perform (operation.Operand (held_in 2)))) ∷ []) ≡ true
 scopes = refl
 
-scopes_not : fails (λ e. in_scope e (λ x. false)) (bind 2 (perform (operation.Operand (held_in 2))) (end nothing_done)
-    ∷ sequence (bind 2 nothing_done nothing_done) (perform (operation.Operand (held_in 2)))
-    ∷ branch nothing_done (bind 2 nothing_done nothing_done) (perform (operation.Operand (held_in 2)))
+scopes_not : fails (λ e. in_scope e (λ x. false)) (bind 2 (perform (operation.Operand (held_in 2))) (end global)
+    ∷ sequence (bind 2 global global) (perform (operation.Operand (held_in 2)))
+    ∷ branch global (bind 2 global global) (perform (operation.Operand (held_in 2)))
     ∷ perform (operation.Field 1 0) ∷ call (applied 0 (held_in 2) []) [] ∷ tail_call (applied 0 (number 1) (held_in 2 ∷ [])) ∷ []) ≡ true
 scopes_not = refl
 
@@ -140,16 +137,16 @@ places e =
     e ∷ bind 2 e other ∷ bind 2 other e ∷ sequence e other ∷ sequence other e ∷ branch e other other ∷ branch other e other ∷ branch other other e
     ∷ fix [] e ∷ return e ∷ end e ∷ []
 
-each_operation : fails (operations_pass false) (save [] nothing_done ∷ places nothing_done) ≡ true
+each_operation : fails (operations_pass false) (save [] global ∷ places global) ≡ true
 each_operation = refl
 
-other_parts : list_all (operations_pass true) (places nothing_done) ≡ true
+other_parts : list_all (operations_pass true) (places global) ≡ true
 other_parts = refl
 
 each_call : fails (calls_pass false) (calling ∷ tail_call (applied 0 (held_in 2) []) ∷ []) ≡ true
 each_call = refl
 
-each_group : each_part (record { operation = λ o. true; application = λ a. true; group = λ members. false }) (fix [] nothing_done) ≡ false
+each_group : each_part (record { operation = λ o. true; application = λ a. true; group = λ members. false }) (fix [] global) ≡ false
 each_group = refl
 
 -- ## Fields are the closure's, of which there is one here
@@ -182,19 +179,19 @@ groups_fields = refl
 groups_fields_not : fails (group_fields 1) (capturing_group 1 ∷ []) ≡ true
 groups_fields_not = refl
 
-fields_of_entry : list_all fields_known (lambda 0 1 2 (return (perform (operation.Field 1 0))) ∷ lambda 0 1 3 (fix (capturing_group 0) (return nothing_done)) ∷ []) ≡ true
+fields_of_entry : list_all fields_known (lambda 0 1 2 (return (perform (operation.Field 1 0))) ∷ lambda 0 1 3 (fix (capturing_group 0) (return global)) ∷ []) ≡ true
 fields_of_entry = refl
 
-fields_of_entry_not : fails fields_known (lambda 0 1 2 (return (perform (operation.Field 1 1))) ∷ lambda 0 1 3 (fix (capturing_group 1) (return nothing_done))
+fields_of_entry_not : fails fields_known (lambda 0 1 2 (return (perform (operation.Field 1 1))) ∷ lambda 0 1 3 (fix (capturing_group 1) (return global))
     ∷ form 2 (end (perform (operation.Field 1 0))) ∷ []) ≡ true
 fields_of_entry_not = refl
 
 -- ## No regions and no restores
 
-bare : list_all is_bare (tail_call (applied 0 (held_in 2) []) ∷ places nothing_done) ≡ true
+bare : list_all is_bare (tail_call (applied 0 (held_in 2) []) ∷ places global) ≡ true
 bare = refl
 
-no_region : fails is_bare (places (save [] nothing_done)) ≡ true
+no_region : fails is_bare (places (save [] global)) ≡ true
 no_region = refl
 
 no_restores : fails is_bare (places (call (applied 0 (held_in 2) []) (0 ∷ []))) ≡ true
@@ -306,7 +303,7 @@ abbrev with_library : List ℕ → Source
 with_library library = record {
   statics = record { symbols = []; literals = no_literals; globals = [] };
   library = library;
-  bodies = form 2 (end nothing_done) ∷ lambda 0 0 2 (return nothing_done) ∷ lambda 0 1 2 (return nothing_done) ∷ [];
+  bodies = form 2 (end global) ∷ lambda 0 0 2 (return global) ∷ lambda 0 1 2 (return global) ∷ [];
   sites = [];
   bound = [];
 }
@@ -357,12 +354,12 @@ no_turns = refl
 
 -- a call with its operator, part 0, bound behind its operand, part 1
 abbrev bound_call : (x y : ℕ) → Expression
-bound_call x y = bind 2 nothing_done (bind 3 nothing_done (call (applied 0 (held_in x) (held_in y ∷ [])) []))
+bound_call x y = bind 2 global (bind 3 global (call (applied 0 (held_in x) (held_in y ∷ [])) []))
 
 -- an expression in each place where one may stand, the others having no site
 abbrev around_it : Expression → List Expression
 around_it e =
-    let other = nothing_done in
+    let other = global in
     e ∷ bind 4 e other ∷ bind 4 other e ∷ sequence e other ∷ sequence other e ∷ branch e other other ∷ branch other e other ∷ branch other other e
     ∷ fix [] e ∷ return e ∷ end e ∷ save [] e ∷ []
 
@@ -372,12 +369,12 @@ calls_in_turn = refl
 calls_not_in_turn : fails (λ e. parts_in_turn ((1 ∷ 0 ∷ []) ∷ []) e []) (bound_call 3 3 ∷ around_it (bound_call 2 3)) ≡ true
 calls_not_in_turn = refl
 
-tail_calls_in_turn : map (λ e. parts_in_turn ((0 ∷ []) ∷ []) e []) (bind 2 nothing_done (tail_call (applied 0 (held_in 2) [])) ∷ tail_call (applied 0 (held_in 2) []) ∷ []) ≡ true ∷ false ∷ []
+tail_calls_in_turn : map (λ e. parts_in_turn ((0 ∷ []) ∷ []) e []) (bind 2 global (tail_call (applied 0 (held_in 2) [])) ∷ tail_call (applied 0 (held_in 2) []) ∷ []) ≡ true ∷ false ∷ []
 tail_calls_in_turn = refl
 
 -- what is bound in an arm or in a value is out of sight behind it
-out_of_sight : fails (λ e. parts_in_turn ((0 ∷ []) ∷ []) e []) (bind 3 (bind 2 nothing_done nothing_done) calling ∷ sequence (bind 2 nothing_done nothing_done) calling
-    ∷ branch (bind 2 nothing_done nothing_done) calling nothing_done ∷ branch nothing_done (bind 2 nothing_done nothing_done) calling ∷ []) ≡ true
+out_of_sight : fails (λ e. parts_in_turn ((0 ∷ []) ∷ []) e []) (bind 3 (bind 2 global global) calling ∷ sequence (bind 2 global global) calling
+    ∷ branch (bind 2 global global) calling global ∷ branch global (bind 2 global global) calling ∷ []) ≡ true
 out_of_sight = refl
 
 bound_rows : map (λ bound. bound_parts.parts_bound (program [] (form 4 (end (bound_call 3 2)) ∷ []) (2 ∷ []) (bound ∷ []))) ((1 ∷ 0 ∷ []) ∷ (0 ∷ 1 ∷ []) ∷ (1 ∷ []) ∷ (0 ∷ []) ∷ [] ∷ [])
@@ -386,11 +383,11 @@ bound_rows = refl
 
 -- ## Whole bodies and programs, each of which fails one test
 
-bodies_not : fails code_valid (form 2 (end (perform (operation.Operand (held_in 2)))) ∷ form 1 (end (perform (operation.Operand (number 1)))) ∷ form 2 nothing_done
+bodies_not : fails code_valid (form 2 (end (perform (operation.Operand (held_in 2)))) ∷ form 1 (end (perform (operation.Operand (number 1)))) ∷ form 2 global
     ∷ form 2 (end (perform (operation.Prim 0 Put []))) ∷ lambda 0 0 2 (return (perform (operation.Field 1 0))) ∷ []) ≡ true
 bodies_not = refl
 
-programs_not : fails is_valid (program [] (form 2 (end nothing_done) ∷ []) [] [] ∷ two_shown 0 0 (1 ∷ []) ([] ∷ []) ∷ two_shown 0 1 (1 ∷ 1 ∷ []) ([] ∷ [])
+programs_not : fails is_valid (program [] (form 2 (end global) ∷ []) [] [] ∷ two_shown 0 0 (1 ∷ []) ([] ∷ []) ∷ two_shown 0 1 (1 ∷ 1 ∷ []) ([] ∷ [])
     ∷ program (None ∷ []) (form 4 (end (bound_call 3 2)) ∷ []) (2 ∷ []) ((0 ∷ 1 ∷ []) ∷ [])
     ∷ with_statics [] [] (0 ∷ []) ∷ with_statics ((256 ∷ []) ∷ []) [] [] ∷ []) ≡ true
 programs_not = refl

@@ -1,10 +1,9 @@
 -- What each variable of a list has, and what stands in the lists of members and of heads of regions.
 use Rattle.std.proofs.Common.{◌≡◌, ℕ, Bool, true, false, List, [], ◌∷◌, refl, ap, sym, ◌∙◌, subst}
 use Rattle.std.specs.Prelude.{nat_eq, ◌||◌}
-use Rattle.std.specs.List.{list_all}
 use Rattle.std.proofs.lemmas.Bool.{eqb-true, eq-eqb}
 use Rattle.sch_word.specs.trees.NumberSets.{has, unless}
-use Rattle.sch_word.proofs.facts.Booleans.{and_left, and_right, or_left, or_right, false_true}
+use Rattle.sch_word.proofs.facts.Booleans.{or_left, or_right, false_true}
 use Rattle.sch_control.specs.declared.operation.Member.{Member}
 use Rattle.sch_control.specs.Meaning.{among, binds, heads}
 use Rattle.sch_control.specs.Tree.{Expression}
@@ -27,14 +26,6 @@ each_of P (y ∷ ys) f = (f y (ap (λ t. t || has y ys) (eq-eqb y y refl)), each
 pub each_more : (P Q : ℕ → Type 0) → ((x : ℕ) → P x → Q x) → (xs : List ℕ) → EachHas P xs → EachHas Q xs
 each_more P Q f [] h = tt
 each_more P Q f (x ∷ xs) h = (f x h.0, each_more P Q f xs h.1)
-
--- where all pass a test, each that is listed does
-pub each_passes : (test : ℕ → Bool) (ys : List ℕ) → list_all test ys ≡ true → (x : ℕ) → has x ys ≡ true → test x ≡ true
-each_passes test [] h x m = absurd (cc)
-each_passes test (y ∷ ys) h x m = by (nat_eq x y) refl (each_passes test ys (and_right (test y) _ h) x) m where
-  by : (t : Bool) → nat_eq x y ≡ t → (has x ys ≡ true → test x ≡ true) → (t || has x ys) ≡ true → test x ≡ true
-  by true e f m = ap test (eqb-true x y e) ∙ and_left (test y) _ h
-  by false e f m = f m
 
 -- ## Members and heads
 

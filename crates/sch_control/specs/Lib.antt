@@ -2,6 +2,7 @@ pub mod AtomsAndSites
 pub mod BoundParts
 pub mod Covered
 pub mod CoveredOperands
+pub mod EachCall
 pub mod Fits
 pub mod Meaning
 pub mod Operations

@@ -10,7 +10,8 @@ use Rattle.sch_word.specs.declared.mark.MarkKind.{MarkKind}
 use Rattle.sch_word.specs.declared.mark.MarkKind.TheVariants.{Save, Restore, Spill, Call, Return, Tail}
 use Rattle.sch_control.specs.declared.operation.Member.{Member}
 use Rattle.sch_control.specs.Tree.{Expression, perform, bind, sequence, branch, fix, call, tail_call, return, end, save}
-use Rattle.sch_control.specs.Operations.{Procedure, Ending, part_values, operate, member_bytes, members_made, with_procedures}
+use Rattle.sch_control.specs.Operations.{Ending, part_values, operate, member_bytes, members_made, with_procedures}
+use Rattle.sch_word.specs.runs.Procedures.{Procedure}
 
 -- the state, and the marks that have been passed; primitives act on the state alone
 pub record World : Type 0 where

@@ -5,6 +5,7 @@ use Rattle.sch_word.specs.values.Values.{Value, procedure, cell, constant_value}
 use Rattle.sch_word.specs.runs.Store.{Store}
 use Rattle.sch_word.specs.runs.Computation.{Outcome, gives, State, Computation, unreached, after, in_store, read_global, write_global, read_cell, write_cell, new_procedure}
 use Rattle.sch_word.specs.runs.Charges.{charge, cell_bytes, procedure_bytes}
+use Rattle.sch_word.specs.runs.Procedures.{Procedure}
 use Rattle.sch_word.specs.values.PrimitiveRows.{primitive}
 use Rattle.sch_word.specs.values.Options.{when_some}
 use Rattle.sch_control.specs.declared.operation.Atom.{Atom}
@@ -17,11 +18,6 @@ use Rattle.sch_control.specs.declared.operation.Member.{Member}
 use Rattle.sch_control.specs.declared.operation.Operation.{Operation}
 use Rattle.sch_control.specs.declared.operation.Operation.TheVariants as operation
 use Rattle.sch_control.specs.declared.operation.Application.{Application}
-
--- a procedure: the label of its body, and the values of its free variables
-pub record Procedure : Type 0 where
-  pub label : ℕ
-  pub fields : List Value
 
 -- what an operation ends with; none where some value that it reads is not there
 abbrev pub Ending : Type 0

@@ -8,7 +8,7 @@ use Rattle.sch_word.specs.runs.Runs.{Run, Statics, seen_in, starting_store, star
 use Rattle.sch_word.specs.declared.mark.MarkKind.TheVariants.{Enter}
 use Rattle.sch_control.specs.declared.body.Entry.{Entry}
 use Rattle.sch_control.specs.Tree.{Code, Source}
-use Rattle.sch_control.specs.Operations.{Procedure}
+use Rattle.sch_word.specs.runs.Procedures.{library_procedures}
 use Rattle.sch_control.specs.Valid.{entries_of}
 use Rattle.sch_control.specs.Meaning.{World, Result, Environment, Callee, plain, marked, on_outcome, on_return, do_body, entry_environment, nothing}
 
@@ -49,11 +49,6 @@ known_entry (Some e) = e
 -- how the body of a label is entered, if there is one that is
 abbrev pub entry_at : List (Option Entry) → ℕ → Option Entry
 entry_at entries label = known_entry (slice_get entries label)
-
--- the procedures of the library, by their labels
-abbrev pub library_procedures : List ℕ → List Procedure
-library_procedures [] = []
-library_procedures (label ∷ library) = record { label = label; fields = [] } ∷ library_procedures library
 
 abbrev pub starting_world : Statics → (library : List ℕ) → (heap : ℕ) → List Answer → (entries : ℕ) → World
 starting_world statics library heap answers entries = record {

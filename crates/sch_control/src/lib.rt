@@ -2,6 +2,7 @@
 //! position or the last of a form; which programs are valid, and what a program does.
 #![tactic(auto)]
 
+mod arrivals;
 mod body;
 mod copies;
 mod known_values;
@@ -19,6 +20,7 @@ mod saved_body;
 mod set_lists;
 mod tree;
 
+pub use arrivals::{argument_register, argument_slot, arrival};
 pub use body::{Body, Entry};
 pub use copies::{copy_application, copy_members, copy_operation};
 pub use known_values::{after_operation, known};

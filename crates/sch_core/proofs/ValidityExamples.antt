@@ -14,13 +14,13 @@ use Rattle.sch_sketch.specs.declared.sketch.Position.TheVariants.{Value}
 use Rattle.sch_sketch.specs.Sketch as sketch
 use Rattle.sch_sketch.specs.Sketch.{no_sketch, and_sketch, sequencing}
 use Rattle.sch_expansion.specs.Expands as ex
-use Rattle.sch_link_tables.specs.Programs.{Definition, program_of}
+use Rattle.sch_link_tables.specs.Programs.{Definition, program_of, procedures_of_each}
 use Rattle.sch_link_program.specs.Size.{size_of_definitions}
 use Rattle.sch_toplevel.specs.Texts.{SketchesExpand}
 use Rattle.sch_core.specs.TextForms.{Form, expression, definition, sketch_of, AreDefined, AreOfData, forms_weight}
 use Rattle.sch_core.specs.Excess.{AreFew, excess}
 use Rattle.sch_core.specs.SoundDrafts.{IsSound, levels}
-use Rattle.sch_core.specs.LibraryDefinitions.{AreDefinitions, AreOrdered, AreKnown, IsSoundLibrary, procedures_of_each}
+use Rattle.sch_core.specs.LibraryDefinitions.{AreDefinitions, AreOrdered, AreKnown, IsSoundLibrary}
 use Rattle.sch_sketch.specs.DraftMeasures.{size}
 use Rattle.sch_core.specs.SizesOfStatics.{statics_in, statics_in_each}
 use Rattle.sch_core.specs.Quotable.{own_in_range, datum_in_range, AreQuotable}

@@ -1,3 +1,4 @@
 pub mod Parts
 pub mod Soundness
 pub mod Levels
+pub mod NearVariables

@@ -4,5 +4,4 @@ pub mod Scopes
 pub mod Shapes
 pub mod Limits
 pub mod FewBodies
-pub mod Constants
 pub mod Names

@@ -1,4 +1,3 @@
-pub mod NodesOfDrafts
 pub mod StaticsOfPrograms
 pub mod StaticsOfDrafts
 pub mod StaticsOfRows

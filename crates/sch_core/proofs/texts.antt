@@ -1,3 +1,4 @@
+pub mod ErrorLaws
 pub mod ProgramOfText
 pub mod TextSizes
 pub mod ValidTexts

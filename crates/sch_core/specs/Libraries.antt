@@ -7,10 +7,8 @@ use Rattle.sch_expansion.specs.FaultOrder.{rank}
 use Rattle.sch_link_tables.specs.Programs.{Definition}
 use Rattle.sch_toplevel.specs.Items.{item_places, ItemsExpand, ItemHasFault, ItemsRead}
 use Rattle.sch_core.specs.declared.error.CoreError.{CoreError}
-use Rattle.sch_core.specs.declared.error.CoreError.TheVariants as errors
 use Rattle.sch_core.specs.declared.error.Kind.{Kind}
-use Rattle.sch_core.specs.declared.error.Kind.TheVariants as kinds
-use Rattle.sch_core.specs.Answer.{IsErrorFor}
+use Rattle.sch_core.specs.Answer.{IsErrorBy}
 use Rattle.sch_core.specs.Excess.{first_definition_excess}
 
 -- the definitions of items without a fault, none of which has too much of anything
@@ -34,7 +32,4 @@ pub record IsLibraryFault (items : Data) (f : Fault) : Type 0 where
 
 -- the error is out of memory, names the fault of the items, or the first item with too many variables
 abbrev pub IsLibraryError : Data → CoreError → Type 0
-IsLibraryError items errors.Memory = Unit {0}
-IsLibraryError items (errors.Limit kinds.Variables at) = LibraryExceedsAt items kinds.Variables at
-IsLibraryError items (errors.Limit kinds.Free at) = LibraryExceedsAt items kinds.Free at
-IsLibraryError items e = (f : Fault) × IsErrorFor e f × IsLibraryFault items f
+IsLibraryError items e = IsErrorBy (IsLibraryFault items) (LibraryExceedsAt items) e

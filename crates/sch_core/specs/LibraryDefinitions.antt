@@ -3,23 +3,15 @@ use Rattle.std.specs.Prelude.{◌≡◌, ◌≤◌, ◌*◌, ℕ, true, List, []
 use Rattle.sch_word.specs.trees.Shape.{max_levels}
 use Rattle.sch_read.specs.Valid.{max_weight}
 use Rattle.sch_names.specs.Scope.{is_among, VariableNames}
-use Rattle.sch_sketch.specs.Draft.{Draft, Drafts, lambda, no_drafts, and_draft}
+use Rattle.sch_sketch.specs.Draft.{Draft, Drafts}
 use Rattle.sch_link_tables.specs.Constants.{HasConstants}
 use Rattle.sch_link_tables.specs.Named.{own_global, library_global, globals_in, globals_in_each}
-use Rattle.sch_link_tables.specs.Programs.{Definition, names_of_each}
+use Rattle.sch_link_tables.specs.Programs.{Definition, procedure_of, procedures_of_each, names_of_each}
 use Rattle.sch_link_program.specs.Size.{size_of_definitions}
 use Rattle.sch_core.specs.SoundDrafts.{IsProcedure, IsSound, levels}
 use Rattle.sch_core.specs.Excess.{AreFew}
 use Rattle.sch_core.specs.Quotable.{HasWords}
 use Rattle.sch_core.specs.SizesOfStatics.{statics_in_each}
-
--- the procedure that a definition gives
-abbrev pub procedure_of : Definition → Draft
-procedure_of d = lambda d.formals d.rest d.body
-
-abbrev pub procedures_of_each : List Definition → Drafts
-procedures_of_each [] = no_drafts
-procedures_of_each (d ∷ ds) = and_draft (procedure_of d) (procedures_of_each ds)
 
 -- there is a name for each draft, and each draft is that of a procedure
 abbrev pub AreNamedProcedures : VariableNames → List Draft → Type 0

@@ -10,8 +10,7 @@ use Rattle.sch_sketch.specs.Sketch.{Sketch, text, rest}
 use Rattle.sch_form_bodies.specs.Assignments.{row_define}
 use Rattle.sch_sketch.specs.Definitions.{defined_name}
 use Rattle.sch_expansion.specs.Expands.{Expands}
-use Rattle.sch_link_tables.specs.Programs.{Definition, names_of_each}
-use Rattle.sch_core.specs.LibraryDefinitions.{procedure_of, procedures_of_each}
+use Rattle.sch_link_tables.specs.Programs.{Definition, names_of_each, procedure_of, procedures_of_each}
 use Rattle.sch_core.specs.SizesOfStatics.{statics_in_each}
 use Rattle.sch_core.specs.Quotable.{IsQuotable, AllQuotable}
 

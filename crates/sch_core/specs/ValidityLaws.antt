@@ -7,11 +7,11 @@ use Rattle.sch_read.specs.Valid.{weights}
 use Rattle.sch_names.specs.Scope.{Globals}
 use Rattle.sch_sketch.specs.Draft.{Drafts}
 use Rattle.sch_link_tables.specs.Constants.{HasConstants, HaveConstants}
-use Rattle.sch_link_tables.specs.Programs.{Definition, program_of}
+use Rattle.sch_link_tables.specs.Programs.{Definition, program_of, procedure_of, procedures_of_each}
 use Rattle.sch_core.specs.Excess.{HasFew}
 use Rattle.sch_toplevel.specs.Texts.{SketchesExpand}
 use Rattle.sch_core.specs.TextForms.{Form, sketch_of, ItemExpands, HasEarlier, AreDefined, HasNames, AreOfData, forms_weight, AreSmall}
-use Rattle.sch_core.specs.LibraryDefinitions.{procedure_of, procedures_of_each, IsDefinition, AreDefinitions, IsOrdered, AreOrdered}
+use Rattle.sch_core.specs.LibraryDefinitions.{IsDefinition, AreDefinitions, IsOrdered, AreOrdered}
 use Rattle.sch_sketch.specs.DraftMeasures.{size, size_each}
 use Rattle.sch_core.specs.SizesOfStatics.{statics_in}
 use Rattle.sch_core.specs.Quotable.{AllQuotable, HasWords, HaveWords}

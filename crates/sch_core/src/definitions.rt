@@ -4,14 +4,15 @@ ghost use Rattle.std.specs.Prelude.{◌≡◌, ◌≤◌, ◌<◌, ◌^◌, ◌*
 ghost use Rattle.sch_word.specs.trees.Shape.{max_operands};
 ghost use Rattle.sch_names.specs.ScopeView.{given_names};
 ghost use Rattle.sch_link_tables.specs.Programs as words;
-ghost use Rattle.sch_link_tables.specs.Programs.{names_of_each};
+ghost use Rattle.sch_link_tables.specs.Programs.{names_of_each, procedure_of};
+ghost use Rattle.sch_link_tables.specs.Room.{has_near_variables};
 ghost use Rattle.sch_link_program.specs.Definitions.{definition_of, definitions_of};
-ghost use Rattle.sch_link_program.specs.Size.{size_of_definitions, have_few_formals};
+ghost use Rattle.sch_link_program.specs.Size.{size_of_definitions, have_few_formals, have_near_bodies};
 ghost use Rattle.sch_read.specs.Valid.{max_weight, weights};
 ghost use Rattle.sch_read.specs.Views.{data_of};
 ghost use Rattle.sch_sketch.specs.DraftMeasures.{size};
 ghost use Rattle.sch_sketch.specs.DraftView.{draft_of};
-ghost use Rattle.sch_core.specs.LibraryDefinitions.{procedure_of, AreNamedProcedures};
+ghost use Rattle.sch_core.specs.LibraryDefinitions.{AreNamedProcedures};
 ghost use Rattle.sch_core.specs.SoundDrafts.{IsProcedure};
 ghost use Rattle.sch_core.specs.Libraries.{IsLibraryOf, IsLibraryError};
 ghost use Rattle.sch_core.specs.Excess.{definition_excess, first_definition_excess};
@@ -78,6 +79,7 @@ fn definitions<'a>(
 fn definition_excess(alloc: Global, d: &Definition<'_>) -> Result<Option<Kind>, Mem>
     requires formals { d.now.formals ≤ max_operands }
     requires few { size (draft_of d.now.body) < 2 ^ 32 }
+    requires variables { has_near_variables (draft_of d.now.body) ≡ true }
     ensures { IfOk result (λ kind. kind ≡ definition_excess (definition_of d.now)) }
 {
     if is_small(d) {
@@ -102,6 +104,7 @@ fn first_definition_excess(
 ) -> Result<Option<(Kind, u32)>, Mem>
     requires formals { have_few_formals (definitions_of definitions.now) ≡ true }
     requires small { size_of_definitions (definitions_of definitions.now) < 2 ^ 32 }
+    requires variables { have_near_bodies (definitions_of definitions.now) ≡ true }
     ensures { IfOk result (λ found. found ≡ first_definition_excess (item_places (data_of items.now)) (definitions_of definitions.now)) }
 {
     let n = items.len().min(definitions.len());

@@ -1,6 +1,7 @@
 -- A machine that is followed step by step, with the marks that it passes.
-use Rattle.std.proofs.Common.{◌≡◌, ℕ, zero, suc, ◌+◌, ◌*◌, ◌-◌, ◌<◌, ◌≤◌, ◌^◌, List, [], ◌∷◌, ◌++◌, length, Option, Some, None, Result, Ok, Err, refl, sym, ap, ◌∙◌, subst, arith, append_assoc, append-nil}
+use Rattle.std.proofs.Common.{◌≡◌, ℕ, zero, suc, ◌+◌, ◌*◌, ◌-◌, ◌<◌, ◌≤◌, ◌^◌, List, [], ◌++◌, length, Option, Some, None, Result, Ok, Err, refl, sym, ap, ◌∙◌, subst, arith, append-nil}
 use Rattle.std.specs.List.{flat_map}
+use Rattle.std.proofs.lemmas.Grind.{flat_map-append}
 use Rattle.sch_word.specs.declared.answer.Answer.{Answer}
 use Rattle.sch_word.specs.declared.mark.MarkKind.{MarkKind}
 use Rattle.sch_insn.specs.declared.state.StuckCause.{StuckCause}
@@ -66,10 +67,6 @@ pub record Followed (marks_at : ℕ → List MarkKind) (n : ℕ) (events : List 
   pub leads : Leads (marks_at) n n events from s
 
 module _ (marks_at : ℕ → List MarkKind) where
-  flat_append : (xs ys : List ℕ) → flat_map (marks_at) (xs ++ ys) ≡ flat_map (marks_at) xs ++ flat_map (marks_at) ys
-  flat_append [] ys = refl
-  flat_append (x ∷ xs) ys = ap (λ l. marks_at x ++ l) (flat_append xs ys) ∙ sym (append_assoc (marks_at x) (flat_map (marks_at) xs) (flat_map (marks_at) ys))
-
   followed_here : (e : Progress) (s : State) → e ≡ Runs s → Followed marks_at 0 [] e s
   followed_here e s h = record { from = s; begins = h; leads = leads_here (marks_at) s }
 
@@ -92,7 +89,7 @@ module _ (marks_at : ℕ → List MarkKind) where
         ap (λ x. marks_from marks_at (n + k) x) p.begins
         ∙ ap (λ m. flat_map (marks_at) (traced (m + k) p.from).trace) (sym size)
         ∙ ap (λ t. flat_map (marks_at) t.trace) (path_traced p.from p.leads.way s p.leads.path k)
-        ∙ flat_append (passed p.from p.leads.way) (traced k s).trace
+        ∙ flat_map-append marks_at (passed p.from p.leads.way) (traced k s).trace
         ∙ ap (λ l. l ++ flat_map (marks_at) (traced k s).trace) p.leads.events_are
 
     module _ (steps : ℕ) (before : n < steps) where

@@ -1,20 +1,18 @@
 -- The activations of a run, mark by mark: what one mark more makes of them, and that they have no more marks than the run.
-use Rattle.std.proofs.Common.{◌≡◌, ℕ, ◌+◌, ◌-◌, ◌<◌, ◌≤◌, ◌^◌, Bool, true, false, not, ◌&&◌, cond, List, [], ◌∷◌, ◌++◌, length, Option, Some, None, refl, sym, ap, ◌∙◌, subst, arith, append_assoc, append-nil, length-append}
+use Rattle.std.proofs.Common.{◌≡◌, ℕ, ◌+◌, ◌-◌, ◌<◌, ◌≤◌, ◌^◌, Bool, true, false, not, ◌&&◌, cond, List, [], ◌∷◌, ◌++◌, length, Option, Some, None, refl, sym, ap, ◌∙◌, subst, arith, append_assoc, append-nil}
 use Rattle.std.specs.List.{cons_option}
 use Rattle.std.proofs.lemmas.List.Sums.{sum_by-cons, sum_by-append}
+use Rattle.std.proofs.lemmas.List.{length_push}
 use Rattle.sch_word.specs.declared.mark.MarkKind.{MarkKind}
 use Rattle.sch_word.specs.declared.mark.MarkKind.TheVariants.{Enter, Call, Return, Tail}
 use Rattle.sch_word.specs.runs.Activations.{Activations, after, activations, is_enter, none_yet, pass, recorded, resumed, settled, with_mark}
+use Rattle.sch_word.proofs.facts.AfterMarks.{after_both}
 use Rattle.sch_count.specs.declared.tally.Tally.{Tally}
 use Rattle.sch_count.specs.ActivationCounts.{replaced, replaced_by, unended}
 use Rattle.sch_count.specs.Tallied.{marks_in, HasRoom, Tallies, TalliesMarks}
 use Rattle.sch_count.proofs.RowSums.{sum-entered, sum-changed, sum-closed}
 
 -- ---- one mark more
-
-after_more : (a : Activations) (marks : List MarkKind) (m : MarkKind) → after a (marks ++ m ∷ []) ≡ pass m (settled m (after a marks))
-after_more a [] m = refl
-after_more a (k ∷ marks) m = after_more (pass k (settled k a)) marks m
 
 replaced_more : (a : Activations) (marks : List MarkKind) (m : MarkKind) → replaced a (marks ++ m ∷ []) ≡ replaced a marks ++ replaced_by m (settled m (after a marks))
 replaced_more a [] m = append-nil (replaced_by m (settled m a))
@@ -25,7 +23,7 @@ replaced_more a (k ∷ marks) m =
 pub one_more : (t : Tally) (marks : List MarkKind) (m : MarkKind) → Tallies t (pass m (settled m (activations marks))) (replaced none_yet marks ++ replaced_by m (settled m (activations marks)))
     → TalliesMarks t (marks ++ m ∷ [])
 one_more t marks m h =
-    subst (λ a. Tallies t a (replaced none_yet (marks ++ m ∷ []))) (sym (after_more none_yet marks m))
+    subst (λ a. Tallies t a (replaced none_yet (marks ++ m ∷ []))) (sym (after_both none_yet marks (m ∷ [])))
     (subst (Tallies t (pass m (settled m (activations marks)))) (sym (replaced_more none_yet marks m)) h)
 
 -- ---- how many marks activations have
@@ -57,13 +55,10 @@ settled_le m a over = by (a.handed_over && not (is_enter m))
     by true = let e = resumed_same a.suspended a.ended over in let l = top_less a.ended over a.suspended a.current in omega (arith, e, l)
     by false = omega arith
 
-longer : (own : List MarkKind) (m : MarkKind) → length (own ++ m ∷ []) ≡ length own + 1
-longer own m = length-append own (m ∷ [])
-
 changed_le : (ended over suspended : List (List MarkKind)) (m : MarkKind) (top : Option (List MarkKind))
     → marks_in (ended ++ (over ++ (with_mark m top ++ suspended))) ≤ marks_in (ended ++ (over ++ cons_option top suspended)) + 1
 changed_le ended over suspended m None = omega arith
-changed_le ended over suspended m (Some own) = omega (arith, sum-changed length ended over suspended own (own ++ m ∷ []), longer own m)
+changed_le ended over suspended m (Some own) = omega (arith, sum-changed length ended over suspended own (own ++ m ∷ []), length_push own m)
 
 recorded_same : (m : MarkKind) (top : Option (List MarkKind)) (suspended : List (List MarkKind)) → cons_option (recorded m top) suspended ≡ with_mark m top ++ suspended
 recorded_same m None suspended = refl
@@ -78,7 +73,7 @@ recorded_le m a over =
 closed_le : (ended over suspended : List (List MarkKind)) (m : MarkKind) (top : Option (List MarkKind))
     → marks_in ((ended ++ with_mark m top) ++ (over ++ suspended)) ≤ marks_in (ended ++ (over ++ cons_option top suspended)) + 1
 closed_le ended over suspended m None = let e = ap (λ l. marks_in (l ++ (over ++ suspended))) (append-nil ended) in omega (arith, e)
-closed_le ended over suspended m (Some own) = omega (arith, sum-closed length ended over suspended own (own ++ m ∷ []), longer own m)
+closed_le ended over suspended m (Some own) = omega (arith, sum-closed length ended over suspended own (own ++ m ∷ []), length_push own m)
 
 none_over : (m : MarkKind) (a : Activations) (over : List (List MarkKind)) (n : ℕ) → all_marks (pass m a) over ≤ n → all_marks (pass m a) (over ++ []) ≤ n
 none_over m a over n h = subst (λ l. all_marks (pass m a) l ≤ n) (sym (append-nil over)) h

@@ -76,12 +76,14 @@ marked bodies own o m enter call h = record {
 
 -- ---- the tally behind each mark
 
+-- what is suspended stays suspended where a row is set
+suspended_still : (t : Tally) (a : Activations) → AreSuspended (length t.rows.items) a.suspended (reverse t.suspended) → (i : ℕ) (v : Row)
+    → AreSuspended (length (slice_set t.rows.items i v)) a.suspended (reverse t.suspended)
+suspended_still t a h i v = subst (λ n. AreSuspended n a.suspended (reverse t.suspended)) (sym (length-set t.rows.items i v)) h
+
 module _ (t : Tally) (a : Activations) (over : List (List MarkKind)) (h : Tallies t a over) where
   abbrev old_row : ℕ → Row
   old_row b = row_over a.ended (over ++ unended a) b
-
-  suspended_still : (i : ℕ) (v : Row) → AreSuspended (length (slice_set t.rows.items i v)) a.suspended (reverse t.suspended)
-  suspended_still i v = subst (λ n. AreSuspended n a.suspended (reverse t.suspended)) (sym (length-set t.rows.items i v)) h.suspended
 
   pub entered : (label : ℕ) (row : Row) → label < length t.rows.items → row ≡ get_or t.rows.items label row → a.handed_over ≡ false
       → Tallies (record {
@@ -92,7 +94,7 @@ module _ (t : Tally) (a : Activations) (over : List (List MarkKind)) (h : Tallie
       }) (record { current = Some (Enter label ∷ []); suspended = a.suspended; handed_over = a.handed_over; ended = a.ended }) (over ++ cons_option a.current [])
   entered label row within is free = record {
     top = record { known = omega (arith, within, length-set t.rows.items label v); is_body = λ b. refl; saves = refl; called = refl };
-    suspended = suspended_still label v;
+    suspended = suspended_still t a h.suspended label v;
     handed_over = h.handed_over;
     handing_over = subst (λ q. IsHandedOver q (Some (Enter label ∷ []))) (sym free) tt;
     rows = updated t.rows.items label v old_row new h.rows within here elsewhere;
@@ -123,9 +125,6 @@ module _ (t : Tally) (a : Activations) (over : List (List MarkKind)) (own : List
   abbrev open_row : ℕ → Row
   open_row b = row_over a.ended (over ++ (own ∷ a.suspended)) b
 
-  still_suspended : (i : ℕ) (v : Row) → AreSuspended (length (slice_set t.rows.items i v)) a.suspended (reverse t.suspended)
-  still_suspended i v = subst (λ n. AreSuspended n a.suspended (reverse t.suspended)) (sym (length-set t.rows.items i v)) h.suspended
-
   -- a save
   saved_top : (row : Row) (x : ℕ) → row ≡ get_or t.rows.items o.body row
       → Tallies (record {
@@ -137,7 +136,7 @@ module _ (t : Tally) (a : Activations) (over : List (List MarkKind)) (own : List
   saved_top row x there = record {
     top = resized (length t.rows.items) (length (slice_set t.rows.items o.body v)) (own ++ Save x ∷ []) (record { body = o.body; saves = o.saves + 1; called = o.called }) (sym (length-set t.rows.items o.body v))
         (marked (length t.rows.items) own o (Save x) refl refl is);
-    suspended = still_suspended o.body v;
+    suspended = suspended_still t a h.suspended o.body v;
     handed_over = h.handed_over;
     handing_over = handing a.handed_over h.handing_over;
     rows = updated t.rows.items o.body v open_row new h.rows is.known here elsewhere;
@@ -208,7 +207,7 @@ module _ (t : Tally) (a : Activations) (over : List (List MarkKind)) (own : List
         }) (record { current = None; suspended = a.suspended; handed_over = a.handed_over; ended = a.ended ++ with_mark m (Some own) }) over
     closed_leaf row uncalled there = record {
       top = tt;
-      suspended = still_suspended o.body v;
+      suspended = suspended_still t a h.suspended o.body v;
       handed_over = h.handed_over;
       handing_over = handing_none a.handed_over;
       rows = updated t.rows.items o.body v open_row closed_row h.rows is.known here closed_elsewhere;

@@ -1,9 +1,9 @@
 -- The image of a program whose items follow the runs of its frames.
-use Rattle.std.proofs.Common.{◌≡◌, ◌≤◌, ℕ, true, suc, ◌+◌, ◌*◌, List, [], ◌∷◌, ◌++◌, length, map, refl, Option, Some, None, sym, ap, ◌∙◌, subst, arith}
+use Rattle.std.proofs.Common.{◌≡◌, ◌≤◌, ℕ, true, suc, ◌+◌, ◌*◌, List, [], ◌∷◌, ◌++◌, length, map, refl, Some, None, sym, ap, ◌∙◌, subst, arith}
 use Rattle.std.specs.Prelude.{IfErr, IsErrAnd, IsTrue, Result, Ok, Err, replicate}
 use Rattle.std.specs.List.{flat_map}
-use Rattle.std.proofs.lemmas.Bool.{and_parts, leb-true}
 use Rattle.std.proofs.lemmas.List.{append-nil}
+use Rattle.sch_frames.proofs.EndsAlike.{follows_some}
 use Rattle.sch_word.specs.declared.answer.Answer.{Answer}
 use Rattle.sch_word.specs.runs.ProgramLayout.{data_address, max_text_size, text_address}
 use Rattle.sch_word.specs.runs.Runs.{Run, Statics}
@@ -33,10 +33,8 @@ use Rattle.sch_control.specs.declared.body.Body.{Body}
 use Rattle.sch_control.specs.SourceView.{codes_of}
 use Rattle.sch_control.specs.Tree as control
 use Rattle.sch_control.specs.Run as control_run
-use Rattle.sch_frames.specs.declared.frame_program.FrameProgram.{FrameProgram}
 use Rattle.sch_frames.specs.Standing.{all_marks_stand}
-use Rattle.sch_frames.specs.Valid.{max_words}
-use Rattle.sch_frames.specs.Does.{Follows, SameRuns}
+use Rattle.sch_frames.specs.Does.{SameRuns}
 use Rattle.sch_frames.specs.Run as frames_run
 use Rattle.sch_frames.specs.Tree as frames
 use Rattle.sch_asm.specs.Narrow.{narrowed}
@@ -80,25 +78,17 @@ in_image : (P : ℕ → List Segment → Type 0) (text words : List ℕ) (zeros 
 in_image P text words zeros image lies h =
     subst (λ a. P a (memory image.segments)) (sym lies.entry) (subst (P text_address) (sym (memory_is text words zeros image lies)) h)
 
--- a run of the frames, where the control program is not wrong
-not_wrong : (a b : Option Run) (r : Run) → a ≡ Some r → Follows a b → b ≡ Some r
-not_wrong a b r e = subst (λ o. Follows o b → b ≡ Some r) (sym e) (λ f. f)
-
 frames_runs : (p : control.Source) (f : frames.Source) (heap depth : ℕ) → SameRuns p f → (runs : List Answer → ℕ → Run)
     → ((answers : List Answer) (entries : ℕ) → control_run.run p heap depth answers entries ≡ Some (runs answers entries)) → AreRuns f heap depth runs
 frames_runs p f heap depth same runs are = record {
   are = λ answers entries.
-      not_wrong (control_run.run p heap depth answers entries) (frames_run.run f heap depth answers entries) (runs answers entries) (are answers entries) (same heap depth answers entries);
+      follows_some (control_run.run p heap depth answers entries) (frames_run.run f heap depth answers entries) (runs answers entries) (are answers entries) (same heap depth answers entries);
 }
 
 -- bodies have the names of their codes
 pub names_of_codes : (bs : List Body) → map (λ b. b.name) bs ≡ map (λ c. c.name) (codes_of bs)
 names_of_codes [] = refl
 names_of_codes (b ∷ bs) = ap (λ names. b.name ∷ names) (names_of_codes bs)
-
--- a frame program has frames of few words
-pub few_words : (q : FrameProgram) → q.words ≤ max_words
-few_words q = leb-true q.words max_words (and_parts _ _ q.within).0
 
 -- the frame program of a program, by its parts
 pub framed_parts : (p : control.Source) (f : frames.Source) → f.statics ≡ p.statics → f.library ≡ p.library → f.bodies ≡ map registers_code p.bodies → f.words ≡ registers_words p.bodies → f ≡ framed p
@@ -137,7 +127,7 @@ pub record AreSelected (f : frames.Source) (heap depth : ℕ) (a : Asm) : Type 0
   pub items : a.items ≡ program_code f heap depth
   pub words_end : data_address + 8 * length a.words ≡ heap_of f
 
--- the routines that know how values are in the machine have no marks, and write no word that RBP names
+-- the routines that know how values are in the machine have no marks, and write no word through the frame's register
 value_stored : (heap_end : ℕ) → stores_marked None (value_code heap_end) ≡ true
 value_stored heap_end = refl
 

@@ -1,4 +1,4 @@
--- Rows of where stores are marked: RBP is register 5, and what an instruction writes is an operand in memory.
+-- Rows of where stores are marked: the frame's register is number 5, and what an instruction writes is an operand in memory.
 use Rattle.std.proofs.Common.{◌≡◌, [], ◌∷◌, true, false, cond, ◌==◌, refl, inl, inr, ⊎_elim, map}
 use Rattle.std.specs.Prelude.{pos}
 use Rattle.sch_word.specs.declared.mark.MarkKind.TheVariants.{Enter, Save, Spill, Temp, Argument, Restore, Call, Return}

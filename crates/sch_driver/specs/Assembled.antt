@@ -55,7 +55,7 @@ pub record IsFrameSize (p : Source) (words : ℕ) : Type 0 where
 -- The image is laid out as a program's, with this number of instructions. Its words end where the heap begins, and behind
 -- them it has room for the heap and for frames of this number of words at this depth. Where the control program is never
 -- wrong, it follows its runs, has exited within a bound of steps where one has ended, its marks are these, and its activations
--- save lazily. Each write of memory through RBP has its mark.
+-- save lazily. Each write of memory through the frame's register has its mark.
 pub record IsAssembled (p : Source) (heap depth frame_words instructions : ℕ) (marks : List Mark) (image : Image) : Type 0 where
   pub laid_out : HasProgramLayout image
   pub counted : instructions ≡ length laid_out.code

@@ -48,8 +48,8 @@ pub record AreListed (p : tree.Source) (listing : Listing) : Type 0 where
 -- program, and no longer than the size of the core program allows. The words of its data end where the heap begins, and
 -- behind them it has room for the heap and for the frames of calls, of the words that are listed. Where a run of the core
 -- program has ended, its machine has exited within a bound of steps by the instructions that are listed. The marks that
--- are listed are those of its text and of its runs. Each instruction that writes memory through RBP has exactly one mark of a
--- store, and in each activation that has ended a call of its own follows each save, and a call comes before each restore.
+-- are listed are those of its text and of its runs. Each instruction that writes memory through the frame's register has exactly one
+-- mark of a store, and in each activation that has ended a call of its own follows each save, and a call comes before each restore.
 pub record IsCompiled (library text : List ℕ) (heap depth : ℕ) (file : List ℕ) (listing : Listing) : Type 0 where
   pub program : tree.Source
   pub means : Means library text program

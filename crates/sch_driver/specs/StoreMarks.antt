@@ -1,5 +1,5 @@
--- Where what writes memory through RBP stands in a text, and under which marks. Words of frames are written so, but for the list
--- of operands that are left over, which a run-time routine puts into its slot.
+-- Where what writes memory through the frame's register stands in a text, and under which marks. Words of frames are written so, but
+-- for the list of operands that are left over, which a run-time routine puts into its slot.
 use Rattle.std.specs.Prelude.{◌≡◌, ◌+◌, ◌⊎◌, ℕ, Bool, true, false, List, [], ◌∷◌, length, filter}
 use Rattle.sch_word.specs.declared.mark.MarkKind.{MarkKind}
 use Rattle.sch_word.specs.declared.mark.MarkKind.TheVariants as mark
@@ -16,8 +16,8 @@ is_store mark.Temp = true
 is_store mark.Argument = true
 is_store _ = false
 
--- An instruction with the marks of its address: where it writes memory through RBP it has exactly one mark of a store, and any
--- other one has none, but for an operand that is set aside in a register.
+-- An instruction with the marks of its address: where it writes memory through the frame's register it has exactly one mark of a
+-- store, and any other one has none, but for an operand that is set aside in a register.
 pub record HasStoreMark (i : Insn) (kinds : List MarkKind) : Type 0 where
   pub written : writes_at FRAME_REGISTER i ≡ true → (m : MarkKind) × (filter is_store kinds ≡ m ∷ [])
   pub unwritten : writes_at FRAME_REGISTER i ≡ false → (filter is_store kinds ≡ []) ⊎ (filter is_store kinds ≡ mark.Temp ∷ [])

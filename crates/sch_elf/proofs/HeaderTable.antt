@@ -10,6 +10,10 @@ use Rattle.sch_elf.specs.Numbers.{number}
 use Rattle.sch_elf.specs.declared.header.ProgramHeader.{ProgramHeader}
 use Rattle.sch_elf.specs.Writing.{program_header_bytes}
 
+-- what is answered in place of a header that is not there
+pub no_header : ProgramHeader
+no_header = record { p_type = 0; p_flags = 0; p_offset = 0; p_vaddr = 0; p_paddr = 0; p_filesz = 0; p_memsz = 0; p_align = 0 }
+
 -- a number that was written is read back
 pub reads : (size x : ℕ) → x < 256 ^ size → little_number size (little_bytes size x ++ []) ≡ x
 reads size x h = little_number-reads_back size x [] h

@@ -17,6 +17,7 @@ use Rattle.sch_elf.specs.Stands.{DoNotOverlap, IsLoadable, IsSound, file_segment
 use Rattle.sch_elf.specs.declared.header.ProgramHeader.{ProgramHeader}
 use Rattle.sch_elf.specs.declared.image.Segment.{Segment}
 use Rattle.sch_elf.specs.declared.image.Image.{Image}
+use Rattle.sch_elf.proofs.HeaderTable.{no_header}
 
 -- the memory of one header more
 pub memory_more : (hs : List ProgramHeader) (i : ℕ) (d : ProgramHeader) → i < length hs →
@@ -82,9 +83,6 @@ size_read file h fills inside =
 apart_read : (file : List ℕ) (one other : ProgramHeader) → size_of (file_segment file one) ≡ one.p_memsz → size_of (file_segment file other) ≡ other.p_memsz →
     DoNotOverlap one other → AreApart (file_segment file one) (file_segment file other)
 apart_read file one other s t apart = λ address a b c d. apart address a (omega (arith, s, b)) c (omega (arith, t, d))
-
-no_header : ProgramHeader
-no_header = record { p_type = 0; p_flags = 0; p_offset = 0; p_vaddr = 0; p_paddr = 0; p_filesz = 0; p_memsz = 0; p_align = 0 }
 
 -- the segment of a number is that of the header of this number
 segment_at : (file : List ℕ) (hs : List ProgramHeader) (i : ℕ) (d : Segment) → i < length hs → get_or (map (file_segment file) hs) i d ≡ file_segment file (get_or hs i no_header)

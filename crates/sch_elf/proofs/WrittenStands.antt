@@ -14,7 +14,7 @@ use Rattle.sch_elf.specs.Stands.{DoNotOverlap, IsForThisMachine, IsLoadable, IsS
 use Rattle.sch_elf.specs.Writing.{contents, file_header_bytes, image_bytes, load, need, offset_from, placed, program_header_bytes, start}
 use Rattle.sch_elf.specs.declared.image.Segment.{Segment}
 use Rattle.sch_elf.specs.declared.image.Image.{Image}
-use Rattle.sch_elf.proofs.HeaderTable.{HasRoom, all_kept, header_at, headers_before, headers_read, reads}
+use Rattle.sch_elf.proofs.HeaderTable.{HasRoom, all_kept, header_at, headers_before, headers_read, reads, no_header}
 use Rattle.sch_elf.proofs.FileOfImage.{headers_end, length-headers, length-placed, need-le}
 
 -- the rights
@@ -216,14 +216,11 @@ image_headers image laid =
 some_segment : Segment
 some_segment = record { address = 0; read = false; write = false; execute = false; bytes = []; zeros = 0 }
 
-some_header : ProgramHeader
-some_header = record { p_type = 0; p_flags = 0; p_offset = 0; p_vaddr = 0; p_paddr = 0; p_filesz = 0; p_memsz = 0; p_align = 0 }
-
 kept_of : (xs ys : List ProgramHeader) → xs ≡ ys → filter is_load xs ≡ filter is_load ys
 kept_of xs ys e = ap (filter is_load) e
 
-at_number : (xs ys : List ProgramHeader) (i : ℕ) → xs ≡ ys → get_or xs i some_header ≡ get_or ys i some_header
-at_number xs ys i e = ap (λ l. get_or l i some_header) e
+at_number : (xs ys : List ProgramHeader) (i : ℕ) → xs ≡ ys → get_or xs i no_header ≡ get_or ys i no_header
+at_number xs ys i e = ap (λ l. get_or l i no_header) e
 
 image_sound : (image : Image) (i : ℕ) → IsImageLayout image.segments → i < length image.segments → IsSound (image_bytes image) i
 image_sound image i laid lt =
@@ -232,13 +229,13 @@ image_sound image i laid lt =
     let file : List ℕ = image_bytes image in
     let all : List ProgramHeader = placed (start ss) ss in
     let heads : headers_from file 64 n ≡ all = image_headers image laid in
-    let here : program_header file (64 + 56 * i) ≡ get_or all i some_header = header_at file n i 64 some_header lt ∙ at_number _ _ i heads in
+    let here : program_header file (64 + 56 * i) ≡ get_or all i no_header = header_at file n i 64 no_header lt ∙ at_number _ _ i heads in
     let before : headers_from file 64 i ≡ take i all = headers_before file n i 64 (omega arith) ∙ ap (take i) heads in
     let earlier : filter is_load (headers_from file 64 i) ≡ take i all = kept_of _ _ before ∙ all_kept all i (placed_loads ss (start ss)) in
     let size : start ss + length (contents (start ss) ss) ≤ length file = omega (arith, image_length image) in
-    let kind : (get_or all i some_header).p_type ≡ 1 = ap (λ h. h.p_type) (placed_at ss (start ss) (length file) i some_header some_segment lt size).is in
-    sound_of file i (get_or all i some_header) (take i all) here earlier (omega (arith, image_length image)) kind
-    (loadable_at ss (start ss) (length file) i some_segment some_header laid lt size)
+    let kind : (get_or all i no_header).p_type ≡ 1 = ap (λ h. h.p_type) (placed_at ss (start ss) (length file) i no_header some_segment lt size).is in
+    sound_of file i (get_or all i no_header) (take i all) here earlier (omega (arith, image_length image)) kind
+    (loadable_at ss (start ss) (length file) i some_segment no_header laid lt size)
 
 -- the file that is written stands for the image
 pub image_stands : (image : Image) → 0 < length image.segments → image.entry < 2 ^ 64 → StandsFor (image_bytes image) image

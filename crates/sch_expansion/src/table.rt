@@ -27,25 +27,21 @@ use sch_sketch::{
 use sch_word::Mem;
 use std::alloc::Global;
 
-/// What a name stands for. The distance of a variable is a number of 32 bits: a scope with more
-/// variables than that is out of memory.
-fn name<'a>(globals: &Globals, scope: &Scope, at: u32, x: &'a [u8]) -> Result<Sketch<'a>, Mem>
-    ensures { IfOk result (λ k. sketch_of k
-        ≡ table.outline_name (find scope.now x.now) (keyword_of x.now) (is_among x.now (globals_of globals.now).bound) at x.now) }
+/// What a name stands for.
+fn name<'a>(globals: &Globals, scope: &Scope, at: u32, x: &'a [u8]) -> Sketch<'a>
+    ensures { sketch_of result
+        ≡ table.outline_name (find scope.now x.now) (keyword_of x.now) (is_among x.now (globals_of globals.now).bound) at x.now }
 {
     if let Some(k) = scope.find(x) {
-        return match u32::try_from(k) {
-            Ok(k) => Ok(local(at, k)),
-            Err(_) => Err(Mem),
-        };
+        return local(at, k);
     }
     if let Some(_) = keyword_of(x) {
-        return Ok(bad(at));
+        return bad(at);
     }
     if globals.bound.contains(x) {
-        Ok(Sketch::Leaf(at, Leaf::Global(x)))
+        Sketch::Leaf(at, Leaf::Global(x))
     } else {
-        Ok(Sketch::Wrong(Wrong::Unbound(at, x)))
+        Sketch::Wrong(Wrong::Unbound(at, x))
     }
 }
 
@@ -133,8 +129,7 @@ pub fn outline_datum<'a>(
         return Ok(made);
     }
     if let Some(x) = d.name() {
-        let made = name(globals, scope, d.offset(), x)?;
-        return Ok(made);
+        return Ok(name(globals, scope, d.offset(), x));
     }
     Ok(other(d))
 }
@@ -222,6 +217,6 @@ pub fn outline<'a>(
         Row::Cases => row_cases(alloc, at, first),
         Row::Tests => row_tests(alloc, at, first),
         Row::Chain(p) => row_chain(alloc, p, at, first),
-        Row::Join(p, more, nearer) => row_join(alloc, p, more, nearer, at),
+        Row::Join(p, more, far) => row_join(alloc, p, more, far, at),
     }
 }

@@ -1,44 +1,37 @@
 -- What the small programs do and what is counted of them, and why others are not valid. Each statement is computed.
-use Rattle.std.proofs.Common.{◌≡◌, refl, true, false, [], ◌∷◌, List, ℕ}
+use Rattle.std.proofs.Common.{◌≡◌, refl, true, false, [], ◌∷◌}
 use Rattle.std.specs.Prelude.{codes}
 use Rattle.std.specs.Fmt.{digits}
 use Rattle.sch_flat.specs.Tree.{bound, free, variable, make_closure, bind, trees}
 use Rattle.sch_flat.specs.Run.{run}
 use Rattle.sch_flat.specs.Measures.{sites_of, tests_of, program_size, body_variables, levels}
 use Rattle.sch_flat.specs.Valid.{in_order}
-use Rattle.sch_word.specs.runs.WorkedRuns.{ends}
+use Rattle.sch_word.specs.runs.WorkedRuns.{ends, plain_orders, call_orders}
 use Rattle.sch_flat.specs.Examples.{number, made, body, program, is_valid, nested_with, nested, even_odd_with, even_odd, assigned_with, assigned}
 
--- the first parts of a table of orders from left to right
-abbrev plain : List (List ℕ)
-plain = (0 ∷ (1 ∷ [])) ∷ ((0 ∷ (1 ∷ [])) ∷ ((0 ∷ (1 ∷ [])) ∷ ((0 ∷ (1 ∷ [])) ∷ ((0 ∷ (1 ∷ [])) ∷ ((0 ∷ (1 ∷ [])) ∷ ((0 ∷ []) ∷ ((0 ∷ (1 ∷ [])) ∷ [])))))))
-
-abbrev calls : List (List ℕ)
-calls = (0 ∷ []) ∷ ((0 ∷ []) ∷ ((0 ∷ []) ∷ ((2 ∷ (1 ∷ (0 ∷ []))) ∷ [])))
-
-nested_runs : run nested calls 4096 3 [] 9 ≡ ends (codes "7") 0 3 48
+nested_runs : run nested call_orders 4096 3 [] 9 ≡ ends (codes "7") 0 3 48
 unfolding digits
 nested_runs = refl
 
 -- a record is charged before it is made
-nested_stops : run nested calls 47 3 [] 9 ≡ ends [] 71 2 32
+nested_stops : run nested call_orders 47 3 [] 9 ≡ ends [] 71 2 32
 unfolding digits
 nested_stops = refl
 
-even_odd_runs : run even_odd plain 4096 1 [] 9 ≡ ends (codes "1") 0 4 32
+even_odd_runs : run even_odd plain_orders 4096 1 [] 9 ≡ ends (codes "1") 0 4 32
 unfolding digits
 even_odd_runs = refl
 
 -- the records of a group are charged before the first is made
-even_odd_stops : run even_odd plain 31 1 [] 9 ≡ ends [] 71 0 16
+even_odd_stops : run even_odd plain_orders 31 1 [] 9 ≡ ends [] 71 0 16
 unfolding digits
 even_odd_stops = refl
 
-assigned_runs : run assigned plain 4096 1 [] 9 ≡ ends (codes "5") 0 1 32
+assigned_runs : run assigned plain_orders 4096 1 [] 9 ≡ ends (codes "5") 0 1 32
 unfolding digits
 assigned_runs = refl
 
-assigned_stops : run assigned plain 31 1 [] 9 ≡ ends [] 71 1 16
+assigned_stops : run assigned plain_orders 31 1 [] 9 ≡ ends [] 71 1 16
 unfolding digits
 assigned_stops = refl
 

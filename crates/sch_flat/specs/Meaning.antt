@@ -7,15 +7,11 @@ use Rattle.sch_word.specs.runs.Computation.{Computation, gives, spent, unreached
 use Rattle.sch_word.specs.runs.Charges.{charge, charge_each, procedure_bytes, fit}
 use Rattle.sch_word.specs.values.CellBytes.{cells_bytes}
 use Rattle.sch_word.specs.runs.Orders.{Orders}
+use Rattle.sch_word.specs.runs.Procedures.{Procedure}
 use Rattle.sch_word.specs.values.PrimitiveRows.{primitive}
 use Rattle.sch_word.specs.trees.Bindings.{Bindings, value_or, value_of, with_variables}
 use Rattle.sch_flat.specs.Tree.{Variable, bound, free, Made, NewCell, Tree, Trees, Body, constant, literal, variable, global, set_global, define, branch, sequence, bind, make_closure, fix_closures, call, operation, cell_get, cell_set, no_trees, and_tree}
 use Rattle.sch_flat.specs.Tree as tree
-
--- a procedure: the label of its body and the values of its fields
-pub record Closure : Type 0 where
-  pub label : ℕ
-  pub fields : List Value
 
 -- What the variables of a body have: those that it binds, the last first, and the fields of the record with
 -- which it was entered.
@@ -24,7 +20,7 @@ pub record Environment : Type 0 where
   pub fields : List Value
 
 abbrev pub Enter : Type 0
-Enter = computation.Enter Closure
+Enter = computation.Enter Procedure
 
 -- the value of a variable
 abbrev pub value_in : Environment → Variable → Value
@@ -40,10 +36,10 @@ abbrev pub and_values : ℕ → List Value → Environment → Environment
 and_values x vs environment = record { variables = with_variables x vs environment.variables; fields = environment.fields }
 
 -- the procedure of a record that is made
-abbrev pub closure : Environment → Made → Closure
+abbrev pub closure : Environment → Made → Procedure
 closure environment m = record { label = m.label; fields = values_in environment m.fields }
 
-abbrev pub closures : Environment → List Made → List Closure
+abbrev pub closures : Environment → List Made → List Procedure
 closures environment [] = []
 closures environment (m ∷ ms) = closure environment m ∷ closures environment ms
 
@@ -70,13 +66,13 @@ abbrev pub and_cells : List NewCell → List ℕ → Environment → Environment
 and_cells cs ns environment = record { variables = with_cells cs ns environment.variables; fields = environment.fields }
 
 -- the cell that a variable holds
-abbrev pub with_cell : {V : Type 0} → Value → (ℕ → Computation Closure V) → Computation Closure V
+abbrev pub with_cell : {V : Type 0} → Value → (ℕ → Computation Procedure V) → Computation Procedure V
 with_cell (cell n) next = next n
 with_cell _ next = unreached
 
 module _ (orders : Orders) (enter : Enter) where
   abbrev mutual
-    pub evaluate : Tree → Environment → (depth : ℕ) → (tail : Bool) → Computation Closure Value
+    pub evaluate : Tree → Environment → (depth : ℕ) → (tail : Bool) → Computation Procedure Value
     evaluate (constant c) environment depth tail = gives (constant_value c)
     evaluate (literal n) environment depth tail = in_store (read_literal n)
     evaluate (variable v) environment depth tail = gives (value_in environment v)
@@ -112,19 +108,19 @@ module _ (orders : Orders) (enter : Enter) where
         after (evaluate e environment depth false) (λ w. with_cell (value_in environment v) (λ c. write_cell c w))
 
     -- each operand or init on its own
-    pub each : Trees → Environment → (depth : ℕ) → List (Computation Closure Value)
+    pub each : Trees → Environment → (depth : ℕ) → List (Computation Procedure Value)
     each no_trees environment depth = []
     each (and_tree e es) environment depth = evaluate e environment depth false ∷ each es environment depth
 
     -- the parts of a sequence, of which the last is in the sequence's own context
-    pub parts : Trees → Environment → (depth : ℕ) → (tail : Bool) → List (Computation Closure Value)
+    pub parts : Trees → Environment → (depth : ℕ) → (tail : Bool) → List (Computation Procedure Value)
     parts no_trees environment depth tail = []
     parts (and_tree e no_trees) environment depth tail = evaluate e environment depth tail ∷ []
     parts (and_tree e (and_tree e' es)) environment depth tail =
         evaluate e environment depth false ∷ parts (and_tree e' es) environment depth tail
 
 -- the body of a label
-abbrev pub with_body : Option Body → (Body → Computation Closure Value) → Computation Closure Value
+abbrev pub with_body : Option Body → (Body → Computation Procedure Value) → Computation Procedure Value
 with_body None next = unreached
 with_body (Some b) next = next b
 

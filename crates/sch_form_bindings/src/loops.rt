@@ -5,7 +5,6 @@ ghost use Rattle.sch_read.specs.Grammar.{none, cons, list, atom, symbol};
 ghost use Rattle.sch_read.specs.Parts.{how_many, offset};
 ghost use Rattle.sch_read.specs.Views.{tree_of, data_of};
 ghost use Rattle.sch_names.specs.ScopeView.{given_names};
-ghost use Rattle.sch_sketch.specs.Draft as plain;
 ghost use Rattle.sch_sketch.specs.Sketch as words;
 ghost use Rattle.sch_sketch.specs.SketchView.{sketch_of, ahead};
 ghost use Rattle.sch_sketch.specs.Optional.{AreGiven};
@@ -94,23 +93,13 @@ fn add_starts<'a>(parts: &mut List<Sketch<'a>>, items: &'a [Datum]) -> Result<()
     Ok(())
 }
 
-/// A variable with this many variables bound nearer. A number past 32 bits is out of memory.
-fn variable<'a>(at: u32, nearer: usize) -> Result<Sketch<'a>, Mem>
-    ensures { IfOk result (λ k. sketch_of k ≡ words.leaf at (plain.local nearer)) }
-{
-    match u32::try_from(nearer) {
-        Ok(k) => Ok(local(at, k)),
-        Err(_) => Err(Mem),
-    }
-}
-
-/// The step of a variable, by what follows its init.
-fn step<'a>(at: u32, nearer: usize, items: &'a [Datum]) -> Result<Sketch<'a>, Mem>
-    ensures { IfOk result (λ k. sketch_of k ≡ table.step at nearer (data_of items.now)) }
+/// The step of a variable with this many variables bound nearer, by what follows its init.
+fn step<'a>(at: u32, nearer: usize, items: &'a [Datum]) -> Sketch<'a>
+    ensures { sketch_of result ≡ table.step at nearer (data_of items.now) }
 {
     match Datum::split(items) {
-        None => variable(at, nearer),
-        Some((s, _)) => Ok(text(s)),
+        None => local(at, nearer),
+        Some((s, _)) => text(s),
     }
 }
 
@@ -123,8 +112,7 @@ fn add_steps<'a>(at: u32, parts: &mut List<Sketch<'a>>, items: &'a [Datum]) -> R
         let Some((_, _, end)) = start_of(d) else {
             return Ok(());
         };
-        let s = step(at, Datum::count(others), end)?;
-        parts.push(s)?;
+        parts.push(step(at, Datum::count(others), end))?;
         left = others;
     }
     Ok(())
@@ -135,8 +123,7 @@ fn again<'a>(alloc: Global, at: u32, bindings: &'a [Datum]) -> Result<Sketch<'a>
     ensures { IfOk result (λ k. sketch_of k ≡ table.again at (data_of bindings.now)) }
 {
     let mut parts = List::new(alloc);
-    let operator = variable(at, Datum::count(bindings))?;
-    parts.push(operator)?;
+    parts.push(local(at, Datum::count(bindings)))?;
     add_steps(at, &mut parts, bindings)?;
     Ok(node(plain_call(alloc), at, parts))
 }

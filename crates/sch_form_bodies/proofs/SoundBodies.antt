@@ -1,5 +1,6 @@
 -- The rows of bodies and procedures make sound sketches.
 use Rattle.std.proofs.Common.{◌≡◌, ◌&&◌, ◌++◌, ℕ, Bool, true, false, cond, List, [], ◌∷◌, length-append, Option, Some, None, refl, sym, ap, subst, ◌∙◌, arith}
+use Rattle.std.specs.Prelude.{is_some}
 use Rattle.std.proofs.lemmas.Bool.{and_parts}
 use Rattle.sch_read.specs.Grammar.{Datum, Data, atom, list, dotted, vector, none, cons, boolean, integer, character, symbol}
 use Rattle.sch_read.specs.Grammar as grammar
@@ -8,7 +9,7 @@ use Rattle.sch_names.specs.Scope.{Scope, onto, VariableNames}
 use Rattle.sch_sketch.specs.Sketch.{Sketch, Sketches, no_sketch, and_sketch, how_many_parts, abstracting}
 use Rattle.sch_sketch.specs.Soundness.{IsSound, IsSoundKind}
 use Rattle.sch_sketch.proofs.SmallSound.{choice, choice_by}
-use Rattle.sch_sketch.specs.Formals.{takes_rest, is_rest, symbols, formals, are_formals, listed, tail_of}
+use Rattle.sch_sketch.specs.Formals.{is_rest, symbols, formals, are_formals, listed, tail_of}
 use Rattle.sch_sketch.specs.Definitions.{is_definition, is_define_word, defined_name, defined_sketch, names_in, names_of_each, inits_in, inits_of_each}
 use Rattle.sch_form_bodies.proofs.SoundDefinitions.{defined_sound}
 use Rattle.sch_sketch.specs.BodyHeads.{body_names, body_inits, is_body, body}
@@ -74,7 +75,7 @@ body_sound s at (cons e es) =
 
 -- ## Procedures
 
-rest_bound : (fs : Data) (f : Option Datum) → is_rest f ≡ true → (b : Bool) → takes_rest f ≡ b → (at : ℕ) (es : Data) (s : Scope) → IsSoundKind (abstracting (formals fs f) b) s (body at es)
+rest_bound : (fs : Data) (f : Option Datum) → is_rest f ≡ true → (b : Bool) → is_some f ≡ b → (at : ℕ) (es : Data) (s : Scope) → IsSoundKind (abstracting (formals fs f) b) s (body at es)
 rest_bound fs None h true e at es s = cc
 rest_bound fs None h false e at es s = tt
 rest_bound fs (Some (atom q (symbol x))) h true e at es s = omega (arith, length-append (symbols fs) (Some x ∷ []))
@@ -90,7 +91,7 @@ rest_bound fs (Some (vector q xs)) h c e at es s = cc
 procedure_sound : (s : Scope) (at : ℕ) (fs : Data) (f : Option Datum) (es : Data) → IsSound s (procedure s at fs f es)
 procedure_sound s at fs f es =
     choice_by s (are_formals fs f && is_body (onto (formals fs f) s) es) _ _
-    (λ e. (refl, (rest_bound fs f (and_parts _ _ (and_parts _ _ (and_parts _ _ e).0).0).1 (takes_rest f) refl at es s, (tt, tt)))) tt
+    (λ e. (refl, (rest_bound fs f (and_parts _ _ (and_parts _ _ (and_parts _ _ e).0).0).1 (is_some f) refl at es s, (tt, tt)))) tt
 
 pub lambda_sound : (s : Scope) (at : ℕ) (xs : Data) → IsSound s (row_lambda s at xs)
 lambda_sound s at none = tt

@@ -1,12 +1,12 @@
 -- Bodies (R5RS 5.2.2) and procedures (R5RS 4.1.4).
-use Rattle.std.specs.Prelude.{ℕ, cond, ◌&&◌, Option}
+use Rattle.std.specs.Prelude.{ℕ, cond, ◌&&◌, Option, is_some}
 use Rattle.sch_read.specs.Grammar.{Datum, Data, atom, none, cons, symbol}
 use Rattle.sch_names.specs.declared.keyword.Keyword.TheVariants.{Begin}
 use Rattle.sch_names.specs.Scope.{Scope, onto}
 use Rattle.sch_sketch.specs.declared.fault.Fault.TheVariants.{BadForm}
 use Rattle.sch_sketch.specs.declared.sketch.Row.TheVariants.{Form}
 use Rattle.sch_sketch.specs.Sketch.{Sketch, rest, wrong, node, abstracting}
-use Rattle.sch_sketch.specs.Formals.{listed, tail_of, takes_rest, formals, are_formals}
+use Rattle.sch_sketch.specs.Formals.{listed, tail_of, formals, are_formals}
 use Rattle.sch_sketch.specs.Definitions.{is_definition}
 use Rattle.sch_sketch.specs.BodyHeads.{body_names, body_inits, expressions, is_body, body}
 use Rattle.sch_sketch.specs.Groups.{group}
@@ -24,7 +24,7 @@ row_body s at (cons e es) = cond (is_definition s e) (defining_body s at (cons e
 -- a procedure with these formals
 abbrev pub procedure : Scope → ℕ → Data → Option Datum → Data → Sketch
 procedure s at fs f es =
-    cond (are_formals fs f && is_body (onto (formals fs f) s) es) (node (abstracting (formals fs f) (takes_rest f)) at (body at es))
+    cond (are_formals fs f && is_body (onto (formals fs f) s) es) (node (abstracting (formals fs f) (is_some f)) at (body at es))
     (wrong (BadForm at))
 
 abbrev pub row_lambda : Scope → ℕ → Data → Sketch

@@ -25,8 +25,7 @@ struct Assigned<'a> {
     value: &'a Datum,
 }
 
-/// An assignment to a variable. The distance of a variable is a number of 32 bits: a
-/// scope with more variables than that is out of memory.
+/// An assignment to a variable.
 fn assignment<'a>(
     alloc: Global,
     globals: &Globals,
@@ -42,9 +41,6 @@ fn assignment<'a>(
         return Ok(bad(at));
     };
     if let Some(k) = scope.find(x) {
-        let Ok(k) = u32::try_from(k) else {
-            return Err(Mem);
-        };
         let made = one(alloc, Kind::SetLocal(k), at, text(value))?;
         return Ok(made);
     }

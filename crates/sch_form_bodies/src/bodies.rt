@@ -1,13 +1,13 @@
 //! Bodies and procedures.
 
-ghost use Rattle.std.specs.Prelude.{◌≡◌, [], ◌∷◌, ◌++◌, ◌-◌, length, drop, IfOk, OnOk};
+ghost use Rattle.std.specs.Prelude.{◌≡◌, [], ◌∷◌, ◌++◌, ◌-◌, length, drop, is_some, IfOk, OnOk};
 ghost use Rattle.sch_read.specs.Grammar.{none, cons};
 ghost use Rattle.sch_read.specs.Views.{tree_of, data_of};
 ghost use Rattle.sch_names.specs.Scope.{onto};
 ghost use Rattle.sch_names.specs.ScopeView.{given_names};
 ghost use Rattle.sch_sketch.specs.Sketch as words;
 ghost use Rattle.sch_sketch.specs.SketchView.{sketch_of, ahead};
-ghost use Rattle.sch_sketch.specs.Formals.{formals, are_formals, takes_rest};
+ghost use Rattle.sch_sketch.specs.Formals.{formals, are_formals};
 ghost use Rattle.sch_sketch.specs.Optional.{AreGiven, tree_in};
 ghost use Rattle.sch_form_bodies.specs.Bodies as table;
 

@@ -1,9 +1,8 @@
--- Worked rows of choices and operations (R5RS 4.1.2, 4.1.5, 4.2.1, 6.2.5 and 6.3): each sketch computes. A
--- number stands at its own value.
-use Rattle.std.proofs.Common.{◌≡◌, ℕ, pos, true, false, [], ◌∷◌, Some, None, codes, refl}
+-- Worked rows of choices and operations (R5RS 4.1.2, 4.1.5, 4.2.1, 6.2.5 and 6.3): each sketch computes.
+use Rattle.std.proofs.Common.{◌≡◌, pos, true, false, [], ◌∷◌, Some, None, codes, refl}
 use Rattle.sch_word.specs.declared.constant.Const.TheVariants.{Fixnum, Character, Boolean}
 use Rattle.sch_word.specs.declared.primitive.Primitive.TheVariants.{Add, Less, Eqv, MakeString}
-use Rattle.sch_read.specs.Grammar.{Datum, Data, atom, list, none, cons, integer, symbol as symbol_atom}
+use Rattle.sch_read.specs.Grammar.{Datum, Data, atom, list, none, cons, symbol as symbol_atom}
 use Rattle.sch_names.specs.declared.keyword.Keyword.TheVariants.{And, Or, Begin}
 use Rattle.sch_names.specs.declared.operation.Operation.TheVariants.{Filled, Not}
 use Rattle.sch_names.specs.Words.{keyword_of}
@@ -13,26 +12,20 @@ use Rattle.sch_sketch.specs.declared.sketch.Row.TheVariants.{Form, Clauses, Case
 use Rattle.sch_sketch.specs.Draft.{constant, symbol, literal, local}
 use Rattle.sch_sketch.specs.Sketch.{text, rest, wrong, leaf, node, choosing, sequencing, binding, calling, operating, nothing}
 use Rattle.sch_sketch.specs.Small.{two, three}
+use Rattle.sch_sketch.proofs.WorkedData.{number, named, x}
 use Rattle.sch_form_choices.specs.Choices.{row_quote, row_begin, row_if, row_and, row_or, row_cond, row_clauses}
 use Rattle.sch_form_choices.specs.Cases.{row_case, row_cases, row_tests}
 use Rattle.sch_form_choices.specs.Combinations.{combination, row_chain, row_join}
-
-number : ℕ → Datum
-number n = atom n (integer (pos n))
-
-name : ℕ → Datum
-name at = atom at (symbol_atom (codes "x"))
 
 both : Data
 both = cons (number 5) (cons (number 7) none)
 
 -- the arms of `(if 5 7 9)`; without the last its value is unspecified
 if_row : row_if 1 (cons (number 5) (cons (number 7) (cons (number 9) none))) ≡ node choosing 1 (three (text (number 5)) (text (number 7)) (text (number 9)))
-unfolding number
 if_row = refl
 
 one_armed_row : row_if 1 both ≡ node choosing 1 (three (text (number 5)) (text (number 7)) (leaf 1 nothing))
-unfolding both number
+unfolding both
 one_armed_row = refl
 
 armless_row : row_if 1 (cons (number 5) none) ≡ wrong (BadForm 1)
@@ -46,7 +39,7 @@ one_part_row : row_begin 1 (cons (number 5) none) ≡ text (number 5)
 one_part_row = refl
 
 parts_row : row_begin 1 both ≡ node sequencing 1 (two (text (number 5)) (text (number 7)))
-unfolding both number
+unfolding both
 parts_row = refl
 
 -- `(and)` and `(or)`, and of one part
@@ -65,19 +58,19 @@ one_or_row = refl
 -- `(and 5 7)` is `(if 5 (and 7) #f)`
 and_row : row_and 1 both ≡
     node choosing 1 (three (text (number 5)) (rest (Form And) 7 (cons (number 7) none) none) (leaf 1 (constant (Boolean false))))
-unfolding both number
+unfolding both
 and_row = refl
 
 -- `(or 5 7)` is `(let (t 5) (if t t (or 7)))` for its value, and `(if 5 #t (or 7))` as a test
 or_row : row_or Value 1 both ≡
     node (binding (None ∷ [])) 1 (two (text (number 5))
     (node choosing 1 (three (leaf 1 (local 0)) (leaf 1 (local 0)) (rest (Form Or) 7 (cons (number 7) none) none))))
-unfolding both number
+unfolding both
 or_row = refl
 
 or_test_row : row_or Test 1 both ≡
     node choosing 1 (three (text (number 5)) (leaf 1 (constant (Boolean true))) (rest (Form Or) 7 (cons (number 7) none) none))
-unfolding both number
+unfolding both
 or_test_row = refl
 
 -- `(not 5)` is `(if 5 #f #t)`
@@ -92,13 +85,11 @@ cond_row = refl
 alone_row : row_clauses [] Value 1 (cons (list 4 (cons (number 5) none)) (cons (list 6 (cons (number 7) none)) none)) ≡
     node (binding (None ∷ [])) 1 (two (text (number 5))
     (node choosing 1 (three (leaf 1 (local 0)) (leaf 1 (local 0)) (rest Clauses 6 (cons (list 6 (cons (number 7) none)) none) none))))
-unfolding number
 alone_row = refl
 
 -- the last clause `(5 7)` is `(if 5 (begin 7) unspecified)`
 clause_row : row_clauses [] Test 1 (cons (list 4 (cons (number 5) (cons (number 7) none))) none) ≡
     node choosing 1 (three (text (number 5)) (rest (Form Begin) 1 (cons (number 7) none) none) (rest Clauses 1 none none))
-unfolding number
 clause_row = refl
 
 -- the clause `(else 9)`, which must be the last, and have an expression
@@ -106,16 +97,16 @@ otherwise : Datum
 otherwise = list 8 (cons (atom 9 (symbol_atom (codes "else"))) (cons (number 9) none))
 
 else_row : row_clauses [] Value 1 (cons otherwise none) ≡ rest (Form Begin) 1 (cons (number 9) none) none
-unfolding otherwise number keyword_of
+unfolding otherwise keyword_of
 else_row = refl
 
 else_first_row : row_cond [] 1 (cons otherwise (cons (list 10 (cons (number 11) none)) none)) ≡ wrong (BadForm 1)
-unfolding otherwise number keyword_of
+unfolding otherwise keyword_of
 else_first_row = refl
 
 else_last_row : row_cond [] 1 (cons (list 4 (cons (number 5) none)) (cons otherwise none)) ≡
     rest Clauses 1 (cons (list 4 (cons (number 5) none)) (cons otherwise none)) none
-unfolding otherwise number keyword_of
+unfolding otherwise keyword_of
 else_last_row = refl
 
 bare_else_row : row_cond [] 1 (cons (list 8 (cons (atom 9 (symbol_atom (codes "else"))) none)) none) ≡ wrong (BadForm 1)
@@ -123,7 +114,6 @@ unfolding keyword_of
 bare_else_row = refl
 
 no_list_row : row_cond [] 1 (cons (number 5) none) ≡ wrong (BadForm 1)
-unfolding number
 no_list_row = refl
 
 no_clause_row : row_clauses [] Value 1 none ≡ leaf 1 nothing
@@ -132,26 +122,24 @@ no_clause_row = refl
 -- `(case 5 ((7 8) 9))` is `(let (t 5) (if (or (eqv? t 7) (eqv? t 8)) (begin 9) unspecified))`
 case_row : row_case [] 1 (cons (number 5) (cons (list 6 (cons (list 7 (cons (number 8) none)) (cons (number 9) none))) none)) ≡
     node (binding (None ∷ [])) 1 (two (text (number 5)) (rest Cases 1 (cons (list 6 (cons (list 7 (cons (number 8) none)) (cons (number 9) none))) none) none))
-unfolding number
 case_row = refl
 
 cases_row : row_cases 1 (cons (list 6 (cons (list 7 both) (cons (number 9) none))) none) ≡
     node choosing 1 (three (rest Tests 1 both none) (rest (Form Begin) 1 (cons (number 9) none) none) (rest Cases 1 none none))
-unfolding number
 cases_row = refl
 
 -- the `else` of a `case`, which must be the last; a clause of no data is never chosen
 case_else_row : row_cases 1 (cons otherwise none) ≡ rest (Form Begin) 1 (cons (number 9) none) none
-unfolding otherwise number
+unfolding otherwise
 case_else_row = refl
 
 case_else_first_row : row_case [] 1 (cons (number 5) (cons otherwise (cons (list 10 (cons (list 11 both) (cons (number 12) none))) none))) ≡ wrong (BadForm 1)
-unfolding otherwise number both keyword_of
+unfolding otherwise both keyword_of
 case_else_first_row = refl
 
 case_else_last_row : row_case [] 1 (cons (number 5) (cons otherwise none)) ≡
     node (binding (None ∷ [])) 1 (two (text (number 5)) (rest Cases 1 (cons otherwise none) none))
-unfolding otherwise number keyword_of
+unfolding otherwise keyword_of
 case_else_last_row = refl
 
 no_data_row : row_tests 1 none ≡ leaf 1 (constant (Boolean false))
@@ -161,51 +149,48 @@ no_case_row : row_case [] 1 (cons (number 5) none) ≡ wrong (BadForm 1)
 no_case_row = refl
 
 no_expression_row : row_case [] 1 (cons (number 5) (cons (list 6 (cons (list 7 both) none)) none)) ≡ wrong (BadForm 1)
-unfolding number both
+unfolding both
 no_expression_row = refl
 
 tests_row : row_tests 1 both ≡
     node choosing 1 (three (node (operating Eqv) 1 (two (leaf 1 (local 0)) (leaf 1 (constant (Fixnum (pos 5)))))) (leaf 1 (constant (Boolean true)))
     (rest Tests 7 (cons (number 7) none) none))
-unfolding both number
+unfolding both
 tests_row = refl
 
 -- a name in a clause of a `case` is a symbol, and a list a literal
-symbol_row : row_tests 1 (cons (name 4) none) ≡ node (operating Eqv) 1 (two (leaf 1 (local 0)) (leaf 1 (symbol (codes "x"))))
-unfolding name
+symbol_row : row_tests 1 (cons (named 4 x) none) ≡ node (operating Eqv) 1 (two (leaf 1 (local 0)) (leaf 1 (symbol x)))
 symbol_row = refl
 
 literal_row : row_quote 1 (cons (list 2 both) none) ≡ leaf 1 (literal (list 2 both))
-unfolding both number
+unfolding both
 literal_row = refl
 
 -- the clause `(5 => x)` is `(let (t 5) (if t (x t) rest))`; with a local `=>` it is `(if 5 (begin => x) rest)`
 arrow : Datum
 arrow = atom 6 (symbol_atom (codes "=>"))
 
-receiving_row : row_clauses [] Value 1 (cons (list 4 (cons (number 5) (cons arrow (cons (name 8) none)))) none) ≡
+receiving_row : row_clauses [] Value 1 (cons (list 4 (cons (number 5) (cons arrow (cons (named 8 x) none)))) none) ≡
     node (binding (None ∷ [])) 1 (two (text (number 5))
-    (node choosing 1 (three (leaf 1 (local 0)) (node (calling []) 1 (two (text (name 8)) (leaf 1 (local 0)))) (rest Clauses 1 none none))))
-unfolding arrow name number keyword_of
+    (node choosing 1 (three (leaf 1 (local 0)) (node (calling []) 1 (two (text (named 8 x)) (leaf 1 (local 0)))) (rest Clauses 1 none none))))
+unfolding arrow keyword_of
 receiving_row = refl
 
-local_arrow_row : row_clauses (Some (codes "=>") ∷ []) Value 1 (cons (list 4 (cons (number 5) (cons arrow (cons (name 8) none)))) none) ≡
-    node choosing 1 (three (text (number 5)) (rest (Form Begin) 1 (cons arrow (cons (name 8) none)) none) (rest Clauses 1 none none))
-unfolding arrow name number
+local_arrow_row : row_clauses (Some (codes "=>") ∷ []) Value 1 (cons (list 4 (cons (number 5) (cons arrow (cons (named 8 x) none)))) none) ≡
+    node choosing 1 (three (text (number 5)) (rest (Form Begin) 1 (cons arrow (cons (named 8 x) none)) none) (rest Clauses 1 none none))
+unfolding arrow
 local_arrow_row = refl
 
 -- `(+ 5 7 9)` is `(let (a 5) (b 7) (c 9) (+ (+ a b) c))`
-joined_row : row_join Add 1 0 1 ≡ node (operating Add) 1 (two (rest (Join Add 0 1) 1 none none) (leaf 1 (local 0)))
+joined_row : row_join Add 1 1 1 ≡ node (operating Add) 1 (two (rest (Join Add 0 1) 1 none none) (leaf 1 (local 0)))
 joined_row = refl
 
 -- `(< 5 7 9)`, from its first operand on, is `(if (< a b) (< b c) #f)`
 chained_row : row_chain Less 1 (cons (number 5) (cons (number 7) (cons (number 9) none))) ≡
     node choosing 1 (three (node (operating Less) 1 (two (leaf 1 (local 2)) (leaf 1 (local 1))))
     (rest (Chain Less) 7 (cons (number 7) (cons (number 9) none)) none) (leaf 1 (constant (Boolean false))))
-unfolding number
 chained_row = refl
 
 -- `(make-string 5)` is filled with spaces
 filled_row : combination (Filled MakeString) 1 (cons (number 5) none) ≡ node (operating MakeString) 1 (two (text (number 5)) (leaf 1 (constant (Character 32))))
-unfolding number
 filled_row = refl

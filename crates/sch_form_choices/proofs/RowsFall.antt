@@ -36,7 +36,7 @@ combination_falls (Exact p) at xs = omega (arith, texts_measure xs no_sketch)
 combination_falls (Unit p) at xs = omega arith
 combination_falls (UnitAnd p) at xs = omega (arith, texts_measure xs no_sketch)
 combination_falls (Nested p) at xs =
-    omega (arith, texts_measure xs (one (rest (Join p (but_one (how_many xs)) 0) at none none)), fresh_count xs, one_less (how_many xs))
+    omega (arith, texts_measure xs (one (rest (Join p (but_one (how_many xs)) (but_one (how_many xs))) at none none)), fresh_count xs, one_less (how_many xs))
 combination_falls (Chained p) at xs = omega (arith, texts_measure xs (one (rest (Chain p) at xs none)), fresh_count xs)
 combination_falls (Filled p) at xs = omega (arith, texts_measure xs (one (filler at p)), filler_small at p)
 combination_falls Not at xs = omega (arith, denial_falls at xs)
@@ -47,9 +47,9 @@ chain_falls p at (cons a none) = omega arith
 chain_falls p at (cons a (cons b none)) = omega arith
 chain_falls p at (cons a (cons b (cons c xs))) = omega arith
 
-pub join_falls : (p : Primitive) (k j at : ℕ) → sketch_measure (row_join p k j at) < 3 * k + 2
-join_falls p zero j at = omega arith
-join_falls p (suc k) j at = omega arith
+pub join_falls : (p : Primitive) (k far at : ℕ) → sketch_measure (row_join p k far at) < 3 * k + 2
+join_falls p zero far at = omega arith
+join_falls p (suc k) far at = omega arith
 
 -- ## Choices
 

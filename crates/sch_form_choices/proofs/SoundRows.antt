@@ -1,5 +1,5 @@
 -- Each row of choices and of operations makes a sound sketch.
-use Rattle.std.proofs.Common.{◌≡◌, ◌≤◌, ◌<◌, ◌+◌, ℕ, zero, suc, true, false, length, Option, Some, None, refl, sym, arith}
+use Rattle.std.proofs.Common.{◌≡◌, ◌≤◌, ◌<◌, ℕ, zero, suc, true, false, length, Option, Some, None, refl, sym, arith}
 use Rattle.sch_word.specs.declared.primitive.Primitive.{Primitive}
 use Rattle.sch_word.specs.declared.primitive.Primitive.TheVariants.{MakeString}
 use Rattle.sch_word.specs.values.Primitives.{operands_of}
@@ -33,7 +33,7 @@ filler_sound s at _ = refl
 fresh_fits : (s : Scope) (xs : Data) → how_many xs ≤ length (onto (fresh_each xs) s)
 fresh_fits s xs = omega (arith, onto_length (fresh_each xs) s, fresh_count xs)
 
-join_fits : (n m : ℕ) → 2 < n → n ≤ m → but_one n + 0 < m
+join_fits : (n m : ℕ) → 2 < n → n ≤ m → but_one n < m
 join_fits zero m h l = absurd (omega (arith, h))
 join_fits (suc n) m h l = omega (arith, l)
 
@@ -43,7 +43,7 @@ combination_sound s (UnitOf p) at xs a = refl
 combination_sound s (UnitAnd p) at xs a =
     (omega (arith, texts_count xs no_sketch, a.0, a.1), (tt, (refl, texts_sound (operating p) false s xs no_sketch (λ b. tt))))
 combination_sound s (Nested p) at xs a = (
-  omega (arith, texts_count xs (one (rest (Join p (but_one (how_many xs)) 0) at none none)), fresh_count xs),
+  omega (arith, texts_count xs (one (rest (Join p (but_one (how_many xs)) (but_one (how_many xs))) at none none)), fresh_count xs),
   (tt, texts_sound (binding (fresh_each xs)) true s xs _ (λ b. ((a.1, join_fits _ _ a.0 (fresh_fits s xs)), tt))),
 )
 combination_sound s (Chained p) at xs a = (
@@ -62,9 +62,9 @@ chain_sound s p at (cons a (cons b (cons c xs))) o h =
     (refl, (tt, ((sym o, (tt, (omega (arith, h), (omega (arith, h), tt)))), ((o, omega (arith, h)), (refl, tt)))))
 chain_sound s p at _ o h = tt
 
-pub join_sound : (s : Scope) (p : Primitive) (k j at : ℕ) → operands_of p ≡ 2 → k + j < length s → IsSound s (row_join p k j at)
-join_sound s p zero j at o h = omega (arith, h)
-join_sound s p (suc k) j at o h = (sym o, (tt, ((o, omega (arith, h)), (omega (arith, h), tt))))
+pub join_sound : (s : Scope) (p : Primitive) (k far at : ℕ) → operands_of p ≡ 2 → far < length s → IsSound s (row_join p k far at)
+join_sound s p zero far at o h = h
+join_sound s p (suc k) far at o h = (sym o, (tt, ((o, h), (omega (arith, h), tt))))
 
 -- ## Choices
 

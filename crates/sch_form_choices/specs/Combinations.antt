@@ -1,5 +1,5 @@
 -- The rows of operations (R5RS 6.2.5, 6.3.1, 6.3.5 and 6.3.6): what is made of their operands.
-use Rattle.std.specs.Prelude.{ℕ, zero, suc, ◌+◌, true, false}
+use Rattle.std.specs.Prelude.{ℕ, zero, suc, ◌-◌, true, false}
 use Rattle.sch_word.specs.declared.constant.Const.TheVariants.{Fixnum, Character}
 use Rattle.sch_word.specs.declared.primitive.Primitive.{Primitive}
 use Rattle.sch_word.specs.declared.primitive.Primitive.TheVariants.{MakeString}
@@ -32,21 +32,21 @@ abbrev pub combination : Operation → ℕ → Data → Sketch
 combination (Exact p) at xs = node (operating p) at (texts xs no_sketch)
 combination (Unit p) at xs = unit at p
 combination (UnitAnd p) at xs = node (operating p) at (and_sketch (unit at p) (texts xs no_sketch))
-combination (Nested p) at xs = node (binding (fresh_each xs)) at (texts xs (one (rest (Join p (but_one (how_many xs)) 0) at none none)))
+combination (Nested p) at xs = node (binding (fresh_each xs)) at (texts xs (one (rest (Join p (but_one (how_many xs)) (but_one (how_many xs))) at none none)))
 combination (Chained p) at xs = node (binding (fresh_each xs)) at (texts xs (one (rest (Chain p) at xs none)))
 combination (Filled p) at xs = node (operating p) at (texts xs (one (filler at p)))
 combination Not at xs = denial at xs
 
--- The first operands, of which there are k more than one, joined from the left. The last of them has j
--- variables bound nearer.
-abbrev pub row_join : Primitive → (k j : ℕ) → ℕ → Sketch
-row_join p zero j at = leaf at (local j)
-row_join p (suc k) j at = node (operating p) at (two (rest (Join p k (j + 1)) at none none) (leaf at (local j)))
+-- The first operands, of which there are k more than one, joined from the left. The first of them has `far`
+-- variables bound nearer, and each other one fewer than the one before it.
+abbrev pub row_join : Primitive → (k far : ℕ) → ℕ → Sketch
+row_join p zero far at = leaf at (local far)
+row_join p (suc k) far at = node (operating p) at (two (rest (Join p k far) at none none) (leaf at (local (far - suc k))))
 
--- The operands from one on, each compared with the next: they are the nearest variables.
+-- The operands from one on, each compared with the next: they are the nearest variables, so that of each has those after it nearer.
 abbrev pub row_chain : Primitive → ℕ → Data → Sketch
 row_chain p at (cons a (cons b none)) = node (operating p) at (two (leaf at (local 1)) (leaf at (local 0)))
 row_chain p at (cons a (cons b (cons c xs))) =
-    node choosing at (three (node (operating p) at (two (leaf at (local (how_many xs + 2))) (leaf at (local (how_many xs + 1)))))
+    node choosing at (three (node (operating p) at (two (leaf at (local (how_many (cons b (cons c xs))))) (leaf at (local (how_many (cons c xs))))))
     (rest (Chain p) (offset b) (cons b (cons c xs)) none) (truth at false))
 row_chain p at _ = wrong (BadForm at)

@@ -1,12 +1,11 @@
 //! The rows of operations.
 
-ghost use Rattle.std.specs.Prelude.{◌≡◌, ◌+◌, ◌≤◌, IfOk};
+ghost use Rattle.std.specs.Prelude.{◌≡◌, IfOk};
 ghost use Rattle.sch_read.specs.Grammar.{none, cons};
 ghost use Rattle.sch_read.specs.Parts.{how_many};
 ghost use Rattle.sch_read.specs.Views.{data_of};
 ghost use Rattle.sch_sketch.specs.declared.sketch.Row.TheVariants.{Join};
 ghost use Rattle.sch_form_choices.specs.Combinations as table;
-ghost use Rattle.sch_sketch.specs.Draft as plain;
 ghost use Rattle.sch_sketch.specs.Sketch as words;
 ghost use Rattle.sch_sketch.specs.Sketch.{but_one};
 ghost use Rattle.sch_sketch.specs.SketchView.{sketch_of};
@@ -30,15 +29,13 @@ fn unit<'a>(at: u32, p: Primitive) -> Sketch<'a>
     constant(at, Const::Fixnum(value))
 }
 
-/// The number of operands before the last. A number past 32 bits is out of memory.
-fn join<'a>(at: u32, p: Primitive, items: &'a [Datum]) -> Result<Sketch<'a>, Mem>
-    ensures { IfOk result (λ k. sketch_of k ≡ words.rest (Join p (but_one (how_many (data_of items.now))) 0) at none none) }
+/// Operands that are the nearest variables, joined from the left.
+fn join<'a>(at: u32, p: Primitive, items: &'a [Datum]) -> Sketch<'a>
+    ensures { sketch_of result
+        ≡ words.rest (Join p (but_one (how_many (data_of items.now))) (but_one (how_many (data_of items.now)))) at none none }
 {
     let more = Datum::count(items).saturating_sub(1);
-    match u32::try_from(more) {
-        Ok(more) => Ok(alone(Row::Join(p, more, 0), at, &[])),
-        Err(_) => Err(Mem),
-    }
+    alone(Row::Join(p, more, more), at, &[])
 }
 
 /// What a string or a vector is filled with, where no operand says it.
@@ -86,7 +83,7 @@ pub fn combination<'a>(
         }
         Operation::Nested(p) => {
             let names = fresh_each(alloc, items)?;
-            let last = join(at, p, items)?;
+            let last = join(at, p, items);
             let made = texts_and(alloc, Kind::Let(names), at, items, last)?;
             Ok(made)
         }
@@ -107,42 +104,24 @@ pub fn combination<'a>(
     }
 }
 
-/// Operands joined from the left: `more` of them before the last, which has `nearer` variables bound
-/// nearer. A number past 32 bits is out of memory.
+/// Operands joined from the left: `more` of them before the last. The first has `far` variables bound
+/// nearer, and each other one fewer than the one before it.
 pub fn row_join<'a>(
     alloc: Global,
     p: Primitive,
-    more: u32,
-    nearer: u32,
+    more: usize,
+    far: usize,
     at: u32,
 ) -> Result<Sketch<'a>, Mem>
-    ensures { IfOk result (λ k. sketch_of k ≡ table.row_join p more nearer at) }
+    ensures { IfOk result (λ k. sketch_of k ≡ table.row_join p more far at) }
 {
     if more == 0 {
-        return Ok(local(at, nearer));
+        return Ok(local(at, far));
     }
-    if nearer == u32::MAX {
-        return Err(Mem);
-    }
-    let inner = alone(Row::Join(p, more - 1, nearer + 1), at, &[]);
-    let made = two(alloc, Kind::Prim(p), at, inner, local(at, nearer))?;
+    let inner = alone(Row::Join(p, more - 1, far), at, &[]);
+    let last = local(at, far.saturating_sub(more));
+    let made = two(alloc, Kind::Prim(p), at, inner, last)?;
     Ok(made)
-}
-
-/// A variable with `more` variables of a chain after it. A number past 32 bits is out of memory.
-fn after<'a>(at: u32, more: usize, steps: u32) -> Result<Sketch<'a>, Mem>
-    requires { steps ≤ 2 }
-    ensures { IfOk result (λ k. sketch_of k ≡ words.leaf at (plain.local (more + steps))) }
-{
-    match u32::try_from(more) {
-        Ok(k) => {
-            if k > u32::MAX - 2 {
-                return Err(Mem);
-            }
-            Ok(local(at, k + steps))
-        }
-        Err(_) => Err(Mem),
-    }
 }
 
 /// Operands from one on, each compared with the next: `(< a b c)` -> `(if (< a b) (< b c) #f)`.
@@ -160,12 +139,12 @@ pub fn row_chain<'a>(
     let Some((b, more)) = Datum::split(others) else {
         return Ok(bad(at));
     };
-    let Some((_, more)) = Datum::split(more) else {
+    let Some(_) = Datum::split(more) else {
         let made = two(alloc, Kind::Prim(p), at, local(at, 1), local(at, 0))?;
         return Ok(made);
     };
-    let left = after(at, Datum::count(more), 2)?;
-    let right = after(at, Datum::count(more), 1)?;
+    let left = local(at, Datum::count(others));
+    let right = local(at, Datum::count(more));
     let test = two(alloc, Kind::Prim(p), at, left, right)?;
     let rest = alone(Row::Chain(p), b.offset(), others);
     let made = choice(alloc, at, test, rest, truth(at, false))?;

@@ -4,7 +4,7 @@ use Rattle.sch_word.specs.declared.constant.Const.TheVariants.{Boolean}
 use Rattle.sch_word.specs.values.Values.{Value, boolean, is_true, unspecified}
 use Rattle.sch_word.specs.values.Checked.{passes}
 use Rattle.sch_word.specs.runs.Computation.{gives, State, checked_call}
-use Rattle.sch_control.specs.Operations.{Procedure}
+use Rattle.sch_word.specs.runs.Procedures.{Procedure}
 use Rattle.sch_word.specs.declared.mark.MarkKind.{MarkKind}
 use Rattle.sch_word.specs.declared.mark.MarkKind.TheVariants as mark
 use Rattle.sch_word.specs.declared.place.Place.TheVariants.{Slot}

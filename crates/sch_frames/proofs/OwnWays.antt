@@ -16,11 +16,13 @@ use Rattle.sch_word.specs.declared.mark.MarkKind.{MarkKind}
 use Rattle.sch_word.specs.declared.mark.MarkKind.TheVariants as mark
 use Rattle.sch_control.specs.CoveredOperands.{is_form}
 use Rattle.sch_control.specs.Meaning.{Callee, Result, World, call_in, either, entered as into, marked, on_checked, on_ending, on_outcome, on_return, with_value}
-use Rattle.sch_control.specs.Operations.{Ending, Procedure, member_bytes, members_made, operate, with_procedures}
+use Rattle.sch_control.specs.Operations.{Ending, member_bytes, members_made, operate, with_procedures}
+use Rattle.sch_word.specs.runs.Procedures.{Procedure}
 use Rattle.sch_control.specs.Run.{do_forms, enter, enter_body, entry_at, known_entry, outcome_of, starting_world}
 use Rattle.sch_frames.specs.declared.instruction.Instruction.{Instruction}
 use Rattle.sch_frames.specs.declared.instruction.Instruction.TheVariants.{Do, Store as Put, Copy, Pass, Fix, Call, Tail, Return, End, IfFalse, Jump, Label, Mark}
 use Rattle.sch_word.specs.values.Places.{link_place}
+use Rattle.sch_word.proofs.facts.Lists.{each_at}
 use Rattle.sch_frames.specs.Meaning.{Cell, Frame, Is, Junk, Link, after_call, beginning, execute, execute_each, held, if_link, parts, sought, value_in, with_members}
 use Rattle.sch_frames.specs.Run.{bodies_of, do_known, entries_of}
 use Rattle.sch_frames.specs.Tree.{Code, Source}
@@ -271,11 +273,6 @@ fitted formals rest vs s ws t e = by (fit formals rest vs s.store) (fit_length f
     by (stops why u) h e = absurd (let bad = e in cc)
     by (spent u) h e = absurd (let bad = e in cc)
 
-pub passes_at : (test : Code → Bool) (codes : List Code) (label : ℕ) (c : Code) → list_all test codes ≡ true → slice_get codes label ≡ Some c → test c ≡ true
-passes_at test [] label c h e = absurd cc
-passes_at test (d ∷ codes) zero c h e = let same : d ≡ c = (let q : Some d ≡ Some c = e in cc) in subst (λ c. test c ≡ true) same (and_parts _ _ h).0
-passes_at test (d ∷ codes) (suc label) c h e = passes_at test codes label c (and_parts (test d) _ h).1 e
-
 module _ (codes : List Code) (covered : list_all is_covered_code codes ≡ true) (stand : all_marks_stand codes ≡ true) where
   -- the body of a label, once its mark is passed
   body_comes : (callee : Callee) → Returns codes callee → (label depth : ℕ) (self : Value) (vs : List Value) (suspended : List (List MarkKind)) (w : World) → Level codes suspended w.marks
@@ -289,7 +286,7 @@ module _ (codes : List Code) (covered : list_all is_covered_code codes ≡ true)
       by None e = tt
       by (Some c) e =
           body_goes codes callee returns depth label c self vs w.state e (fitting c e) suspended P back (finished c e) c.instructions None
-          (code_stands c (passes_at is_covered_code codes label c covered e) (passes_at code_marks_stand codes label c stand e)) None (beginning c.entry self vs) _ []
+          (code_stands c (each_at is_covered_code codes label c covered e) (each_at code_marks_stand codes label c stand e)) None (beginning c.entry self vs) _ []
           (λ marks y. y) (entered codes label level)
 
   module _ (n : ℕ) (returns : Returns codes (enter (entry_at (entries_of codes)) (bodies_of codes) n)) where

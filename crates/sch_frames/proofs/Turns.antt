@@ -8,12 +8,9 @@ use Rattle.sch_frames.specs.declared.instruction.Instruction.TheVariants.{Mark}
 use Rattle.sch_word.specs.runs.Activations.{is_enter}
 use Rattle.sch_frames.specs.Tree.{Code}
 use Rattle.sch_word.specs.runs.Activations.{Activations, activations, after, none_yet, pass, resumed, settled, with_mark}
+use Rattle.sch_word.proofs.facts.AfterMarks.{after_both}
 use Rattle.sch_frames.proofs.MarksAndEnds.{stands_alone, waiting}
 use Rattle.sch_frames.specs.Ways.{AreWays, IsWay}
-
-after_both : (a : Activations) (first more : List MarkKind) → after a (first ++ more) ≡ after (after a first) more
-after_both a [] more = refl
-after_both a (m ∷ first) more = after_both (pass m (settled m a)) first more
 
 -- the activations behind one mark more
 one_more : (marks : List MarkKind) (m : MarkKind) (a : Activations) → activations marks ≡ a → activations (marks ++ m ∷ []) ≡ pass m (settled m a)

@@ -1,5 +1,5 @@
 -- What a body does: its instructions in their order, over the places of a frame.
-use Rattle.std.specs.Prelude.{ℕ, zero, suc, ◌+◌, ◌-◌, true, false, cond, nat_eq, List, [], ◌∷◌, ◌++◌, length, map, Option, Some, None, slice_get}
+use Rattle.std.specs.Prelude.{ℕ, zero, suc, ◌+◌, true, false, cond, nat_eq, List, [], ◌∷◌, ◌++◌, length, map, Option, Some, None, slice_get}
 use Rattle.sch_word.specs.declared.place.Place.{Place}
 use Rattle.sch_word.specs.declared.place.Place.TheVariants.{Reg, Slot}
 use Rattle.sch_word.specs.declared.mark.MarkKind.TheVariants.{Spill}
@@ -13,6 +13,7 @@ use Rattle.sch_control.specs.declared.body.Entry.{Entry}
 use Rattle.sch_control.specs.declared.operation.Member.{Member}
 use Rattle.sch_control.specs.Operations.{operate, and_value, member_bytes, members_made, with_procedures}
 use Rattle.sch_control.specs.Meaning.{World, Result, Callee, marked, with_value, on_outcome, on_ending, on_return, either, call_in}
+use Rattle.sch_control.specs.flow.Places.{argument_register, argument_slot}
 use Rattle.sch_frames.specs.declared.instruction.Instruction.{Instruction}
 use Rattle.sch_frames.specs.declared.instruction.Instruction.TheVariants.{Do, Store, Copy, Pass, Fix, Call, Tail, Return, End, IfFalse, Jump, Label, Mark}
 
@@ -27,16 +28,6 @@ pub record Frame : Type 0 where
   pub accumulator : Cell
   pub places : Place → Cell
   pub outgoing : ℕ → Cell
-
--- ## Places
-
--- where the operand with k before it is handed over, if that is in a register
-abbrev pub argument_register : ℕ → Option ℕ
-argument_register k = slice_get argument_registers k
-
--- the slot for an operand that is handed over in none
-abbrev pub argument_slot : ℕ → ℕ
-argument_slot k = k - length argument_registers
 
 -- ## What a place holds
 

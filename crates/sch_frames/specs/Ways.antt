@@ -9,7 +9,8 @@ use Rattle.sch_word.specs.runs.Computation.{gives, State, in_store, procedures_f
 use Rattle.sch_word.specs.declared.mark.MarkKind.{MarkKind}
 use Rattle.sch_word.specs.declared.mark.MarkKind.TheVariants.{Enter, Spill}
 use Rattle.sch_control.specs.declared.operation.Member.{Member}
-use Rattle.sch_control.specs.Operations.{Procedure, member_bytes, members_made, operate, with_procedures}
+use Rattle.sch_control.specs.Operations.{member_bytes, members_made, operate, with_procedures}
+use Rattle.sch_word.specs.runs.Procedures.{Procedure}
 use Rattle.sch_frames.specs.declared.instruction.Instruction.{Instruction}
 use Rattle.sch_frames.specs.declared.instruction.Instruction.TheVariants.{Do, Store as Put, Copy, Pass, Fix, Call, Tail, Return, End, IfFalse, Jump, Label, Mark}
 use Rattle.sch_word.specs.values.Places.{link_place}

@@ -5,7 +5,7 @@ use Rattle.std.proofs.Math.Nat.{mod-le}
 use Rattle.std.proofs.lemmas.Fmt.{length-decimal-le}
 use Rattle.sch_generator.specs.declared.drawn_body.Body.{Body}
 use Rattle.sch_generator.specs.declared.drawn_body.Body.TheVariants.{Comparison, Binding, TwoCalls, TailCall}
-use Rattle.sch_generator.specs.Draws.{draw, next_state}
+use Rattle.sch_generator.specs.Draws.{draw, divisor, next_state}
 use Rattle.sch_generator.specs.DrawnBody.{operand_bound, DrawnBody, body_in_case, drawn_body, body_text}
 use Rattle.sch_generator.specs.GeneratedText.{procedure_count, lines_below, definition_text, definition_line, definition_state, call_text, call_line, call_state, program_text, generated_text}
 
@@ -19,7 +19,7 @@ short_number n small = record { digits = length-decimal-le 5 n (omega arith) sma
 -- what is drawn is below 2 ^ 15, since the state is below 2 ^ 31
 short_draw : (x k : ℕ) → IsShort (draw x k).answer
 unfolding draw
-short_draw x k = short_number (next_state x / 65536 % k) (omega (arith, mod-le (next_state x / 65536) k))
+short_draw x k = short_number (next_state x / divisor % k) (omega (arith, mod-le (next_state x / divisor) k))
 
 -- ## Bodies
 
@@ -73,12 +73,12 @@ unfolding lines_below
 length_lines line zero h = omega arith
 length_lines line (suc n) h = omega (arith, length-append (lines_below line n) (line n), length_lines line n (λ i below. h i (omega arith)), h n (omega arith))
 
-length_definition_line : (x i : ℕ) → i < 1000 → length (definition_line x i) ≤ 110
+length_definition_line : (x i : ℕ) → i < procedure_count → length (definition_line x i) ≤ 110
 unfolding definition_line
 length_definition_line x i below =
     length_definition i (drawn_body i (definition_state x i)).body (short_number i (omega arith)) (length_drawn_body i (definition_state x i))
 
-length_call_line : (x i : ℕ) → i < 1000 → length (call_line x i) ≤ 110
+length_call_line : (x i : ℕ) → i < procedure_count → length (call_line x i) ≤ 110
 unfolding call_line
 length_call_line x i below =
     let p = draw (call_state x i) operand_bound in

@@ -7,7 +7,7 @@ use Rattle.sch_control.specs.Valid.{max_body_variables}
 use Rattle.sch_control.specs.View.{expression_with}
 use Rattle.sch_control.specs.flow.RestoredView.{restored}
 use Rattle.sch_frames.specs.Valid.{max_words}
-use Rattle.sch_layout.proofs.EachCall.{EachCall}
+use Rattle.sch_control.specs.EachCall.{EachCall}
 use Rattle.sch_layout.proofs.layouts.VariablesUsed.{numbered_is}
 use Rattle.sch_writer.specs.FewOperands.{FewOperands}
 use Rattle.sch_homes.specs.Homes.{first_home, homes_end}

@@ -9,9 +9,8 @@ use Rattle.sch_control.specs.declared.body.Entry.{Entry}
 use Rattle.sch_control.specs.Tree.{Expression}
 use Rattle.sch_control.specs.flow.Apart as flow
 use Rattle.sch_control.specs.flow.Live.{Live, nothing_later}
-use Rattle.sch_control.specs.flow.Places.{arrival, place_of, stays, formals_of}
+use Rattle.sch_control.specs.flow.Places.{arrival, place_of, stays, formals_of, variable_arrival}
 use Rattle.sch_word.specs.values.Places.{same_place, closure_place, link_place, is_slot}
-use Rattle.sch_layout.specs.BodyLayout.{arrived}
 use Rattle.sch_layout.specs.Laws.{EntersSlots}
 use Rattle.sch_layout.specs.SharedPlaces.{Alone, Arrives}
 use Rattle.sch_word.proofs.facts.Places.{place_itself, places_same}
@@ -58,7 +57,7 @@ module _ (entry : Option Entry) (e : Expression) (places : List Place) (whole : 
   abbrev lies : ℕ → Place
   lies = place entry e places
 
-  enters : (x : ℕ) → x < 2 + formals_of entry → Enters (arrived x) (place_of places x)
+  enters : (x : ℕ) → x < 2 + formals_of entry → Enters (variable_arrival x) (place_of places x)
   enters zero lt = stays_there link
   enters (suc zero) lt = stays_there closure
   enters (suc (suc k)) lt =
@@ -69,13 +68,13 @@ module _ (entry : Option Entry) (e : Expression) (places : List Place) (whole : 
   lies_at x lt = place_is entry e places x (let w = whole in omega (arith, lt, w))
 
   -- what stays does not come elsewhere
-  not_elsewhere : {A : Type 0} (x : ℕ) → x < 2 + formals_of entry → place_of places x ≡ arrived x → same_place (lies x) (arrived x) ≡ false → A
-  not_elsewhere x lt i s = absurd (false_true (ap (λ p. same_place p (arrived x)) (lies_at x lt ∙ i) ∙ place_itself (arrived x)) s)
+  not_elsewhere : {A : Type 0} (x : ℕ) → x < 2 + formals_of entry → place_of places x ≡ variable_arrival x → same_place (lies x) (variable_arrival x) ≡ false → A
+  not_elsewhere x lt i s = absurd (false_true (ap (λ p. same_place p (variable_arrival x)) (lies_at x lt ∙ i) ∙ place_itself (variable_arrival x)) s)
 
   -- what does not stay comes from a register
-  pub from_register : (x : ℕ) → x < 2 + formals_of entry → same_place (lies x) (arrived x) ≡ false → is_slot (arrived x) ≡ false
+  pub from_register : (x : ℕ) → x < 2 + formals_of entry → same_place (lies x) (variable_arrival x) ≡ false → is_slot (variable_arrival x) ≡ false
   from_register x lt s = by (enters x lt) where
-    by : Enters (arrived x) (place_of places x) → is_slot (arrived x) ≡ false
+    by : Enters (variable_arrival x) (place_of places x) → is_slot (variable_arrival x) ≡ false
     by (stays_there j) = not_elsewhere x lt j s
     by (to_slot r j a p) = ap is_slot a
 
@@ -87,8 +86,8 @@ module _ (entry : Option Entry) (e : Expression) (places : List Place) (whole : 
     apart : same_place (lies x) (lies y) ≡ false
     apart = places_apart entry e places x y (let w = whole in omega (arith, lx, w)) (let w = whole in omega (arith, ly, w)) (alone y ly x l n)
 
-    by : Enters (arrived y) (place_of places y) → (t : Bool)
-        → Enters (arrived x) (place_of places x) → same_place (cond t (lies x) (arrived x)) (lies y) ≡ false
+    by : Enters (variable_arrival y) (place_of places y) → (t : Bool)
+        → Enters (variable_arrival x) (place_of places x) → same_place (cond t (lies x) (variable_arrival x)) (lies y) ≡ false
     by (stays_there j) t k = not_elsewhere y ly j s
     by (to_slot r j a p) true k = apart
     by (to_slot r j a p) false (stays_there i) = ap (λ q. same_place q (lies y)) (sym (lies_at x lx ∙ i)) ∙ apart

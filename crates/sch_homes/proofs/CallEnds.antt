@@ -14,7 +14,7 @@ use Rattle.sch_control.specs.Tree.{Expression, perform, bind, sequence, branch, 
 use Rattle.sch_layout.specs.BodyLayout.{arguments_at}
 use Rattle.sch_layout.specs.Laws.{AtomsHave}
 use Rattle.sch_layout.specs.Moves.{EachMove}
-use Rattle.sch_layout.proofs.EachCall.{EachCall}
+use Rattle.sch_control.specs.EachCall.{EachCall}
 use Rattle.sch_shuffle.specs.Assignment.{place_at}
 use Rattle.sch_shuffle.specs.Greedy.{acts, all_choices}
 use Rattle.sch_shuffle.proofs.SetAside.{acts_used}

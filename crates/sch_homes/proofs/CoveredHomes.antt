@@ -16,7 +16,8 @@ use Rattle.sch_frames.proofs.SettledMarks.{settled}
 use Rattle.sch_frames.specs.Standing.{Other, code_marks_stand}
 use Rattle.sch_frames.specs.declared.instruction.Instruction.{Instruction}
 use Rattle.sch_frames.specs.declared.instruction.Instruction.TheVariants.{Copy}
-use Rattle.sch_layout.specs.BodyLayout.{Plan, arrived, under}
+use Rattle.sch_layout.specs.BodyLayout.{Plan, under}
+use Rattle.sch_control.specs.flow.Places.{variable_arrival}
 use Rattle.sch_layout.proofs.EntryCopies.{entering_has, spill_has}
 use Rattle.sch_layout.proofs.layouts.CoveredSlots.{covered_steers, covered_unplaced, lay_begins, parts_covered}
 use Rattle.sch_layout.proofs.layouts.InstructionTests.{Passes, Steers, Unplaced, entering_passes, lay_passes, unplaced_carries}
@@ -52,7 +53,7 @@ module _ (c : control.Code) (e : Expression) (places : List Place) (p : IsPlaced
   pub homes_begin : code_begins (homes_code c.entry e places) ≡ true
   homes_begin =
       entering_has (homes_plan c.entry e places) (λ is. begins is ≡ true) c.entry
-      (λ x lt n rest h. spill_has (λ m. begins (under m (Copy (place c.entry e places x) (arrived x)) rest) ≡ true) (homes_plan c.entry e places) x refl refl) _
+      (λ x lt n rest h. spill_has (λ m. begins (under m (Copy (place c.entry e places x) (variable_arrival x)) rest) ≡ true) (homes_plan c.entry e places) x refl refl) _
       (lay_begins (homes_plan c.entry e places) e no_region 0 None [])
 
   pub homes_covered : ended c ≡ true → code_marks_stand (homes_code c.entry e places) ≡ true → control_covered.is_covered_code c ≡ true → is_covered_code (homes_code c.entry e places) ≡ true

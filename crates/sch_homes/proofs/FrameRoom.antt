@@ -18,10 +18,11 @@ use Rattle.sch_control.specs.flow.Places.{arrival, count_slots, is_usual, place_
 use Rattle.sch_control.proofs.SlotCounts.{slots_within}
 use Rattle.sch_frames.specs.Valid.{max_words}
 use Rattle.sch_layout.specs.Laws.{Uses}
-use Rattle.sch_layout.proofs.EachCall.{EachCall, call_erased, each_call, operands_few}
+use Rattle.sch_layout.proofs.EachCall.{call_erased, each_call, operands_few}
+use Rattle.sch_control.specs.EachCall.{EachCall}
 use Rattle.sch_layout.proofs.layouts.VariablesUsed.{code_uses, numbered_is}
 use Rattle.sch_homes.specs.CallMoves.{call_end}
-use Rattle.sch_homes.specs.Homes.{count_below, first_home, has_home, homes_end, homes_words, in_register, is_saved, late_slots, place, slots_end}
+use Rattle.sch_homes.specs.Homes.{count_below, first_home, has_home, homes_end, homes_words, is_saved, late_slots, place, slots_end, has_register}
 use Rattle.sch_homes.specs.Laws.{AreDense, IsPlaced}
 use Rattle.sch_homes.proofs.CallEnds.{call_within, calls_within, used_before}
 use Rattle.sch_homes.proofs.SlotsApart.{HasRoom}
@@ -64,21 +65,21 @@ count_more test other f (suc n) = by (test n) (other n) refl refl (count_more te
   by false false e i le = le
 
 -- each variable lives in a register or in a slot
-registers_and_slots : (places : List Place) → count_below (λ x. in_register (slice_get places x)) (length places) + count_slots places ≡ length places
+registers_and_slots : (places : List Place) → count_below (λ x. has_register (slice_get places x)) (length places) + count_slots places ≡ length places
 registers_and_slots [] = refl
 registers_and_slots (Reg r ∷ places) =
-    let s = count_shift (λ x. in_register (slice_get (Reg r ∷ places) x)) (length places) in
+    let s = count_shift (λ x. has_register (slice_get (Reg r ∷ places) x)) (length places) in
     let h = registers_and_slots places in
     omega (arith, s, h)
 registers_and_slots (Slot j ∷ places) =
-    let s = count_shift (λ x. in_register (slice_get (Slot j ∷ places) x)) (length places) in
+    let s = count_shift (λ x. has_register (slice_get (Slot j ∷ places) x)) (length places) in
     let h = registers_and_slots places in
     omega (arith, s, h)
 
 -- no more have homes than live in registers
 pub homes_few : (entry : Option Entry) (e : Expression) (places : List Place) → count_below (has_home entry e places) (length places) + count_slots places ≤ length places
 homes_few entry e places =
-    let more = count_more (has_home entry e places) (λ x. in_register (slice_get places x)) (λ x h. (and_parts _ (is_saved e x) h).0) (length places) in
+    let more = count_more (has_home entry e places) (λ x. has_register (slice_get places x)) (λ x h. (and_parts _ (is_saved e x) h).0) (length places) in
     let all = registers_and_slots places in
     omega (arith, more, all)
 

@@ -18,18 +18,19 @@ use Rattle.sch_control.specs.Meaning.{no_region}
 use Rattle.sch_control.specs.Tree as control
 use Rattle.sch_control.specs.Tree.{Expression}
 use Rattle.sch_control.specs.Valid.{entry_shaped, is_bare, last_position, positioned, shaped as expression_shaped}
-use Rattle.sch_control.specs.flow.Places.{count_slots, is_usual, place_of, formals_of}
+use Rattle.sch_control.specs.flow.Places.{count_slots, is_usual, place_of, formals_of, variable_arrival}
 use Rattle.sch_frames.specs.declared.instruction.Instruction.TheVariants.{Copy}
 use Rattle.sch_word.specs.values.Places.{same_place, is_slot}
 use Rattle.sch_word.proofs.facts.NumberSets.{has_append}
 use Rattle.sch_word.proofs.facts.Booleans.{or_left}
 use Rattle.sch_frames.specs.Standing.{code_marks_stand}
 use Rattle.sch_frames.specs.Valid.{forward, instruction_placed, instruction_shaped, is_atom, is_place, jumps_ahead, labels_in, placed, shaped}
-use Rattle.sch_layout.specs.BodyLayout.{Plan, arguments_at, arrived, labels, lay, operands_at, under}
+use Rattle.sch_layout.specs.BodyLayout.{Plan, arguments_at, labels, lay, operands_at, under}
 use Rattle.sch_layout.specs.Laws.{AtomsHave, Laid}
 use Rattle.sch_layout.specs.Moves.{EachMove}
 use Rattle.sch_layout.specs.SharedPlaces.{entered_with}
-use Rattle.sch_layout.proofs.EachCall.{EachCall, both_calls, each_call}
+use Rattle.sch_layout.proofs.EachCall.{both_calls, each_call}
+use Rattle.sch_control.specs.EachCall.{EachCall}
 use Rattle.sch_layout.proofs.EntryCopies.{entering_has, spill_has}
 use Rattle.sch_layout.proofs.MovesHave.{Fits, is_target}
 use Rattle.sch_layout.proofs.does.OperationsFollow.{have_left, have_right}
@@ -45,7 +46,7 @@ use Rattle.sch_shuffle.specs.Plans.{Act, IsAct}
 use Rattle.sch_shuffle.specs.Tree.{Tree}
 use Rattle.sch_shuffle.proofs.SetAside.{acts_used, asides_in}
 use Rattle.sch_homes.specs.CallMoves.{argument_of, call_arguments, call_end, call_free, call_moves, call_targets, first_temporary, next_frame, slot_end}
-use Rattle.sch_homes.specs.Homes.{first_home, home, homes_code, homes_end, homes_plan, homes_words, in_register, is_saved, late_slots, lives_in, place}
+use Rattle.sch_homes.specs.Homes.{first_home, home, homes_code, homes_end, homes_plan, homes_words, is_saved, late_slots, lives_in, place, has_register}
 use Rattle.sch_homes.specs.Laws.{HomesFramed, IsPlaced}
 use Rattle.sch_homes.proofs.BodyPlaces.{from_register, listed_at}
 use Rattle.sch_homes.proofs.CallEnds.{within_calls}
@@ -75,7 +76,7 @@ argument_placed lives words P there (o ∷ operands) h zero = operand_placed liv
 argument_placed lives words P there (o ∷ operands) h (suc k) = argument_placed lives words P there operands (have_right P (operand_atoms o) _ h) k
 
 -- what arrives in a register is in one that there is
-arrived_placed : (words x : ℕ) → is_slot (arrived x) ≡ false → is_place words (arrived x) ≡ true
+arrived_placed : (words x : ℕ) → is_slot (variable_arrival x) ≡ false → is_place words (variable_arrival x) ≡ true
 arrived_placed words zero s = refl
 arrived_placed words (suc zero) s = refl
 arrived_placed words (suc (suc zero)) s = refl
@@ -206,7 +207,7 @@ module _ (c : control.Code) (e : Expression) (places : List Place) (p : IsPlaced
   home_placed : (x : ℕ) → is_saved e x ≡ true → is_slot (place c.entry e places x) ≡ false → is_place words (home c.entry e places x) ≡ true
   home_placed x k s =
       let t = in_table c.entry e places x s in
-      let less = home_inside c.entry e places x (ap (λ o. in_register o && is_saved e x) t.1 ∙ k) (slice_get_within places x (Reg t.0) t.1) in
+      let less = home_inside c.entry e places x (ap (λ o. has_register o && is_saved e x) t.1 ∙ k) (slice_get_within places x (Reg t.0) t.1) in
       let most = homes_before c e places p in
       lt-ltb _ words (omega (arith, less, most))
 
@@ -224,12 +225,12 @@ module _ (c : control.Code) (e : Expression) (places : List Place) (p : IsPlaced
   entered_few None x lt = absurd (omega (arith, lt))
   entered_few (Some i) x lt = lt
 
-  copies : (x : ℕ) → x < entered_with c.entry → same_place (place c.entry e places x) (arrived x) ≡ false → instruction_placed words (Copy (place c.entry e places x) (arrived x)) ≡ true
+  copies : (x : ℕ) → x < entered_with c.entry → same_place (place c.entry e places x) (variable_arrival x) ≡ false → instruction_placed words (Copy (place c.entry e places x) (variable_arrival x)) ≡ true
   copies x lt n =
       let few = entered_few c.entry x lt in
       let first = first_there c e places p in
       let s = from_register c.entry e places first p.link p.closure p.formals x few n in
-      and_from _ _ (not_both (is_slot (place c.entry e places x)) (is_slot (arrived x)) s)
+      and_from _ _ (not_both (is_slot (place c.entry e places x)) (is_slot (variable_arrival x)) s)
       (and_from _ _ (lives_there x (omega (arith, few, first))) (arrived_placed words x s))
 
   pub code_placed : placed c.entry words (homes_code c.entry e places).instructions ≡ true
@@ -248,10 +249,10 @@ module _ (c : control.Code) (e : Expression) (places : List Place) (p : IsPlaced
       right (homes_plan c.entry e places) e no_region 0 None [] (λ l h h'. refl) tt (record { once = refl; ahead = refl }) in
       let same : labels_in (homes_code c.entry e places).instructions ≡ labels_in (lay (homes_plan c.entry e places) e no_region 0 None []) =
       entering_has (homes_plan c.entry e places) (λ is. labels_in is ≡ labels_in (lay (homes_plan c.entry e places) e no_region 0 None [])) c.entry
-      (λ x lt n rest h. spill_has (λ m. labels_in (under m (Copy (place c.entry e places x) (arrived x)) rest)
+      (λ x lt n rest h. spill_has (λ m. labels_in (under m (Copy (place c.entry e places x) (variable_arrival x)) rest)
       ≡ labels_in (lay (homes_plan c.entry e places) e no_region 0 None [])) (homes_plan c.entry e places) x h h) laid refl in
       let ahead : jumps_ahead (homes_code c.entry e places).instructions ≡ true = entering_has (homes_plan c.entry e places) (λ is. jumps_ahead is ≡ true) c.entry
-      (λ x lt n rest h. spill_has (λ m. jumps_ahead (under m (Copy (place c.entry e places x) (arrived x)) rest) ≡ true) (homes_plan c.entry e places) x h h) laid r.ahead in
+      (λ x lt n rest h. spill_has (λ m. jumps_ahead (under m (Copy (place c.entry e places x) (variable_arrival x)) rest) ≡ true) (homes_plan c.entry e places) x h h) laid r.ahead in
       and_from _ _
       (ap (list_all (λ l. nat_lt l (labels e))) same ∙ lay_below (homes_plan c.entry e places) e no_region 0 None [] (labels e) (omega arith) refl)
       (and_from _ _ (ap without_repeats same ∙ r.once) ahead)

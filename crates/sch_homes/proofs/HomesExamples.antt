@@ -9,9 +9,10 @@ use Rattle.sch_control.specs.declared.body.Entry.{Entry}
 use Rattle.sch_control.specs.declared.operation.Operation.TheVariants as operation
 use Rattle.sch_control.specs.Tree.{Expression, perform, bind, call, return, save}
 use Rattle.sch_control.proofs.Examples.{applied, held_in, number}
+use Rattle.sch_layout.proofs.SharedExamples.{two_formals}
 use Rattle.sch_frames.specs.declared.instruction.Instruction.TheVariants.{Do, Store, Copy, Call, Return, Mark}
 use Rattle.sch_homes.specs.FewKept.{BodyKeepsFew}
-use Rattle.sch_homes.specs.Homes.{home, homes_code, homes_words, in_register, is_saved, place}
+use Rattle.sch_homes.specs.Homes.{home, homes_code, homes_words, is_saved, place, has_register}
 use Rattle.sch_homes.specs.HomeTable.{home_of, home_slots, place_in, table_plan}
 
 -- ## A procedure of eight formals: two arrive in slots, and they stay there
@@ -56,20 +57,17 @@ two_saved = save (3 ∷ 0 ∷ []) (bind 4 (call (applied 0 (held_in 2) (held_in 
 abbrev five_places : List Place
 five_places = Reg 15 ∷ Reg 14 ∷ Reg 3 ∷ Reg 8 ∷ Reg 3 ∷ []
 
-abbrev two : Option Entry
-two = Some (record { formals = 2; rest = false; fields = 0 })
-
-homes_rows : (home two two_saved five_places 0 ≡ Slot 0) × (home two two_saved five_places 3 ≡ Slot 1) × (home two two_saved five_places 4 ≡ Slot 2052) × (homes_words two two_saved five_places ≡ 2)
+homes_rows : (home two_formals two_saved five_places 0 ≡ Slot 0) × (home two_formals two_saved five_places 3 ≡ Slot 1) × (home two_formals two_saved five_places 4 ≡ Slot 2052) × (homes_words two_formals two_saved five_places ≡ 2)
 homes_rows = (refl, refl, refl, refl)
 
 -- a body that saves nothing and calls nothing needs no frame
-leaf_row : homes_words two (return (perform (operation.Operand (held_in 3)))) five_places ≡ 0
+leaf_row : homes_words two_formals (return (perform (operation.Operand (held_in 3)))) five_places ≡ 0
 leaf_row = refl
 
 -- ## The same places and homes, read in tables
 
 -- variables 0 and 3 of five have homes, in the slots from 1 on
-homes_listed : home_slots 1 (λ x. in_register (slice_get five_places x) && is_saved two_saved x) 5 ≡ Some 1 ∷ None ∷ None ∷ Some 2 ∷ None ∷ []
+homes_listed : home_slots 1 (λ x. has_register (slice_get five_places x) && is_saved two_saved x) 5 ≡ Some 1 ∷ None ∷ None ∷ Some 2 ∷ None ∷ []
 homes_listed = refl
 
 -- what has no home would have its own behind the largest frame
@@ -88,7 +86,7 @@ tables_row = (refl, refl)
 -- ## A body that keeps few variables
 
 -- two are saved round the body and restored behind its call
-few_row : BodyKeepsFew two two_saved five_places
+few_row : BodyKeepsFew two_formals two_saved five_places
 few_row = (omega arith, (omega arith, tt))
 
 -- a form has nothing to save at its head
@@ -96,5 +94,5 @@ form_row : BodyKeepsFew None two_saved five_places → ⊥
 form_row k = omega (arith, k.0)
 
 -- no region stands round what is bound
-bound_row : BodyKeepsFew two (bind 4 two_saved (return (perform (operation.Operand (held_in 3))))) five_places → ⊥
+bound_row : BodyKeepsFew two_formals (bind 4 two_saved (return (perform (operation.Operand (held_in 3))))) five_places → ⊥
 bound_row k = k.0.0

@@ -11,7 +11,7 @@ use Rattle.sch_control.specs.Meaning.{binds, heads, with_region}
 use Rattle.sch_control.specs.Tree.{Expression, perform, bind, sequence, branch, fix, call, tail_call, return, end, save}
 use Rattle.sch_control.specs.Valid.{member_variables}
 use Rattle.sch_control.specs.flow.Regions.{restores_saved}
-use Rattle.sch_control.proofs.VariableLists.{each_passes}
+use Rattle.sch_word.proofs.facts.NumberSets.{each_passes}
 use Rattle.sch_frames.specs.declared.instruction.Instruction.{Instruction}
 use Rattle.sch_frames.specs.declared.instruction.Instruction.TheVariants.{Store, Copy, Mark}
 use Rattle.sch_word.specs.values.Places.{is_slot}

@@ -4,7 +4,7 @@ use Rattle.sch_word.specs.declared.place.Place.{Place}
 use Rattle.sch_word.specs.declared.place.Place.TheVariants.{Reg}
 use Rattle.sch_control.specs.declared.operation.Application.{Application}
 use Rattle.sch_control.specs.Tree.{Expression, branch, call, tail_call}
-use Rattle.sch_control.proofs.Examples.{applied, held_in}
+use Rattle.sch_control.proofs.Examples.{applied, held_in, number}
 use Rattle.sch_orders.specs.declared.listed_call.ListedCall.{ListedCall}
 use Rattle.sch_orders.specs.ListedCalls.{listed_calls}
 use Rattle.sch_homes.specs.HomeTable.{place_in}
@@ -23,6 +23,10 @@ standing_row = refl
 
 straight_row : straight_call (applied 7 (held_in 1) (held_in 2 ∷ held_in 3 ∷ [])) ≡ listed 7 (0 ∷ 1 ∷ 2 ∷ []) []
 straight_row = refl
+
+-- the operator stands where the operand is wanted, and goes first: it is a straight call too
+handed_row : listed_call 5 lives false (applied 7 (held_in 2) (number 7 ∷ [])) ≡ straight_call (applied 7 (held_in 2) (number 7 ∷ []))
+handed_row = refl
 
 -- two operands that change places: one cycle
 swap_row : listed_call 5 lives true (applied 7 (held_in 1) (held_in 3 ∷ held_in 2 ∷ [])) ≡ listed 7 (0 ∷ 1 ∷ 2 ∷ []) ((Reg 3 ∷ Reg 8 ∷ []) ∷ [])

@@ -19,8 +19,8 @@ use Rattle.sch_shuffle.specs.Tree.{fixed, literal, place, read, trees}
 use Rattle.sch_homes.specs.CallMoves.{aside_end, call_end, call_free, call_moves, first_temporary, is_spare, move_of, next_frame, operand_tree, slot_end, spare_registers, taken, targets, temporaries}
 use Rattle.sch_homes.specs.Homes.{calls_end}
 use Rattle.sch_homes.specs.HomeTable.{place_in}
-use Rattle.sch_homes.specs.StraightCalls.{are_apart, keeps_off, uses_other}
-use Rattle.sch_homes.specs.StraightCalls as apart
+use Rattle.sch_homes.specs.StraightCalls.{are_in_order, keeps_off_earlier}
+use Rattle.sch_homes.specs.StraightCalls as straight_calls
 
 -- variables 2 to 7 live where the first six operands arrive, 8 and 9 in slots
 abbrev lives : ℕ → Place
@@ -84,12 +84,47 @@ straight_laid = refl
 straight_end : call_end 5 lives false straight ≡ 5
 straight_end = refl
 
--- no argument uses the target of another one
-straight_apart : (uses_other false 1 (operand_tree (held_in (Reg 3))) 1 ≡ false) × (keeps_off false 3 0 (operand_tree (held_in (Reg 9))) ≡ true) × (are_apart lives false straight ≡ true)
-straight_apart = (refl, refl, refl)
+-- each operand uses its own target, and no argument that of another one
+straight_ordered : (keeps_off_earlier false 0 (operand_tree (held_in (Reg 9))) ≡ true) × (keeps_off_earlier false 1 (operand_tree (held_in (Reg 3))) ≡ true) × (are_in_order lives false straight ≡ true)
+straight_ordered = (refl, refl, refl)
 
-straight_list : apart.straight_moves lives false straight ≡ call_moves 5 lives false straight
+straight_list : straight_calls.straight_moves lives false straight ≡ call_moves 5 lives false straight
 straight_list = refl
+
+-- ## Arguments that use the targets of later ones alone
+
+-- `(x 7)`: the operator stands where the operand is wanted, and goes before it
+abbrev handed : Application ℕ
+handed = applied 0 (held_in 2) (number 7 ∷ [])
+
+handed_moves : call_moves 5 lives false handed ≡ move 0 (held_in (Reg 3)) (Reg 14) false ∷ move 1 (number 7) (Reg 3) false ∷ []
+handed_moves = refl
+
+handed_ordered : are_in_order lives false handed ≡ true
+handed_ordered = refl
+
+handed_list : straight_calls.straight_moves lives false handed ≡ call_moves 5 lives false handed
+handed_list = refl
+
+handed_end : call_end 5 lives false handed ≡ 5
+handed_end = refl
+
+-- `(x y z)`: each argument stands where the next one is wanted
+abbrev shifted : Application ℕ
+shifted = applied 0 (held_in 2) (held_in 3 ∷ held_in 4 ∷ [])
+
+shifted_ordered : are_in_order lives false shifted ≡ true
+shifted_ordered = refl
+
+shifted_list : straight_calls.straight_moves lives false shifted ≡ call_moves 5 lives false shifted
+shifted_list = refl
+
+-- `(f z x)`: the second operand stands where the first is wanted, and goes before it
+abbrev turned : Application ℕ
+turned = applied 0 (held_in 1) (held_in 4 ∷ held_in 2 ∷ [])
+
+turned_not_ordered : (keeps_off_earlier false 2 (operand_tree (held_in (Reg 3))) ≡ false) × (are_in_order lives false turned ≡ false)
+turned_not_ordered = (refl, refl)
 
 -- ## A swap in a tail call
 
@@ -108,9 +143,9 @@ swap_laid = refl
 swap_end : call_end 5 lives true swap ≡ 5
 swap_end = refl
 
--- each of the two uses the target of the other
-swap_apart : (uses_other true 1 (operand_tree (held_in (Reg 8))) 2 ≡ true) × (keeps_off true 3 1 (operand_tree (held_in (Reg 8))) ≡ false) × (are_apart lives true swap ≡ false)
-swap_apart = (refl, refl, refl)
+-- each of the two uses the target of the other, so the later one that of an earlier one
+swap_not_ordered : (keeps_off_earlier true 1 (operand_tree (held_in (Reg 8))) ≡ true) × (keeps_off_earlier true 2 (operand_tree (held_in (Reg 3))) ≡ false) × (are_in_order lives true swap ≡ false)
+swap_not_ordered = (refl, refl, refl)
 
 -- ## Seven operands: the last goes to a slot
 

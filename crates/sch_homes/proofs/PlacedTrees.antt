@@ -18,7 +18,7 @@ use Rattle.sch_control.specs.flow.Regions.{restores_saved}
 use Rattle.sch_control.specs.AtomsAndSites.{member_atoms}
 use Rattle.sch_layout.specs.Laws.{MembersUse, Uses}
 use Rattle.sch_layout.specs.SharedPlaces.{Alone, FreeInCall, FreeInTail, Placed}
-use Rattle.sch_layout.proofs.EachCall.{EachCall}
+use Rattle.sch_control.specs.EachCall.{EachCall}
 use Rattle.sch_layout.proofs.LowVariables.{live_low, mentioned, perhaps_low}
 use Rattle.sch_paths.specs.Conditions.{Fresh}
 use Rattle.sch_homes.specs.Homes.{homes_plan}

@@ -12,7 +12,8 @@ use Rattle.sch_control.specs.Meaning.{binds, heads, no_region, with_region}
 use Rattle.sch_control.specs.Tree.{Expression, perform, bind, sequence, branch, fix, call, tail_call, return, end, save}
 use Rattle.sch_control.specs.flow.Live.{known, ByResult, AfterValue, Across, Later, Live, MayGive, Perhaps, Soon, nothing_later}
 use Rattle.sch_control.specs.flow.Regions.{restores_saved}
-use Rattle.sch_control.proofs.VariableLists.{heads_has, each_passes}
+use Rattle.sch_control.proofs.VariableLists.{heads_has}
+use Rattle.sch_word.proofs.facts.NumberSets.{each_passes}
 use Rattle.sch_paths.specs.Conditions.{Fresh, Restored, Saved}
 use Rattle.sch_paths.specs.EachSoonRestored.{EachSoonRestored}
 use Rattle.sch_paths.proofs.saves.SavedAndRestored.{restored_kept}

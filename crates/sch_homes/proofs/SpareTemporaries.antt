@@ -2,6 +2,7 @@
 use Rattle.std.proofs.Common.{◌≡◌, ◌≢◌, ℕ, zero, suc, ◌+◌, ◌-◌, ◌<◌, ◌≤◌, List, [], ◌∷◌, length, map, get_or, Some, None, Bool, true, false, cond, refl, sym, ap, ◌∙◌, arith, inl, inr, ◌⊎◌}
 use Rattle.std.specs.Prelude.{filter, slice_get}
 use Rattle.std.proofs.lemmas.Option.{slice_get_cases}
+use Rattle.std.specs.Option.{unwrap_or}
 use Rattle.sch_word.specs.declared.place.Place.{Place}
 use Rattle.sch_word.specs.declared.place.Place.TheVariants.{Reg, Slot}
 use Rattle.sch_word.specs.trees.NumberSets.{has}
@@ -9,7 +10,7 @@ use Rattle.sch_word.specs.values.Registers.{argument_registers}
 use Rattle.sch_word.proofs.facts.NumberSets.{in_here, in_more}
 use Rattle.sch_shuffle.specs.Assignment.{AreDistinct}
 use Rattle.sch_shuffle.proofs.WaitingArguments.{Once, not_in}
-use Rattle.sch_homes.specs.CallMoves.{or_slot, temporaries, temporary}
+use Rattle.sch_homes.specs.CallMoves.{temporaries, temporary}
 use Rattle.sch_homes.proofs.Numbered.{map_at, map_length}
 
 -- ## Registers that pass a test
@@ -101,10 +102,10 @@ module _ (test : Place → Bool) (first : ℕ) where
 
   -- which it is
   pub at_register : (u r : ℕ) → slice_get spare u ≡ Some (Reg r) → temporary spare first u ≡ Reg r
-  at_register u r e = ap (or_slot (first + (u - length spare))) e
+  at_register u r e = ap (λ o. unwrap_or o (Slot (first + (u - length spare)))) e
 
   pub at_slot : (u : ℕ) → slice_get spare u ≡ None → temporary spare first u ≡ Slot (first + (u - length spare))
-  at_slot u e = ap (or_slot (first + (u - length spare))) e
+  at_slot u e = ap (λ o. unwrap_or o (Slot (first + (u - length spare)))) e
 
   once : (u v : ℕ) → temporary spare first u ≡ temporary spare first v → u ≡ v
   once u v e = by (is_temporary u) (is_temporary v) where

@@ -1,5 +1,5 @@
--- Where no argument uses the target of another, all go straight to their targets, in their order, and no targets are a cycle.
-use Rattle.std.proofs.Common.{◌≡◌, ◌≢◌, ℕ, ◌<◌, Bool, true, false, cond, List, [], ◌∷◌, ◌++◌, length, map, refl, ap, sym, ◌∙◌, arith, inl, inr, ◌⊎◌, get_or}
+-- Where no argument uses the target of an earlier one, all go straight to their targets, in their order, and no targets are a cycle.
+use Rattle.std.proofs.Common.{◌≡◌, ◌≢◌, ℕ, ◌-◌, ◌<◌, Bool, true, false, cond, List, [], ◌∷◌, ◌++◌, length, map, refl, ap, sym, ◌∙◌, arith, inl, inr, ◌⊎◌, get_or}
 use Rattle.std.proofs.lemmas.Bool.{cases_Bool, cases_eq, eq-eqb, ne_eqb}
 use Rattle.std.proofs.lemmas.List.{append-nil}
 use Rattle.sch_word.specs.declared.place.Place.{Place}
@@ -10,19 +10,19 @@ use Rattle.sch_shuffle.specs.declared.choice.Choice.TheVariants.{Direct}
 use Rattle.sch_shuffle.specs.Tree.{Tree, uses}
 use Rattle.sch_shuffle.specs.Assignment.{AreDistinct, place_at}
 use Rattle.sch_shuffle.specs.Plans.{direct, transfers}
-use Rattle.sch_shuffle.specs.Greedy.{acts, all_choices, choices, chosen, evaluations, goes_before, made, needed, next, onwards, uses_target, without}
+use Rattle.sch_shuffle.specs.Greedy.{acts, all_choices, choices, chosen, evaluations, goes_before, made, needed, next, onwards, uses_target, remove_first}
 use Rattle.sch_shuffle.specs.Cycles.{IsRing}
 use Rattle.sch_shuffle.specs.CycleSearch.{cycles, is_ring, places_at, ring, rings, successor}
-use Rattle.sch_shuffle.proofs.WaitingArguments.{below_in, below_numbers}
+use Rattle.sch_shuffle.proofs.WaitingArguments.{Rising, below_in, below_numbers, in_rest, is_above, rising_numbers, rising_rest}
 use Rattle.sch_word.proofs.facts.Places.{place_same}
 use Rattle.sch_shuffle.proofs.ExactCycles.{ring_is}
 
 -- ## The order
 
 module _ (W : ℕ → ℕ → Bool) where
-  -- of these none uses what another needs
-  abbrev AreApart : List ℕ → Type 0
-  AreApart ws = (j k : ℕ) → has j ws ≡ true → has k ws ≡ true → j ≢ k → W j k ≡ false
+  -- of these none uses what an earlier one needs
+  abbrev AreInOrder : List ℕ → Type 0
+  AreInOrder ws = (j k : ℕ) → has j ws ≡ true → has k ws ≡ true → k < j → W j k ≡ false
 
   none_needed : (ws : List ℕ) (k : ℕ) → ((j : ℕ) → has j ws ≡ true → j ≢ k → W j k ≡ false) → needed W ws k ≡ 0
   none_needed [] k h = refl
@@ -35,16 +35,18 @@ module _ (W : ℕ → ℕ → Bool) where
   stays_best f b [] z = refl
   stays_best f b (k ∷ ks) z = ap (λ r. next f (cond (goes_before (f k) r) k b) ks) z ∙ stays_best f b ks z
 
-  straight_choices : (ws : List ℕ) → AreApart ws → choices W (length ws) ws ≡ map Direct ws
-  straight_choices [] h = refl
-  straight_choices (w ∷ ws) h =
-      let none : needed W (w ∷ ws) w ≡ 0 = none_needed (w ∷ ws) w (λ j e n. h j w e (in_here w ws) n) in
+  -- the first of those that wait is then next, whatever it uses itself
+  straight_choices : (ws : List ℕ) → Rising ws → AreInOrder ws → choices W (length ws) ws ≡ map Direct ws
+  straight_choices [] rising h = refl
+  straight_choices (w ∷ ws) rising h =
+      let later : (j : ℕ) → has j (w ∷ ws) ≡ true → j ≢ w → w < j = λ j e n. is_above w ws rising j (in_rest w j ws (λ same. n (sym same)) e) in
+      let none : needed W (w ∷ ws) w ≡ 0 = none_needed (w ∷ ws) w (λ j e n. h j w e (in_here w ws) (later j e n)) in
       let first : next (needed W (w ∷ ws)) w ws ≡ w = stays_best (needed W (w ∷ ws)) w ws none in
-      let gone : without w (w ∷ ws) ≡ ws = ap (λ t. cond t ws (w ∷ without w ws)) (eq-eqb w w refl) in
-      ap (λ k. chosen (needed W (w ∷ ws) k) k ∷ choices W (length ws) (without k (w ∷ ws))) first
-      ∙ (ap (λ r. chosen r w ∷ choices W (length ws) (without w (w ∷ ws))) none
+      let gone : remove_first w (w ∷ ws) ≡ ws = ap (λ t. cond t ws (w ∷ remove_first w ws)) (eq-eqb w w refl) in
+      ap (λ k. chosen (needed W (w ∷ ws) k) k ∷ choices W (length ws) (remove_first k (w ∷ ws))) first
+      ∙ (ap (λ r. chosen r w ∷ choices W (length ws) (remove_first w (w ∷ ws))) none
       ∙ (ap (λ rest. Direct w ∷ choices W (length ws) rest) gone
-      ∙ ap (λ cs. Direct w ∷ cs) (straight_choices ws (λ j k e f n. h j k (in_more j w ws e) (in_more k w ws f) n))))
+      ∙ ap (λ cs. Direct w ∷ cs) (straight_choices ws (rising_rest w ws rising) (λ j k e f n. h j k (in_more j w ws e) (in_more k w ws f) n))))
 
 -- ## The moves
 
@@ -56,13 +58,13 @@ none_onward : (free : List Place) (ks : List ℕ) → onwards free 0 (map Direct
 none_onward free [] = refl
 none_onward free (k ∷ ks) = none_onward free ks
 
-module _ (args : List Tree) (targets : List Place) (apart : (j k : ℕ) → j < length args → k < length args → j ≢ k → uses_target args targets j k ≡ false) where
+module _ (args : List Tree) (targets : List Place) (ordered : (j k : ℕ) → k < j → j < length args → uses_target args targets j k ≡ false) where
   pub straight_order : all_choices args targets ≡ map Direct (numbers 0 (length args))
   straight_order =
       let below = below_numbers (length args) 0 (length args) (omega arith) in
       ap (λ n. choices (uses_target args targets) n (numbers 0 (length args))) (sym (numbers_length 0 (length args)))
-      ∙ straight_choices (uses_target args targets) (numbers 0 (length args))
-      (λ j k e f n. apart j k (below_in (length args) (numbers 0 (length args)) below j e) (below_in (length args) (numbers 0 (length args)) below k f) n)
+      ∙ straight_choices (uses_target args targets) (numbers 0 (length args)) (rising_numbers (length args) 0)
+      (λ j k e f n. ordered j k n (below_in (length args) (numbers 0 (length args)) below j e))
 
   pub straight_acts : (free : List Place) → acts free (all_choices args targets) ≡ map direct (numbers 0 (length args))
   straight_acts free =
@@ -81,11 +83,14 @@ module _ (args : List Tree) (targets : List Place) (apart : (j k : ℕ) → j < 
       bad : {ks : List ℕ} → IsRing args targets ks → ⊥
       bad {ks} r =
           let two = r.two in
-          let i : ℕ = get_or ks 0 0 in
-          let j : ℕ = get_or ks 1 0 in
-          let other : i ≢ j = λ e. let same = r.distinct 0 1 (omega (arith, two)) (omega (arith, two)) e in omega (arith, same) in
-          let used : uses_target args targets i j ≡ true = ap (λ x. uses x (place_at targets j)) (r.links 0 (omega (arith, two))) ∙ place_same (place_at targets j) (place_at targets j) refl in
-          let none : uses_target args targets i j ≡ false = apart i j (r.within 0 (omega (arith, two))) (r.within 1 (omega (arith, two))) other in
+          let first : ℕ = get_or ks 0 0 in
+          let last : ℕ = get_or ks (length ks - 1) 0 in
+          let within : length ks - 1 < length ks = omega (arith, two) in
+          let other : first ≢ last = λ e. let same = r.distinct 0 (length ks - 1) (omega (arith, two)) within e in omega (arith, two, same) in
+          let least = r.least (length ks - 1) within in
+          let later : first < last = omega (arith, least, other) in
+          let used : uses_target args targets last first ≡ true = ap (λ x. uses x (place_at targets first)) r.closes ∙ place_same (place_at targets first) (place_at targets first) refl in
+          let none : uses_target args targets last first ≡ false = ordered last first later (r.within (length ks - 1) within) in
           let both : true ≡ false = sym used ∙ none in cc
 
     no_rings : (ks : List ℕ) → ((k : ℕ) → has k ks ≡ true → k < length targets) → rings (successor args targets) (length targets) ks ≡ []

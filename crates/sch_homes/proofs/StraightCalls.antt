@@ -1,8 +1,8 @@
--- Of a call of which no argument uses the target of another one the moves of a shuffle are those from each argument to its target.
-use Rattle.std.proofs.Common.{◌≡◌, ◌≢◌, ℕ, zero, suc, ◌+◌, ◌-◌, ◌<◌, ◌≤◌, Bool, true, false, List, [], ◌∷◌, length, map, take, refl, ap, sym, ◌∙◌, arith, inl, inr, ◌⊎◌}
+-- Of a call of which no argument uses the target of an earlier one the moves of a shuffle are those from each argument to its target.
+use Rattle.std.proofs.Common.{◌≡◌, ℕ, zero, suc, ◌+◌, ◌-◌, ◌<◌, ◌≤◌, Bool, true, false, List, [], ◌∷◌, length, map, take, refl, ap, sym, ◌∙◌, arith}
 use Rattle.std.specs.Prelude.{not, ◌||◌}
 use Rattle.std.specs.List.{list_all, list_any}
-use Rattle.std.proofs.lemmas.Bool.{cases_Bool, ne_eqb}
+use Rattle.std.proofs.lemmas.Bool.{not-true}
 use Rattle.sch_word.specs.declared.place.Place.{Place}
 use Rattle.sch_word.specs.trees.Bindings.{numbers}
 use Rattle.sch_control.specs.declared.operation.Application.{Application}
@@ -19,7 +19,7 @@ use Rattle.sch_shuffle.specs.Tree.{Tree, trees, uses, uses_one}
 use Rattle.sch_shuffle.proofs.WaitingArguments.{numbers_next}
 use Rattle.sch_homes.specs.CallMoves.{aside_end, argument_of, atom_tree, call_arguments, call_end, call_free, call_moves, call_targets, first_temporary, move_of, next_frame, operand_tree}
 use Rattle.sch_homes.specs.ListedMoves.{first_moves, listed_call, straight_call}
-use Rattle.sch_homes.specs.StraightCalls.{are_apart, keeps_off, straight_move, straight_moves, uses_other}
+use Rattle.sch_homes.specs.StraightCalls.{are_in_order, keeps_off_earlier, straight_move, straight_moves}
 use Rattle.sch_homes.proofs.CallLists.{trees_length}
 use Rattle.sch_homes.proofs.CallSpare as spare
 use Rattle.sch_homes.proofs.Numbered.{map_at}
@@ -48,14 +48,14 @@ pub one_of_atoms : (lives : ℕ → Place) (p : Place) (atoms : List (Atom ℕ))
 one_of_atoms lives p [] = refl
 one_of_atoms lives p (a ∷ atoms) = ap (λ t. uses (atom_tree (atom_at lives a)) p || t) (one_of_atoms lives p atoms)
 
--- what uses nothing keeps off the targets of others
+-- what uses nothing keeps off all targets
 pub nothing_used : (ks : List ℕ) → true ≡ list_all (λ k. true) ks
 nothing_used [] = refl
 nothing_used (k ∷ ks) = nothing_used ks
 
 -- ## The moves
 
-module _ (lives : ℕ → Place) (tail : Bool) (a : Application ℕ) (apart : are_apart lives tail a ≡ true) where
+module _ (lives : ℕ → Place) (tail : Bool) (a : Application ℕ) (ordered : are_in_order lives tail a ≡ true) where
   abbrev n : ℕ
   n = suc (length a.operands)
 
@@ -65,23 +65,17 @@ module _ (lives : ℕ → Place) (tail : Bool) (a : Application ℕ) (apart : ar
   abbrev to : List Place
   to = call_targets tail a
 
-  unused : (x : Tree) (j k : ℕ) → j ≢ k → not (uses_other tail j x k) ≡ true → uses x (target tail next_frame k) ≡ false
-  unused x j k other h = by (cases_Bool (uses x (target tail next_frame k))) where
-    by : (uses x (target tail next_frame k) ≡ true) ⊎ (uses x (target tail next_frame k) ≡ false) → uses x (target tail next_frame k) ≡ false
-    by (inr no_) = no_
-    by (inl yes_) = let differ = ne_eqb j k other in absurd (let both : false ≡ true = rw (yes_, differ) at h in cc)
-
   -- what a shuffle is told of an argument, by its number
   abbrev told : ℕ → Tree
   told j = operand_tree (argument_of (arguments_at lives a) j)
 
-  targets_off : (j k : ℕ) → j < length args → k < length args → j ≢ k → uses_target args to j k ≡ false
-  targets_off j k jl kl other =
+  targets_off : (j k : ℕ) → k < j → j < length args → uses_target args to j k ≡ false
+  targets_off j k earlier within =
       let long = trees_length lives a in
-      let own : keeps_off tail n j (told j) ≡ true = each_number (λ i. keeps_off tail n i (told i)) 0 n j apart (omega arith) (omega (arith, jl, long)) in
-      let free : not (uses_other tail j (told j) k) ≡ true = each_number (λ i. not (uses_other tail j (told j) i)) 0 n k own (omega arith) (omega (arith, kl, long)) in
+      let off : keeps_off_earlier tail j (told j) ≡ true = each_number (λ i. keeps_off_earlier tail i (told i)) 0 n j ordered (omega arith) (omega (arith, within, long)) in
+      let free : not (uses (told j) (target tail next_frame k)) ≡ true = each_number (λ i. not (uses (told j) (target tail next_frame i))) 0 j k off (omega arith) (omega (arith, earlier)) in
       ap (λ x. uses x (place_at to k)) (tree_at (arguments_at lives a) j)
-      ∙ (ap (uses (told j)) (map_at (target tail next_frame) n k (omega (arith, kl, long))) ∙ unused (told j) j k other free)
+      ∙ (ap (uses (told j)) (map_at (target tail next_frame) n k (omega (arith, earlier, within, long))) ∙ not-true (uses (told j) (target tail next_frame k)) free)
 
   abbrev move_to : ℕ → Place → Move
   move_to k p = record { argument = k; from = argument_of (arguments_at lives a) k; to = p; temp = false }

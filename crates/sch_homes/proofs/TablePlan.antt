@@ -13,7 +13,7 @@ use Rattle.sch_control.specs.Tree.{Expression}
 use Rattle.sch_layout.specs.BodyLayout.{Plan}
 use Rattle.sch_frames.specs.Valid.{max_words}
 use Rattle.sch_homes.specs.CallMoves.{call_moves, next_frame}
-use Rattle.sch_homes.specs.Homes.{calls_end, count_below, first_home, has_home, home, homes_end, homes_plan, homes_words, in_register, is_saved, late_slots, slots_end}
+use Rattle.sch_homes.specs.Homes.{calls_end, count_below, first_home, has_home, home, homes_end, homes_plan, homes_words, is_saved, late_slots, slots_end, has_register}
 use Rattle.sch_homes.specs.HomeTable.{home_of, home_slots, place_in, table_plan}
 
 -- ## Lists that grow at the end
@@ -68,7 +68,7 @@ module _ (entry : Option Entry) (e : Expression) (places : List Place) where
   home_is : (x : ℕ) → home_of x (slice_get (home_slots (first_home entry e places) (has_home entry e places) (length places)) x) ≡ home entry e places x
   home_is x =
       home_read (first_home entry e places) (has_home entry e places) (length places) x
-      (λ past. ap (λ o. in_register o && is_saved e x) (slice_get_past places x past))
+      (λ past. ap (λ o. has_register o && is_saved e x) (slice_get_past places x past))
 
   pub table_is : (end : ℕ) (homes : List (Option ℕ)) → end ≡ homes_end entry e places → homes ≡ home_slots (first_home entry e places) (has_home entry e places) (length places)
       → table_plan end places homes ≡ homes_plan entry e places
@@ -79,26 +79,26 @@ module _ (entry : Option Entry) (e : Expression) (places : List Place) where
 
   -- where a set that was empty has gained what is saved, a test of the set is the test for a home
   pub homes_by : (saved old : ℕ → Bool) → ((x : ℕ) → saved x ≡ (is_saved e x || old x)) → ((x : ℕ) → old x ≡ false)
-      → (λ x. in_register (slice_get places x) && saved x) ≡ has_home entry e places
-  homes_by saved old h none = fun_ext (λ x. ap (λ b. in_register (slice_get places x) && b) (h x ∙ ap (λ b. is_saved e x || b) (none x) ∙ or_right_false (is_saved e x)))
+      → (λ x. has_register (slice_get places x) && saved x) ≡ has_home entry e places
+  homes_by saved old h none = fun_ext (λ x. ap (λ b. has_register (slice_get places x) && b) (h x ∙ ap (λ b. is_saved e x || b) (none x) ∙ or_right_false (is_saved e x)))
 
   -- with homes from behind the slots on, the table and the size of the frame are those of the body
   pub room_is : (late first end words : ℕ) (read : List Place) (saved : ℕ → Bool) (homes : List (Option ℕ))
       → read ≡ places → late ≡ late_slots entry → first ≡ slots_end late read
-      → (λ x. in_register (slice_get places x) && saved x) ≡ has_home entry e places
-      → homes ≡ home_slots first (λ x. in_register (slice_get read x) && saved x) (length read)
-      → end ≡ first + count_below (λ x. in_register (slice_get read x) && saved x) (length read)
+      → (λ x. has_register (slice_get places x) && saved x) ≡ has_home entry e places
+      → homes ≡ home_slots first (λ x. has_register (slice_get read x) && saved x) (length read)
+      → end ≡ first + count_below (λ x. has_register (slice_get read x) && saved x) (length read)
       → words ≡ calls_end end (place_in read) e
       → (homes ≡ home_slots (first_home entry e places) (has_home entry e places) (length places)) × ((end ≡ homes_end entry e places) × (words ≡ homes_words entry e places))
   room_is late first end words read saved homes r l f t h n w =
       let begins : first ≡ first_home entry e places = f ∙ (ap (slots_end late) r ∙ ap (λ late. slots_end late places) l) in
       let ends : end ≡ homes_end entry e places =
       n
-      ∙ (ap (λ read. first + count_below (λ x. in_register (slice_get read x) && saved x) (length read)) r
+      ∙ (ap (λ read. first + count_below (λ x. has_register (slice_get read x) && saved x) (length read)) r
       ∙ (ap (λ test. first + count_below test (length places)) t
       ∙ ap (λ first. first + count_below (has_home entry e places) (length places)) begins)) in (
         h
-            ∙ (ap (λ read. home_slots first (λ x. in_register (slice_get read x) && saved x) (length read)) r
+            ∙ (ap (λ read. home_slots first (λ x. has_register (slice_get read x) && saved x) (length read)) r
             ∙ (ap (λ test. home_slots first test (length places)) t
             ∙ ap (λ first. home_slots first (has_home entry e places) (length places)) begins)),
         (ends, w ∙ (ap (λ read. calls_end end (place_in read) e) r ∙ ap (λ end. calls_end end (place_in places) e) ends)),

@@ -1,6 +1,7 @@
 -- The moves of a call: those of a greedy shuffle of its arguments. The operator is argument 0, and operands are the others.
-use Rattle.std.specs.Prelude.{ℕ, suc, ◌+◌, ◌-◌, max, Bool, ◌&&◌, cond, not, List, [], ◌∷◌, length, Option, None, Some, filter, map, slice_get}
+use Rattle.std.specs.Prelude.{ℕ, suc, ◌+◌, ◌-◌, max, Bool, ◌&&◌, cond, not, List, [], ◌∷◌, length, filter, map, slice_get}
 use Rattle.std.specs.List.{list_any, slice_index_or}
+use Rattle.std.specs.Option.{unwrap_or}
 use Rattle.sch_word.specs.declared.constant.Const.TheVariants.{Nil}
 use Rattle.sch_word.specs.declared.place.Place.{Place}
 use Rattle.sch_word.specs.declared.place.Place.TheVariants.{Reg, Slot}
@@ -62,12 +63,8 @@ abbrev pub spare_registers : List Tree → List Place → List Place
 spare_registers args targets = filter (is_spare args targets) (map Reg argument_registers)
 
 -- a temporary by its number: one of these places, or one of the slots from one on
-abbrev pub or_slot : ℕ → Option Place → Place
-or_slot j None = Slot j
-or_slot j (Some p) = p
-
 abbrev pub temporary : List Place → (first number : ℕ) → Place
-temporary places first number = or_slot (first + (number - length places)) (slice_get places number)
+temporary places first number = unwrap_or (slice_get places number) (Slot (first + (number - length places)))
 
 abbrev pub temporaries : List Place → (first count : ℕ) → List Place
 temporaries places first count = map (temporary places first) (numbers 0 count)

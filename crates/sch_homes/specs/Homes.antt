@@ -1,6 +1,7 @@
 -- How a placed body lies in its frame: first the slots in which arguments arrive, then those of variables, then the homes, one
 -- for each variable that lives in a register and is saved, and last those in which calls set arguments aside.
 use Rattle.std.specs.Prelude.{ℕ, zero, suc, ◌+◌, ◌-◌, max, Bool, true, false, ◌||◌, ◌&&◌, cond, List, [], ◌∷◌, length, Option, None, Some, slice_get}
+use Rattle.std.specs.Option.{unwrap_or}
 use Rattle.sch_word.specs.declared.place.Place.{Place}
 use Rattle.sch_word.specs.declared.place.Place.TheVariants.{Reg, Slot}
 use Rattle.sch_word.specs.trees.NumberSets.{has}
@@ -22,8 +23,7 @@ late_slots entry = formals_of entry - length argument_registers
 
 -- where a variable lives; what is no variable of the body lives in no slot of its frame
 abbrev pub lives_in : Option Place → Place
-lives_in None = Slot next_frame
-lives_in (Some p) = p
+lives_in p = unwrap_or p (Slot next_frame)
 
 -- one past the last slot in which a variable lives, and past those of arguments
 abbrev pub slots_end : (late : ℕ) → List Place → ℕ
@@ -45,9 +45,9 @@ is_saved (save saves e) y = has y saves || is_saved e y
 is_saved _ y = false
 
 -- a variable that lives in a register
-abbrev pub in_register : Option Place → Bool
-in_register (Some (Reg r)) = true
-in_register _ = false
+abbrev pub has_register : Option Place → Bool
+has_register (Some (Reg r)) = true
+has_register _ = false
 
 -- how many numbers below this one pass a test
 abbrev pub count_below : (test : ℕ → Bool) → ℕ → ℕ
@@ -80,7 +80,7 @@ module _ (entry : Option Entry) (e : Expression) (places : List Place) where
 
   -- a variable that lives in a register and is saved
   abbrev pub has_home : ℕ → Bool
-  has_home x = in_register (slice_get places x) && is_saved e x
+  has_home x = has_register (slice_get places x) && is_saved e x
 
   -- where homes begin, and where they end
   abbrev pub first_home : ℕ

@@ -23,7 +23,7 @@ listed_call end lives tail a = record {
   cycles = cycles (call_arguments lives a) (call_targets tail a);
 }
 
--- where no argument uses the target of another one
+-- where no argument uses the target of an earlier one
 abbrev pub straight_call : Application ℕ → ListedCall
 straight_call a = record { site = a.site; order = numbers 0 (suc (length a.operands)); cycles = [] }
 

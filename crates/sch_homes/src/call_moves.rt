@@ -13,7 +13,7 @@ ghost use Rattle.sch_homes.specs.HomeTable.{place_in};
 
 use crate::call_arguments::arguments;
 use crate::frame_places::FramePlaces;
-use crate::straight_calls::{are_apart, straight_moves};
+use crate::straight_calls::{are_in_order, straight_moves};
 use crate::temporaries::{first_temporary, spare_registers, targets, temporaries};
 use sch_control::{Application, Atom, Operand};
 use sch_shuffle::{Move as Step, Operand as Argument, make_moves};
@@ -116,7 +116,7 @@ fn shuffled_moves(
 /// The moves of a call, whose arguments are set aside in registers that are spare, and in slots that are not in use. These end
 /// at `end`.
 ///
-/// The time grows with the square of the number of arguments. Where no argument uses the target of another one, nothing is set
+/// The time grows with the square of the number of arguments. Where no argument uses the target of an earlier one, nothing is set
 /// aside and there is nothing to shuffle.
 pub(crate) fn call_moves(
     alloc: Global,
@@ -129,7 +129,7 @@ pub(crate) fn call_moves(
     requires low { end ≤ max_words }
     ensures { IfOk result (λ moves. moves_of moves ≡ calls.call_moves end (place_in lives.now.places.now) tail a.now) }
 {
-    if are_apart(lives, tail, a) {
+    if are_in_order(lives, tail, a) {
         return straight_moves(alloc, lives, tail, a);
     }
     shuffled_moves(alloc, lives, end, tail, a)
@@ -175,7 +175,7 @@ pub(crate) fn call_end(
     ensures { IfOk result (λ n. n ≡ calls.call_end end (place_in lives.now.places.now) tail a.now) }
 {
     let first = first_temporary(end, a.operands.len() as u32);
-    if are_apart(lives, tail, a) {
+    if are_in_order(lives, tail, a) {
         return Ok(first);
     }
     let moves = shuffled_moves(alloc, lives, end, tail, a)?;

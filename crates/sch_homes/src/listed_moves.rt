@@ -10,7 +10,7 @@ ghost use Rattle.sch_homes.specs.ListedMoves as listed;
 
 use crate::call_arguments::arguments;
 use crate::frame_places::FramePlaces;
-use crate::straight_calls::{are_apart, argument_count, straight_order};
+use crate::straight_calls::{are_in_order, argument_count, straight_order};
 use crate::temporaries::targets;
 use sch_control::{Application, Exp, PlacedBody, Restoring};
 use sch_orders::ListedCall;
@@ -41,7 +41,7 @@ fn shuffled_call(
     })
 }
 
-/// What is listed of a call of which no argument uses the target of another one.
+/// What is listed of a call of which no argument uses the target of an earlier one.
 fn straight_call(alloc: Global, a: &Application<u32>) -> Result<ListedCall, Mem>
     requires { length a.now.operands ≤ max_operands }
     ensures { IfOk result (λ c. c ≡ listed.straight_call a.now) }
@@ -66,7 +66,7 @@ fn listed_call(
     ensures { IfOk result (λ c. (end : ℕ)
         → c ≡ listed.listed_call end (place_in lives.now.places.now) tail a.now) }
 {
-    if are_apart(lives, tail, a) {
+    if are_in_order(lives, tail, a) {
         return straight_call(alloc, a);
     }
     shuffled_call(alloc, lives, tail, a)

@@ -4,7 +4,7 @@ ghost use Rattle.std.specs.Prelude.{◌≡◌, ◌≤◌, ◌<◌, ◌*◌, ◌+
 ghost use Rattle.std.specs.FinSet as set;
 ghost use Rattle.sch_control.specs.flow.Regions.{SavesBelow};
 ghost use Rattle.sch_control.specs.flow.RestoredView.{restored};
-ghost use Rattle.sch_homes.specs.Homes.{count_below, in_register, is_saved};
+ghost use Rattle.sch_homes.specs.Homes.{count_below, is_saved, has_register};
 ghost use Rattle.sch_homes.specs.HomeTable.{home_slots};
 
 use sch_control::{Exp, Restoring, with_all};
@@ -71,7 +71,7 @@ impl HomeSlots {
 /// Whether a variable lives in a register and is saved.
 fn wants_home<const N: usize>(saved: &Set<N>, x: u32, p: Place) -> bool
     requires { x < 64 * N }
-    ensures { result ≡ (in_register (Some p) && set.contains saved.now x) }
+    ensures { result ≡ (has_register (Some p) && set.contains saved.now x) }
 {
     match p {
         Place::Reg(_) => saved.contains(x),
@@ -89,9 +89,9 @@ pub(crate) fn give_homes<const N: usize>(
     requires fits { length places.now ≤ 64 * N }
     requires room { first + length places.now < 2 ^ 32 }
     ensures homes { IfOk result (λ r. r.homes
-        ≡ home_slots first (λ x. in_register (slice_get places.now x) && set.contains saved.now x) (length places.now)) }
+        ≡ home_slots first (λ x. has_register (slice_get places.now x) && set.contains saved.now x) (length places.now)) }
     ensures end { IfOk result (λ r. r.end
-        ≡ first + count_below (λ x. in_register (slice_get places.now x) && set.contains saved.now x) (length places.now)) }
+        ≡ first + count_below (λ x. has_register (slice_get places.now x) && set.contains saved.now x) (length places.now)) }
 {
     let mut given = HomeSlots {
         homes: List::new(alloc),

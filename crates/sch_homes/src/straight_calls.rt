@@ -1,4 +1,4 @@
-//! Calls of which no argument uses the target of another one: each argument goes straight to its target.
+//! Calls of which no argument uses the target of an earlier one: each argument goes straight to its target, in their order.
 
 ghost use Rattle.std.specs.Prelude.{◌≡◌, ◌≤◌, length, suc, IfOk};
 ghost use Rattle.std.specs.List.{list_any};
@@ -16,8 +16,7 @@ ghost use Rattle.sch_homes.specs.StraightCalls as straight;
 use crate::call_moves::argument_of;
 use crate::frame_places::{FramePlaces, NEXT_FRAME};
 use sch_control::{Application, Atom, Operand};
-use sch_shuffle::is_same;
-use sch_word::{List, Mem, Place};
+use sch_word::{List, Mem, Place, same_place};
 use sch_writer::{Move, target};
 use std::alloc::Global;
 
@@ -28,7 +27,7 @@ fn atom_uses(lives: &FramePlaces<'_>, a: &Atom<u32>, p: Place) -> bool
     match a {
         Atom::Constant(_) => false,
         Atom::Literal(_) => false,
-        Atom::Variable(x) => is_same(lives.place_of(*x), p),
+        Atom::Variable(x) => same_place(lives.place_of(*x), p),
     }
 }
 
@@ -49,46 +48,34 @@ fn operand_uses(lives: &FramePlaces<'_>, o: &Operand<u32>, p: Place) -> bool
     }
 }
 
-/// Whether an argument with the number `j` uses the target of argument `k`, another one.
-fn uses_other(lives: &FramePlaces<'_>, tail: bool, j: u32, o: &Operand<u32>, k: u32) -> bool
-    requires { k ≤ max_operands }
-    ensures { result ≡ straight.uses_other tail j (operand_tree (operand_at (place_in lives.now.places.now) o.now)) k }
+/// Whether an argument with the number `j` uses the target of no earlier one.
+fn keeps_off_earlier(lives: &FramePlaces<'_>, tail: bool, j: u32, o: &Operand<u32>) -> bool
+    requires { j ≤ suc max_operands }
+    ensures { result ≡ straight.keeps_off_earlier tail j (operand_tree (operand_at (place_in lives.now.places.now) o.now)) }
 {
-    if j == k {
-        return false;
-    }
-    operand_uses(lives, o, target(tail, NEXT_FRAME, k))
-}
-
-/// Whether an argument with the number `j` uses no target but its own, where there are `count`.
-fn keeps_off(lives: &FramePlaces<'_>, tail: bool, count: u32, j: u32, o: &Operand<u32>) -> bool
-    requires { count ≤ suc max_operands }
-    ensures { result ≡ straight.keeps_off tail count j (operand_tree (operand_at (place_in lives.now.places.now) o.now)) }
-{
-    for k in 0..count {
-        if uses_other(lives, tail, j, o, k) {
+    for k in 0..j {
+        if operand_uses(lives, o, target(tail, NEXT_FRAME, k)) {
             return false;
         }
     }
     true
 }
 
-/// Whether an argument of a call, by its number, uses no target but its own.
-fn argument_keeps_off(
+/// Whether an argument of a call, by its number, uses the target of no earlier one.
+fn argument_keeps_off_earlier(
     lives: &FramePlaces<'_>,
     tail: bool,
-    count: u32,
     a: &Application<u32>,
     j: u32,
 ) -> bool
-    requires { count ≤ suc max_operands }
-    ensures { result ≡ straight.keeps_off tail count j (operand_tree (calls.argument_of (arguments_at (place_in lives.now.places.now) a.now) j)) }
+    requires { j ≤ suc max_operands }
+    ensures { result ≡ straight.keeps_off_earlier tail j (operand_tree (calls.argument_of (arguments_at (place_in lives.now.places.now) a.now) j)) }
 {
     if j == 0 {
-        return keeps_off(lives, tail, count, 0, &a.operator);
+        return true;
     }
     match a.operands.get(j as usize - 1) {
-        Some(o) => keeps_off(lives, tail, count, j, o),
+        Some(o) => keeps_off_earlier(lives, tail, j, o),
         None => true,
     }
 }
@@ -101,16 +88,16 @@ pub(crate) fn argument_count(a: &Application<u32>) -> u32
     a.operands.len() as u32 + 1
 }
 
-/// Whether no argument of a call uses the target of another one.
+/// Whether no argument of a call uses the target of an earlier one.
 ///
 /// The time grows with the square of the number of arguments. No memory is taken.
-pub(crate) fn are_apart(lives: &FramePlaces<'_>, tail: bool, a: &Application<u32>) -> bool
+pub(crate) fn are_in_order(lives: &FramePlaces<'_>, tail: bool, a: &Application<u32>) -> bool
     requires { length a.now.operands ≤ max_operands }
-    ensures { result ≡ straight.are_apart (place_in lives.now.places.now) tail a.now }
+    ensures { result ≡ straight.are_in_order (place_in lives.now.places.now) tail a.now }
 {
     let count = argument_count(a);
     for j in 0..count {
-        if !argument_keeps_off(lives, tail, count, a, j) {
+        if !argument_keeps_off_earlier(lives, tail, a, j) {
             return false;
         }
     }
@@ -137,7 +124,7 @@ fn straight_move(
     })
 }
 
-/// The moves of a call of which no argument uses the target of another one.
+/// The moves of a call of which no argument uses the target of an earlier one.
 pub(crate) fn straight_moves(
     alloc: Global,
     lives: &FramePlaces<'_>,

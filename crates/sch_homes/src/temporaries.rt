@@ -9,8 +9,8 @@ ghost use Rattle.sch_shuffle.specs.View.{tree};
 ghost use Rattle.sch_homes.specs.CallMoves as calls;
 
 use crate::frame_places::NEXT_FRAME;
-use sch_shuffle::{Operand, is_same, uses};
-use sch_word::{ARGUMENT_REGISTERS, List, Mem, Place, larger};
+use sch_shuffle::{Operand, uses};
+use sch_word::{ARGUMENT_REGISTERS, List, Mem, Place, larger, same_place};
 use sch_writer::target;
 use std::alloc::Global;
 
@@ -30,7 +30,7 @@ pub(crate) fn targets(alloc: Global, tail: bool, count: u32) -> Result<List<Plac
 fn is_target(targets: &[Place], p: Place) -> bool
     ensures { result ≡ list_any (λ q. same_place q p) targets.now }
 {
-    targets.iter().any(|q| is_same(*q, p))
+    targets.iter().any(|q| same_place(*q, p))
 }
 
 /// Whether some operand uses a place.

@@ -9,7 +9,7 @@ use Rattle.sch_insn.specs.declared.insn.Insn.{Insn}
 use Rattle.sch_insn.specs.declared.insn.Insn.TheVariants.{MovTo, MovFrom, MovNumber, MovWord, StoreByte, LoadByte, Lea, AddTo, OrTo, AndTo, SubTo, XorTo, CmpTo, AddFrom, OrFrom, AndFrom, SubFrom, XorFrom, CmpFrom, AddNumber, OrNumber, AndNumber, SubNumber, XorNumber, CmpNumber, AddNumber8, OrNumber8, AndNumber8, SubNumber8, XorNumber8, CmpNumber8, TestTo, Imul, Neg, Idiv, Cqo, Shl, Shr, Sar, Jump, Jump8, JumpTo, JumpIf, JumpIf8}
 use Rattle.sch_insn.specs.declared.state.Flags.{Flags}
 use Rattle.sch_insn.specs.declared.state.StuckCause.{StuckCause}
-use Rattle.sch_insn.specs.declared.register.TheConstants.{RAX, RCX, RDX, RBX}
+use Rattle.sch_word.specs.declared.registers.TheConstants.{RAX, RCX, RDX, RBX}
 use Rattle.sch_insn.specs.declared.condition.TheConstants.{E, NE, B, AE}
 use Rattle.sch_insn.specs.Machine.{State, unknown_flags, word_at, test_of}
 use Rattle.sch_insn.specs.Step.{Progress, Runs, Exited, Stuck, perform}

@@ -5,7 +5,7 @@ use Rattle.std.specs.Prelude.{pos, negsuc}
 use Rattle.sch_insn.specs.declared.insn.Arg.TheVariants.{Reg, Base, Base8, Base32, Rip}
 use Rattle.sch_insn.specs.declared.insn.Insn.{Insn}
 use Rattle.sch_insn.specs.declared.insn.Insn.TheVariants.{AddFrom, AddNumber, AddNumber8, AddTo, AndFrom, AndNumber, AndNumber8, AndTo, CmpFrom, CmpNumber, CmpNumber8, CmpTo, Cqo, Idiv, Imul, Jump, Jump8, JumpIf, JumpIf8, JumpTo, Lea, LoadByte, MovFrom, MovNumber, MovTo, MovWord, Neg, OrFrom, OrNumber, OrNumber8, OrTo, Sar, Shl, Shr, StoreByte, SubFrom, SubNumber, SubNumber8, SubTo, Syscall, TestTo, XorFrom, XorNumber, XorNumber8, XorTo}
-use Rattle.sch_insn.specs.declared.register.TheConstants.{RAX, RCX, RBX, RSP, RBP, RSI, RDI, R8, R9, R12, R13, R15}
+use Rattle.sch_word.specs.declared.registers.TheConstants.{RAX, RCX, RBX, RSP, RBP, RSI, RDI, R8, R9, R12, R13, R15}
 use Rattle.sch_insn.specs.declared.condition.TheConstants.{O, NO, B, AE, E, NE, BE, A, S, NS, L, GE, LE, G}
 use Rattle.sch_insn.specs.Spelling.{spelling}
 use Rattle.sch_insn.specs.Decode.{operand_of, wide_of, narrow_of, long_of, rexed_of, escaped_of, decode}

@@ -9,7 +9,7 @@ use Rattle.sch_word.specs.declared.answer.Answer.TheVariants.{Took, Failed}
 use Rattle.sch_insn.specs.declared.insn.Insn.{Insn}
 use Rattle.sch_insn.specs.declared.insn.Insn.TheVariants.{Syscall}
 use Rattle.sch_insn.specs.declared.state.StuckCause.{StuckCause}
-use Rattle.sch_insn.specs.declared.register.TheConstants.{RAX, RDX, RDI}
+use Rattle.sch_word.specs.declared.registers.TheConstants.{RAX, RDX, RDI}
 use Rattle.sch_insn.specs.Machine.{Core, State, with_place}
 use Rattle.sch_insn.specs.Step.{Progress, Runs, Exited, Stuck, Row, Acts, Calls, row, kernel, write_row, piece_written, answered, moved, done, perform, fetch, fetched, step, go_on, standing, mach}
 use Rattle.sch_insn.specs.Behaves.{Given, start, output_of, exit_of, IsPrefix, Ending, Behaves}

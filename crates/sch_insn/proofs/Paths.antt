@@ -1,7 +1,8 @@
 -- Paths put together: their steps are added, their events follow one another, and the bounded runs are
 -- those along them.
-use Rattle.std.proofs.Common.{◌≡◌, ℕ, zero, suc, ◌+◌, ◌<◌, ◌≤◌, List, [], ◌∷◌, ◌++◌, length, refl, sym, ap, ◌∙◌, subst, arith, append_assoc, append-nil, length-append}
+use Rattle.std.proofs.Common.{◌≡◌, ℕ, zero, suc, ◌+◌, ◌<◌, ◌≤◌, List, [], ◌∷◌, ◌++◌, length, refl, sym, ap, ◌∙◌, subst, arith, append-nil, length-append}
 use Rattle.std.specs.List.{flat_map}
+use Rattle.std.proofs.lemmas.Grind.{flat_map-append}
 use Rattle.sch_insn.specs.Machine.{State}
 use Rattle.sch_insn.specs.Step.{Progress, Runs, Exited, Stuck, step, standing, go_on, mach}
 use Rattle.sch_insn.specs.Path.{Path, passed, Leads, Exits, traced, traced_on}
@@ -74,10 +75,6 @@ exits_mach {s} x = path_mach s x.way x.last x.path 1 ∙ ap (λ p. go_on p (mach
 -- ---- between two states
 
 module _ {E : Type 0} (events_at : ℕ → List E) where
-  flat_append : (xs ys : List ℕ) → flat_map events_at (xs ++ ys) ≡ flat_map events_at xs ++ flat_map events_at ys
-  flat_append [] ys = refl
-  flat_append (x ∷ xs) ys = ap (λ l. events_at x ++ l) (flat_append xs ys) ∙ sym (append_assoc (events_at x) (flat_map events_at xs) (flat_map events_at ys))
-
   -- without a step
   pub leads_here : (s : State) → Leads events_at 0 0 [] s s
   leads_here s = record { way = []; path = refl; at_least = omega arith; at_most = omega arith; events_are = refl }
@@ -96,7 +93,7 @@ module _ {E : Type 0} (events_at : ℕ → List E) where
         at_least = omega (arith, p.at_least, q.at_least, size);
         at_most = omega (arith, p.at_most, q.at_most, size);
         events_are = ap (flat_map events_at) (passed_append s p.way t q.way p.path)
-            ∙ flat_append (passed s p.way) (passed t q.way)
+            ∙ flat_map-append events_at (passed s p.way) (passed t q.way)
             ∙ ap (λ l. l ++ flat_map events_at (passed t q.way)) p.events_are
             ∙ ap (λ l. e ++ l) q.events_are;
       }

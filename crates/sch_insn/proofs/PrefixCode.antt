@@ -1,5 +1,5 @@
 -- Spellings are a prefix code.
-use Rattle.std.proofs.Common.{◌≡◌, ℕ, zero, suc, ◌≤◌, ◌%◌, List, [], ◌∷◌, ◌++◌, length, take, Bool, true, false, cond, ◌==◌, Some, sym, ap, ◌∙◌, arith, length-append, append-nil}
+use Rattle.std.proofs.Common.{◌≡◌, ℕ, zero, suc, ◌≤◌, ◌%◌, List, [], ◌∷◌, ◌++◌, length, take, Bool, true, false, ◌==◌, Some, sym, ap, ◌∙◌, arith, length-append, append-nil}
 use Rattle.sch_word.proofs.facts.Lists.{length_none}
 use Rattle.sch_insn.specs.declared.insn.Arg.{Arg}
 use Rattle.sch_insn.specs.declared.insn.Arg.TheVariants.{Reg, Base, Base8, Base32, Rip}
@@ -7,7 +7,7 @@ use Rattle.sch_insn.specs.declared.insn.Insn.{Insn}
 use Rattle.sch_insn.specs.declared.insn.Insn.TheVariants.{MovTo, MovFrom, MovNumber, MovWord, StoreByte, LoadByte, Lea, AddTo, OrTo, AndTo, SubTo, XorTo, CmpTo, AddFrom, OrFrom, AndFrom, SubFrom, XorFrom, CmpFrom, AddNumber, OrNumber, AndNumber, SubNumber, XorNumber, CmpNumber, AddNumber8, OrNumber8, AndNumber8, SubNumber8, XorNumber8, CmpNumber8, TestTo, Imul, Neg, Idiv, Cqo, Shl, Shr, Sar, Jump, Jump8, JumpTo, JumpIf, JumpIf8, Syscall}
 use Rattle.sch_insn.specs.Spelling.{one_byte, four_bytes, wide, sib, operand, spelling, Spells, AreBytes}
 use Rattle.sch_insn.specs.Decode.{decode}
-use Rattle.sch_insn.proofs.Reading.{decode_spelling}
+use Rattle.sch_insn.proofs.Reading.{decode_spelling, sib_bytes}
 use Rattle.sch_insn.proofs.ReadingsAreSpelled.{Bytes, decode_back}
 
 pub one_spelling : (i : Insn) (xs ys : List ℕ) → Spells i xs → Spells i ys → xs ≡ ys
@@ -38,10 +38,7 @@ no_proper_prefix i j xs rest a b =
     let size : length xs ≡ length (xs ++ rest) = ap (λ p. p.1) pair in
     length_none rest (omega (arith, size, length-append xs rest))
 
-abbrev index_bytes : Bool → List ℕ
-index_bytes t = cond t (36 ∷ []) []
-
-one_or_none : (t : Bool) → length (index_bytes t) ≤ 1
+one_or_none : (t : Bool) → length (sib_bytes t) ≤ 1
 one_or_none true = omega arith
 one_or_none false = omega arith
 

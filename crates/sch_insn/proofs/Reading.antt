@@ -58,7 +58,7 @@ number_of_8_read d rest fits =
     ∙ ap (λ z. Some z) (to_z-of_z w64 d fits)
 
 -- SIB.
-abbrev sib_bytes : Bool → List ℕ
+abbrev pub sib_bytes : Bool → List ℕ
 sib_bytes t = cond t (36 ∷ []) []
 
 abbrev sib_answer : Bool → List ℕ → Option ℕ

@@ -1,5 +1,5 @@
 -- What is read was spelled so: where `decode` answers, the bytes begin with the spelling of its answer.
-use Rattle.std.proofs.Common.{◌≡◌, ℕ, zero, suc, ◌+◌, ◌*◌, ◌/◌, ◌%◌, ◌^◌, ◌<◌, ◌≤◌, List, [], ◌∷◌, ◌++◌, length, take, drop, get_or, Bool, true, false, cond, Option, Some, None, refl, sym, ap, ◌∙◌, subst, arith, length-drop, append-nil, nat_lt, ◌==◌, ◌&&◌, lit<}
+use Rattle.std.proofs.Common.{◌≡◌, ℕ, zero, suc, ◌+◌, ◌*◌, ◌/◌, ◌%◌, ◌^◌, ◌<◌, ◌≤◌, List, [], ◌∷◌, ◌++◌, length, take, drop, get_or, Bool, true, false, cond, Option, Some, None, refl, sym, ap, ◌∙◌, subst, arith, length-drop, append-nil, nat_lt, ◌==◌, ◌&&◌, lit<, take-add}
 use Rattle.std.specs.Prelude.{ℤ, not}
 use Rattle.std.specs.Int.{w8, w32, w64, cast_signed, to_le_bytes, from_le_bytes}
 use Rattle.std.specs.Int.RustNames.{FitsSigned}
@@ -17,7 +17,7 @@ use Rattle.sch_insn.specs.declared.insn.Insn.TheVariants.{MovTo, MovFrom, MovNum
 use Rattle.sch_insn.specs.Spelling.{one_byte, four_bytes, eight_bytes, high_bit, rex, wide, modrm, sib, operand, IsArg, in_memory, spelling, IsCondition, IsValid}
 use Rattle.sch_insn.specs.Decode.{number_of_1, number_of_4, number_of_8, sib_size, arg_of, operand_of, with_count, wide_of, narrow_of, long_of, full_of, rexed_of, is_jump_if, escaped_of, decode}
 use Rattle.sch_word.specs.values.Options.{when_some}
-use Rattle.sch_insn.proofs.Lists.{take_1, take_2, take_3, drop_1, take-add}
+use Rattle.sch_insn.proofs.Lists.{take_1, take_2, take_3, drop_1}
 use Rattle.sch_insn.proofs.OnAnswer.{OnAnswer, nothing, gives, branch, sequence}
 
 -- ---- numbers

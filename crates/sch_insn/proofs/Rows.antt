@@ -8,7 +8,7 @@ use Rattle.sch_insn.specs.declared.insn.Insn.{Insn}
 use Rattle.sch_insn.specs.declared.insn.Insn.TheVariants.{Shl, Shr, Sar}
 use Rattle.sch_insn.specs.declared.state.StuckCause.{StuckCause}
 use Rattle.sch_insn.specs.declared.state.StuckCause.TheVariants.{Fetch, Access, Flag, Divide, Kernel}
-use Rattle.sch_insn.specs.declared.register.TheConstants.{RAX, RDX}
+use Rattle.sch_word.specs.declared.registers.TheConstants.{RAX, RDX}
 use Rattle.sch_insn.specs.declared.condition.TheConstants.{O, NO, B, AE, E, NE, BE, A, S, NS, L, GE, LE, G}
 use Rattle.sch_insn.specs.Decode.{operand_of, wide_of, narrow_of, long_of, rexed_of, escaped_of}
 use Rattle.sch_insn.specs.Machine.{Core, State, Computed, sum_of, difference_of, bits_of, product_of, shifted, shift_right_signed, unknown_flags, test_of, condition}

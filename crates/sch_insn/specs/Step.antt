@@ -13,13 +13,14 @@ use Rattle.sch_insn.specs.declared.insn.Insn.TheVariants.{AddFrom, OrFrom, AndFr
 use Rattle.sch_insn.specs.declared.insn.Insn.TheVariants.{XorNumber, CmpNumber, AddNumber8, OrNumber8, AndNumber8, SubNumber8, XorNumber8, CmpNumber8}
 use Rattle.sch_insn.specs.declared.insn.Insn.TheVariants.{TestTo, Imul, Neg, Idiv, Cqo, Shl, Shr, Sar, Jump, Jump8, JumpTo, JumpIf, JumpIf8, Syscall}
 use Rattle.sch_insn.specs.declared.state.StuckCause.{StuckCause}
-use Rattle.sch_insn.specs.declared.register.TheConstants.{RAX, RCX, RDX, RSI, RDI, R11}
+use Rattle.sch_word.specs.declared.registers.TheConstants.{RAX, RCX, RDX, RSI, RDI, R11}
 use Rattle.sch_insn.specs.declared.state.StuckCause.TheVariants.{Fetch, Flag, Divide, Kernel}
 use Rattle.sch_insn.specs.Decode.{decode}
 use Rattle.sch_word.specs.values.Options.{when_some, first_or_0}
 use Rattle.sch_insn.specs.Machine.{Core, State, Computed, when_ok, with_register, with_flags, with_place, word, add64, is_negative, magnitude, differ, signed}
 use Rattle.sch_insn.specs.Machine.{bytes_from, byte_at, write_bytes, address_of, load, store, unknown_flags, sum_of, difference_of, bits_of, product_of}
 use Rattle.sch_insn.specs.Machine.{shifted, shift_right_signed, condition, set_register}
+use Rattle.sch_insn.specs.declared.system_call.TheConstants.{SYS_EXIT, SYS_WRITE, STDOUT}
 
 -- What a machine has come to: it runs on; it has exited with a status, from a state that stays as it was;
 -- or it is stuck in a state that has no row.
@@ -106,11 +107,11 @@ abbrev pub write_row : State → ℕ → ℕ → Progress
 write_row s next zero = Runs (after_write s next 0 [] s.answers)
 write_row s next (suc n) = piece_written s next (suc n) (bytes_from (λ g. g.readable) s.core.segments (s.core.registers RSI) (suc n))
 
--- rax 60 exits with the low byte of rdi; rax 1 with rdi 1 writes; nothing else has a row.
+-- An exit has the low byte of RDI as its status, and what goes to the standard output is written; nothing else has a row.
 abbrev pub kernel : State → ℕ → Progress
 kernel s next =
-    cond (s.core.registers RAX == 60) (Exited (s.core.registers RDI % 256) s)
-    (cond ((s.core.registers RAX == 1) && (s.core.registers RDI == 1)) (write_row s next (s.core.registers RDX))
+    cond (s.core.registers RAX == SYS_EXIT) (Exited (s.core.registers RDI % 256) s)
+    (cond ((s.core.registers RAX == SYS_WRITE) && (s.core.registers RDI == STDOUT)) (write_row s next (s.core.registers RDX))
     (Stuck (Kernel (s.core.registers RAX)) s))
 
 -- ---- the table

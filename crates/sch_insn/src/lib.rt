@@ -5,8 +5,8 @@
 pub mod condition;
 mod insn;
 mod laws;
-pub mod register;
 mod state;
+pub mod system_call;
 
 pub use insn::{Arg, Insn};
 pub use laws::{reading_inverts_spelling, spellings_are_a_prefix_code, traces_are_of_runs};

@@ -1,8 +1,7 @@
 -- A put, write by write.
 use Rattle.std.proofs.Common.{◌≡◌, ℕ, zero, suc, ◌+◌, ◌<◌, List, [], ◌∷◌, ◌++◌, length, refl, ap, arith, sym, ◌∙◌, subst, Bool, true, false, take, drop, append_assoc, take-append-drop, take-add, Some, None}
 use Rattle.std.specs.Prelude.{Option, min, IsTrue}
-use Rattle.std.proofs.lemmas.Grind.{common_steps}
-use Rattle.std.proofs.lemmas.List.{append-nil}
+use Rattle.std.proofs.lemmas.List.{append-nil, take_min, drop_min}
 use Rattle.std.proofs.Math.Seq.{take-length, drop-length}
 use Rattle.sch_word.specs.values.Put.{Put, put, after}
 use Rattle.sch_word.specs.declared.answer.Answer.{Answer}
@@ -37,12 +36,6 @@ bytes_then a b c front more p q =
 after-after : (a b : List ℕ) (p : Put) → after a (after b p) ≡ after (a ++ b) p
 after-after a b p = rw (append_assoc a b p.taken) refl
 
-take_least : (j : ℕ) (xs : List ℕ) → take (min j (length xs)) xs ≡ take j xs
-take_least j xs = grind (arith, common_steps)
-
-drop_least : (j : ℕ) (xs : List ℕ) → drop (min j (length xs)) xs ≡ drop j xs
-drop_least j xs = grind (arith, common_steps)
-
 -- a write that takes something, whatever comes after it
 took : (rest : List ℕ) (k : ℕ) (more : List Answer) → 0 < length rest → 0 < k →
     put rest (Took k ∷ more) ≡ after (take k rest) (put (drop k rest) more)
@@ -62,7 +55,7 @@ next (b ∷ bs) k (Took zero ∷ before) after' some positive h =
     let e : k ≡ min 0 (length (b ∷ bs)) = cc in absurd (omega arith)
 next (b ∷ bs) k (Took (suc j) ∷ before) after' some positive h =
     let e : k ≡ min (suc j) (length (b ∷ bs)) = cc in
-    rw (h.1, e, take_least (suc j) (b ∷ bs), drop_least (suc j) (b ∷ bs)) refl
+    rw (h.1, e, take_min (suc j) (b ∷ bs), drop_min (suc j) (b ∷ bs)) refl
 
 -- a write that ends the put
 refused : (rest : List ℕ) (a : Answer) (before after' : List Answer) → 0 < length rest → IsRefusal a (length rest) → AnswersNext (length rest) a before after' →

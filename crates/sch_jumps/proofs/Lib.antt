@@ -2,6 +2,7 @@ pub mod Monotone
 pub mod Growth
 pub mod Least
 pub mod Pressing
+pub mod FirstsAndLasts
 pub mod Searching
 pub mod Building
 pub mod Lists

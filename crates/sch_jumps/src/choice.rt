@@ -8,8 +8,9 @@ ghost use Rattle.sch_jumps.specs.Spans.{LabelsBelow, set_of, table, table', the_
 
 use crate::layout::place_labels;
 use crate::piece::Piece;
-use crate::search::settle;
+use crate::search::{SpanTables, settle};
 use crate::spans::{Spans, enter_labels, label_bound, spans_of};
+use crate::windows::{firsts, lasts};
 use sch_word::Mem;
 use std::alloc::Global;
 
@@ -65,8 +66,16 @@ pub fn long_jumps(alloc: Global, pieces: &[Piece]) -> Result<Vec<bool>, Mem>
         mut rooms,
         mut longs,
     } = spans(alloc, pieces)?;
+    let firsts = firsts(alloc, &highs, &longs)?;
+    let lasts = lasts(alloc, &lows, &longs)?;
     let mut done = none_done(alloc, longs.len())?;
-    settle(&lows, &highs, &growths, &mut rooms, &mut longs, &mut done);
+    let tables = SpanTables {
+        lows: &lows,
+        highs: &highs,
+        firsts: &firsts,
+        lasts: &lasts,
+    };
+    settle(tables, &growths, &mut rooms, &mut longs, &mut done);
     Ok(longs)
 }
 
@@ -82,8 +91,8 @@ fn spans(alloc: Global, pieces: &[Piece]) -> Result<Spans, Mem>
     let bound = label_bound(pieces);
     let mut befores = no_jumps(alloc, bound)?;
     let mut places = no_bytes(alloc, bound)?;
-    enter_labels(pieces, &mut befores, &mut places);
-    spans_of(alloc, pieces, &befores, &places)
+    let jumps = enter_labels(pieces, &mut befores, &mut places);
+    spans_of(alloc, pieces, jumps, &befores, &places)
 }
 
 fn no_jumps(alloc: Global, count: usize) -> Result<Vec<usize>, Mem>

@@ -6,6 +6,7 @@ mod layout;
 mod piece;
 mod search;
 mod spans;
+mod windows;
 
 pub use choice::{Forms, choose, long_jumps};
 pub use piece::Piece;

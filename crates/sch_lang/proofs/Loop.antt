@@ -14,6 +14,7 @@ use Rattle.sch_word.specs.runs.Orders.{Orders, order_at, in_text_order}
 use Rattle.sch_lang.specs.Tree.{literal, local, global, branch}
 use Rattle.sch_lang.specs.Meaning.{Closure, evaluate, enter}
 use Rattle.sch_word.specs.runs.WorkedRuns.{ends}
+use Rattle.sch_word.proofs.facts.Lists.{get_seam}
 use Rattle.sch_lang.specs.Examples.{number, two, put, apply, plain_run, goes_on, loop_of}
 use Rattle.sch_lang.specs.Run.{outcome}
 use Rattle.sch_lang.specs.Valid.{is_valid}
@@ -48,10 +49,6 @@ looping cells output left = record {
 
 -- ## One round
 
-last_cell : (cells : List (Option Value)) (v : Value) → slice_get (cells ++ (Some v ∷ [])) (length cells) ≡ Some (Some v)
-last_cell [] v = refl
-last_cell (x ∷ cells) v = last_cell cells v
-
 never_zero : (k : ℕ) → (int_le (pos (suc k)) (pos 0) && int_le (pos 0) (pos (suc k))) ≡ false
 never_zero k = ap (λ b. b && leb 0 (suc k)) (false_from_ne_true (leb (suc k) 0) (λ e. omega (arith, leb-true (suc k) 0 e)))
 
@@ -84,12 +81,12 @@ record Finished (left : ℕ) (o : Outcome (State Closure) Value) : Type 0 where
 
 rounds : (k more : ℕ) (cells : List (Option Value)) → is_fixnum (pos k) ≡ true
     → Finished more (enter orders (suc (more_than k more)) loop (fixnum (pos k) ∷ []) 0 (looping cells [] (suc (more_than k more))))
-rounds zero more cells fits = record { cells = _; is = last_round more (length cells) (cells ++ (Some (fixnum (pos 0)) ∷ [])) more (last_cell cells (fixnum (pos 0))) }
+rounds zero more cells fits = record { cells = _; is = last_round more (length cells) (cells ++ (Some (fixnum (pos 0)) ∷ [])) more (get_seam cells [] (Some (fixnum (pos 0)))) }
 rounds (suc k) more cells fits =
     let fewer : is_fixnum (pos k) ≡ true = lesser_fixnum k (suc k) (omega arith) fits in
     let longer : List (Option Value) = cells ++ (Some (fixnum (pos (suc k))) ∷ []) in
     let rest : Finished more _ = rounds k more longer fewer in
-    record { cells = rest.cells; is = other_round (suc (more_than k more)) (length cells) k longer (more_than k more) (last_cell cells (fixnum (pos (suc k)))) fewer ∙ rest.is }
+    record { cells = rest.cells; is = other_round (suc (more_than k more)) (length cells) k longer (more_than k more) (get_seam cells [] (Some (fixnum (pos (suc k))))) fewer ∙ rest.is }
 
 -- the definition is charged and the last form enters the loop
 begun : (n entries : ℕ)
@@ -118,12 +115,12 @@ spent_rounds : (e k : ℕ) (cells : List (Option Value)) → e ≤ k → is_fixn
 spent_rounds zero k cells few fits = record { cells = cells; is = refl }
 spent_rounds (suc e) zero cells few fits = absurd (omega (arith, few))
 spent_rounds (suc zero) (suc k) cells few fits =
-    record { cells = _; is = spent_round zero (length cells) k (cells ++ (Some (fixnum (pos (suc k))) ∷ [])) (last_cell cells (fixnum (pos (suc k)))) (lesser_fixnum k (suc k) (omega arith) fits) }
+    record { cells = _; is = spent_round zero (length cells) k (cells ++ (Some (fixnum (pos (suc k))) ∷ [])) (get_seam cells [] (Some (fixnum (pos (suc k))))) (lesser_fixnum k (suc k) (omega arith) fits) }
 spent_rounds (suc (suc e)) (suc k) cells few fits =
     let fewer : is_fixnum (pos k) ≡ true = lesser_fixnum k (suc k) (omega arith) fits in
     let longer : List (Option Value) = cells ++ (Some (fixnum (pos (suc k))) ∷ []) in
     let rest : Spent _ = spent_rounds (suc e) k longer (omega (arith, few)) fewer in
-    record { cells = rest.cells; is = other_round (suc e) (length cells) k longer e (last_cell cells (fixnum (pos (suc k)))) fewer ∙ rest.is }
+    record { cells = rest.cells; is = other_round (suc e) (length cells) k longer e (get_seam cells [] (Some (fixnum (pos (suc k))))) fewer ∙ rest.is }
 
 loop_goes_on : (n entries : ℕ) → entries ≤ n → is_fixnum (pos n) ≡ true → plain_run (loop_of n) 1 entries ≡ goes_on [] entries 16
 loop_goes_on n zero few fits = refl

@@ -5,6 +5,7 @@ use Rattle.std.specs.List.{list_all, count_by, fold}
 use Rattle.std.proofs.lemmas.Bool.{eqb-true, eqb-false}
 use Rattle.sch_word.specs.runs.Computation.{numbers_from}
 use Rattle.sch_word.proofs.facts.Booleans.{and_of, never_true}
+use Rattle.sch_word.proofs.facts.Lists.{get_seam}
 use Rattle.sch_lang.specs.Tree.{Source}
 use Rattle.sch_lang.specs.Measures.{sites_of}
 use Rattle.sch_word.specs.trees.Shape.{is_width}
@@ -45,10 +46,6 @@ all_once k widths n [] g h = refl
 all_once k widths n (width ∷ more) g h =
     and_of _ _ (ap (λ c. nat_eq c 1) (counted_once n k widths 0 g (omega (arith, h)))) (all_once k widths (suc n) more (omega arith) (omega (arith, h)))
 
-get_here : (done : List ℕ) (width : ℕ) (widths : List ℕ) → slice_get (done ++ (width ∷ widths)) (length done) ≡ Some width
-get_here [] width widths = refl
-get_here (x ∷ done) width widths = get_here done width widths
-
 width_here : (o : Option ℕ) (width : ℕ) → o ≡ Some width → is_width o width ≡ true
 width_here o width e = ap (λ x. is_width x width) e ∙ eq-eqb width width refl
 
@@ -56,7 +53,7 @@ widths_listed : (done widths all : List ℕ) → all ≡ done ++ widths → list
 widths_listed done [] all e = refl
 widths_listed done (width ∷ widths) all e =
     let longer : length (done ++ (width ∷ [])) ≡ suc (length done) = omega (arith, length-append done (width ∷ [])) in
-    and_of _ _ (width_here (slice_get all (length done)) width (ap (λ l. slice_get l (length done)) e ∙ get_here done width widths))
+    and_of _ _ (width_here (slice_get all (length done)) width (ap (λ l. slice_get l (length done)) e ∙ get_seam done widths width))
     (subst (λ n. list_all (λ at. is_width (slice_get all at.0) at.1) (numbered n widths) ≡ true) longer
     (widths_listed (done ++ (width ∷ [])) widths all (e ∙ sym (append_assoc done (width ∷ []) widths))))
 

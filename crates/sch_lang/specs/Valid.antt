@@ -24,10 +24,13 @@ in_range p =
 
 -- ## Constants
 
--- fixnums are in range, characters are bytes, and so are those of texts and of symbols' names
+-- the constants of nodes: fixnums are in range, and characters are bytes
+abbrev pub trees_in_range : Source → Bool
+trees_in_range p = over_source true (λ a b. a && b) (λ e. constant_in_range (shape e)) p
+
+-- and so are those of literals, texts and symbols' names
 abbrev pub constants_in_range : Source → Bool
-constants_in_range p =
-    over_source true (λ a b. a && b) (λ e. constant_in_range (shape e)) p && statics_in_range p.statics
+constants_in_range p = trees_in_range p && statics_in_range p.statics
 
 -- ## Shape
 

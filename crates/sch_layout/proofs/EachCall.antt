@@ -3,23 +3,12 @@ use Rattle.std.proofs.Common.{◌≡◌, ℕ, ◌≤◌, length, Bool, true, fal
 use Rattle.std.proofs.lemmas.Bool.{and_parts, leb-true}
 use Rattle.sch_word.specs.trees.Shape.{max_operands}
 use Rattle.sch_control.specs.declared.operation.Application.{Application}
+use Rattle.sch_control.specs.EachCall.{EachCall}
 use Rattle.sch_control.specs.AtomsAndSites.{application_atoms}
 use Rattle.sch_control.specs.Tree.{Expression, perform, bind, sequence, branch, fix, call, tail_call, return, end, save}
 use Rattle.sch_control.specs.Valid.{shaped}
 use Rattle.sch_control.specs.flow.Bare.{erased}
 use Rattle.sch_layout.specs.Laws.{AtomsHave, Uses}
-
-abbrev pub EachCall : ((tail : Bool) → Application ℕ → Type 0) → Expression → Type 0
-EachCall P (perform o) = Unit {0}
-EachCall P (bind x a b) = EachCall P a × EachCall P b
-EachCall P (sequence a b) = EachCall P a × EachCall P b
-EachCall P (branch a b c) = EachCall P a × (EachCall P b × EachCall P c)
-EachCall P (fix members e) = EachCall P e
-EachCall P (call a restores) = P false a
-EachCall P (tail_call a) = P true a
-EachCall P (return e) = EachCall P e
-EachCall P (end e) = EachCall P e
-EachCall P (save saves e) = EachCall P e
 
 -- from what its variables have, and from one property another
 pub each_call : (V : ℕ → Type 0) (P Q : (tail : Bool) → Application ℕ → Type 0) → ((tail : Bool) (a : Application ℕ) → AtomsHave V (application_atoms a) → P tail a → Q tail a)

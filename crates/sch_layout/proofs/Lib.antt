@@ -11,7 +11,7 @@ mod MarkExamples
 mod MoveExamples
 pub mod MovesHave
 mod PlacedExamples
-mod SharedExamples
+pub mod SharedExamples
 mod SlotPlan
 mod Tables
 pub mod Targets

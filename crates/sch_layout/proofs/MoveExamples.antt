@@ -10,13 +10,15 @@ use Rattle.sch_word.specs.runs.Store.{Store}
 use Rattle.sch_word.specs.declared.mark.MarkKind.{MarkKind}
 use Rattle.sch_word.specs.declared.mark.MarkKind.TheVariants as mark
 use Rattle.sch_control.specs.declared.operation.Application.{Application}
-use Rattle.sch_control.specs.declared.operation.Atom.TheVariants.{Constant, Variable}
+use Rattle.sch_control.specs.declared.operation.Atom.TheVariants.{Constant}
 use Rattle.sch_control.specs.declared.operation.Operand.{Operand}
 use Rattle.sch_control.specs.declared.operation.Operand.TheVariants as operand
 use Rattle.sch_control.specs.declared.operation.Operation.TheVariants as operation
 use Rattle.sch_control.specs.Meaning.{Callee}
-use Rattle.sch_control.specs.Operations.{Procedure, operand_value}
+use Rattle.sch_control.specs.Operations.{operand_value}
+use Rattle.sch_word.specs.runs.Procedures.{Procedure}
 use Rattle.sch_control.specs.Tree.{tail_call}
+use Rattle.sch_control.proofs.Examples.{held_in}
 use Rattle.sch_frames.specs.declared.instruction.Instruction.{Instruction}
 use Rattle.sch_frames.specs.declared.instruction.Instruction.TheVariants.{Do, Store as Put, Copy, Pass, Return, Mark}
 use Rattle.sch_frames.specs.Does.{world}
@@ -25,12 +27,6 @@ use Rattle.sch_word.specs.values.Places.{same_place}
 use Rattle.sch_layout.specs.BodyLayout.{arguments_at, lay, move_all, target, Plan}
 use Rattle.sch_layout.specs.Moves.{Contents, Move, Shuffled, moved}
 use Rattle.sch_layout.specs.PathMarks.{move_marks}
-
-abbrev variable : ℕ → Operand ℕ
-variable x = operand.Atom (Variable x)
-
-abbrev held_in : Place → Operand Place
-held_in p = operand.Atom (Variable p)
 
 abbrev move : ℕ → Operand Place → Place → Bool → Move
 move argument from to temp = record { argument = argument; from = from; to = to; temp = temp }
@@ -50,7 +46,7 @@ place (suc (suc (suc (suc k)))) = Slot k
 -- ## Two variables change places: the one with the least number is set aside, in a register
 
 abbrev swap : Application ℕ
-swap = record { site = 7; spread = false; operator = variable 1; operands = variable 3 ∷ variable 2 ∷ [] }
+swap = record { site = 7; spread = false; operator = held_in 1; operands = held_in 3 ∷ held_in 2 ∷ [] }
 
 abbrev swap_moves : List Move
 swap_moves =
@@ -85,7 +81,7 @@ abbrev number : Operand ℕ
 number = operand.Atom (Constant (Boolean true))
 
 abbrev eight : Application ℕ
-eight = record { site = 8; spread = false; operator = variable 1; operands = number ∷ number ∷ number ∷ number ∷ number ∷ number ∷ variable 5 ∷ variable 4 ∷ [] }
+eight = record { site = 8; spread = false; operator = held_in 1; operands = number ∷ number ∷ number ∷ number ∷ number ∷ number ∷ held_in 5 ∷ held_in 4 ∷ [] }
 
 abbrev to_register : ℕ → ℕ → Move
 to_register k r = move k (operand.Atom (Constant (Boolean true))) (Reg r) false
@@ -127,7 +123,7 @@ next_frame = refl
 
 -- One argument, which stands in its target already; and a move that sets aside what a slot holds, which no argument is.
 abbrev idle : Application ℕ
-idle = record { site = 9; spread = false; operator = variable 1; operands = variable 2 ∷ [] }
+idle = record { site = 9; spread = false; operator = held_in 1; operands = held_in 2 ∷ [] }
 
 abbrev idle_moves : List Move
 idle_moves = move 1 (held_in (Slot 1)) (Slot 0) true ∷ []

@@ -17,7 +17,8 @@ use Rattle.sch_control.specs.declared.operation.Operand.{Operand}
 use Rattle.sch_control.specs.declared.operation.Operand.TheVariants as operand
 use Rattle.sch_control.specs.declared.operation.Operation.TheVariants as operation
 use Rattle.sch_control.specs.Meaning.{Callee, binds, do_body, no_region}
-use Rattle.sch_control.specs.Operations.{Procedure, operand_value}
+use Rattle.sch_control.specs.Operations.{operand_value}
+use Rattle.sch_word.specs.runs.Procedures.{Procedure}
 use Rattle.sch_control.specs.Run as control_run
 use Rattle.sch_word.specs.trees.NumberSets.{has}
 use Rattle.sch_word.proofs.facts.Booleans.{false_true}

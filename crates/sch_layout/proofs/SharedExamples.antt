@@ -1,7 +1,7 @@
 -- Worked rows: variables that share a place, and formals that stay where they arrive.
 use Rattle.std.proofs.Common.{◌≡◌, ◌≢◌, refl, ap, arith, ℕ, zero, suc, ◌+◌, ◌<◌, ◌≤◌, true, false, List, [], ◌∷◌, Option, Some, None, pos, ◌⊎◌, inl, inr}
 use Rattle.std.specs.Prelude.{cond, nat_eq, slice_get}
-use Rattle.std.proofs.lemmas.Bool.{lt-ltb, ne_eqb}
+use Rattle.std.proofs.lemmas.Bool.{lt-ltb, ne_eqb, true≢false}
 use Rattle.sch_word.proofs.facts.Booleans.{false_true}
 use Rattle.sch_word.specs.declared.constant.Const.TheVariants.{Fixnum}
 use Rattle.sch_word.specs.declared.place.Place.{Place}
@@ -18,7 +18,8 @@ use Rattle.sch_control.specs.declared.operation.Operand.{Operand}
 use Rattle.sch_control.specs.declared.operation.Operation.TheVariants as operation
 use Rattle.sch_control.specs.Meaning.{Callee, Environment, binds, do_body, falls_off, no_region, nothing}
 use Rattle.sch_control.specs.AtomsAndSites.{member_atoms}
-use Rattle.sch_control.specs.Operations.{Procedure, operand_value}
+use Rattle.sch_control.specs.Operations.{operand_value}
+use Rattle.sch_word.specs.runs.Procedures.{Procedure}
 use Rattle.sch_control.specs.Valid.{member_variables}
 use Rattle.sch_word.specs.trees.NumberSets.{has}
 use Rattle.sch_control.specs.Tree.{Expression, perform, bind, fix, call, return, save}
@@ -201,9 +202,7 @@ both_at_once =
     (return (perform (operation.Prim 0 Subtract (held_in 2 ∷ held_in 3 ∷ [])))))
 
 not_placed : Placed sharing both_at_once no_region nothing_later → ⊥
-not_placed p = clash (p.1.1.0 2 (inl refl) (λ e. omega (arith, e))) where
-  clash : true ≡ false → ⊥
-  clash e = absurd (cc)
+not_placed p = true≢false (p.1.1.0 2 (inl refl) (λ e. omega (arith, e)))
 
 clash_rows :
     (body_gives both_at_once ≡ Some (five, mark.Return ∷ []))
@@ -241,9 +240,7 @@ saved_members_placed = (λ x h b l. dead x l.0 h, members_placed) where
 
 -- where one of them is read, the others live elsewhere
 members_apart : Placed together (fix seven (return (perform (operation.Operand (held_in 3))))) no_region nothing_later → ⊥
-members_apart p = clash (p.0.0 3 (inr (inl refl)) (λ e. omega (arith, e))) where
-  clash : true ≡ false → ⊥
-  clash e = absurd (cc)
+members_apart p = true≢false (p.0.0 3 (inr (inl refl)) (λ e. omega (arith, e)))
 
 -- where variables 2 and 3 live in RBX, those that live in slots are spilled
 members_rows :
@@ -295,6 +292,4 @@ crossing_layout : entering crossing two_formals [] ≡ Copy (Reg 3) (Reg 14) ∷
 crossing_layout = refl
 
 crossing_fails : (live : ℕ → Type 0) → live 2 → Arrives crossing live 4 → ⊥
-crossing_fails live l come = clash (come 1 (omega arith) refl 2 (omega arith) l (λ e. omega (arith, e))) where
-  clash : true ≡ false → ⊥
-  clash e = absurd (cc)
+crossing_fails live l come = true≢false (come 1 (omega arith) refl 2 (omega arith) l (λ e. omega (arith, e)))

@@ -21,12 +21,11 @@ use Rattle.sch_control.specs.declared.operation.Application.{Application}
 use Rattle.sch_control.specs.Meaning.{Reading, heads, with_region}
 use Rattle.sch_control.specs.Tree.{Expression, perform, bind, sequence, branch, fix, call, tail_call, return, end, save}
 use Rattle.sch_control.specs.Valid.{member_variables}
-use Rattle.sch_control.specs.flow.Places.{arrival}
+use Rattle.sch_control.specs.flow.Places.{arrival, variable_arrival, argument_register, argument_slot, register_or_slot}
 use Rattle.sch_frames.specs.declared.instruction.Instruction.{Instruction}
 use Rattle.sch_frames.specs.declared.instruction.Instruction.TheVariants.{Do, Store, Copy, Pass, Fix, Call, Tail, Return, End, IfFalse, Jump, Label, Mark}
 use Rattle.sch_layout.specs.Moves.{Move}
-use Rattle.sch_frames.specs.Meaning.{argument_register, argument_slot}
-use Rattle.sch_word.specs.values.Places.{same_place, closure_place, link_place, is_slot}
+use Rattle.sch_word.specs.values.Places.{same_place, closure_place, is_slot}
 
 -- ## Labels
 
@@ -102,15 +101,11 @@ module _ (place : ℕ → Place) where
 
 -- ## Calls
 
-abbrev pub in_either : Option ℕ → ℕ → Place
-in_either (Some r) j = Reg r
-in_either None j = Slot j
-
 -- where argument k of a call is wanted: the operator, and then operands; the slots of the next frame begin at a limit
 abbrev pub target : (tail : Bool) → (limit : ℕ) → ℕ → Place
 target tail limit zero = closure_place
 target true limit (suc k) = arrival k
-target false limit (suc k) = in_either (argument_register k) (limit + argument_slot k)
+target false limit (suc k) = register_or_slot (argument_register k) (limit + argument_slot k)
 
 -- ## Saves and restores
 
@@ -129,12 +124,6 @@ under (Some m) i rest = Mark m ∷ (i ∷ rest)
 
 -- ## Entries
 
--- where each variable stands as a procedure is entered: where to return, its closure, and its arguments
-abbrev pub arrived : ℕ → Place
-arrived zero = link_place
-arrived (suc zero) = closure_place
-arrived (suc (suc k)) = arrival k
-
 module _ (plan : Plan) where
   -- a variable that lives in a slot is stored there under its mark
   abbrev pub spill : ℕ → Option MarkKind
@@ -142,7 +131,7 @@ module _ (plan : Plan) where
 
   -- what stands in its place already is not copied
   abbrev pub brought : ℕ → List Instruction → List Instruction
-  brought x rest = cond (same_place (plan.place x) (arrived x)) rest (under (spill x) (Copy (plan.place x) (arrived x)) rest)
+  brought x rest = cond (same_place (plan.place x) (variable_arrival x)) rest (under (spill x) (Copy (plan.place x) (variable_arrival x)) rest)
 
   -- a number of variables from one on come into their places, one after the other
   abbrev pub arrivals : (from count : ℕ) → List Instruction → List Instruction

@@ -10,7 +10,7 @@ use Rattle.sch_control.specs.declared.operation.Atom.TheVariants.{Constant, Lite
 use Rattle.sch_control.specs.declared.operation.Member.{Member}
 use Rattle.sch_control.specs.AtomsAndSites.{operation_atoms, application_atoms, member_atoms}
 use Rattle.sch_control.specs.Meaning.{Callee, do_body, no_region}
-use Rattle.sch_control.specs.Operations.{Procedure}
+use Rattle.sch_word.specs.runs.Procedures.{Procedure}
 use Rattle.sch_control.specs.Run as control_run
 use Rattle.sch_control.specs.Tree as control
 use Rattle.sch_control.specs.Tree.{Expression, perform, bind, sequence, branch, fix, call, tail_call, return, end, save}
@@ -19,9 +19,9 @@ use Rattle.sch_frames.specs.Does.{EndsAs, CalleesFollow, world}
 use Rattle.sch_frames.specs.Meaning.{beginning, execute_each}
 use Rattle.sch_word.specs.values.Places.{same_place, is_slot}
 use Rattle.sch_frames.specs.Tree as frames
-use Rattle.sch_control.specs.flow.Places.{formals_of}
+use Rattle.sch_control.specs.flow.Places.{formals_of, variable_arrival}
 use Rattle.sch_frames.specs.Ways.{IsWay}
-use Rattle.sch_layout.specs.BodyLayout.{Plan, arrived, entering, lay, unmarked_reading}
+use Rattle.sch_layout.specs.BodyLayout.{Plan, entering, lay, unmarked_reading}
 use Rattle.sch_control.specs.flow.Paths.{Event, IsPath}
 use Rattle.sch_layout.specs.PathMarks.{entry_marks, path_marks}
 use Rattle.sch_layout.specs.SharedPlaces.{Homes, PlacedBody, entered_with}
@@ -94,8 +94,8 @@ WaysArePaths =
 -- What a body is entered with stays where it arrives, or comes from a register if it goes to a slot.
 abbrev pub EntersSlots : Plan → (count : ℕ) → Type 0
 EntersSlots plan count =
-    (x : ℕ) → x < count → same_place (plan.place x) (arrived x) ≡ false
-    → is_slot (plan.place x) ≡ true → is_slot (arrived x) ≡ false
+    (x : ℕ) → x < count → same_place (plan.place x) (variable_arrival x) ≡ false
+    → is_slot (plan.place x) ≡ true → is_slot (variable_arrival x) ≡ false
 
 -- Each write of a slot, and each call, tail call and return, stands directly behind one mark of its kind, and no mark elsewhere.
 abbrev pub LaidMarksStand : Type 0

@@ -9,7 +9,8 @@ use Rattle.sch_control.specs.declared.operation.Operand.{Operand}
 use Rattle.sch_control.specs.declared.operation.Operand.TheVariants as operand
 use Rattle.sch_control.specs.flow.Paths.{Event, Binds, References, Saves, Calls, Tails, Returns, Ends}
 use Rattle.sch_word.specs.values.Places.{same_place, is_slot}
-use Rattle.sch_layout.specs.BodyLayout.{Plan, arrived, spill, move_mark}
+use Rattle.sch_layout.specs.BodyLayout.{Plan, spill, move_mark}
+use Rattle.sch_control.specs.flow.Places.{variable_arrival}
 use Rattle.sch_layout.specs.Moves.{Move}
 
 abbrev pub if_any : Option MarkKind → List MarkKind
@@ -50,7 +51,7 @@ module _ (plan : Plan) where
   abbrev pub arrival_marks : (from count : ℕ) → List MarkKind
   arrival_marks from zero = []
   arrival_marks from (suc count) =
-      cond (same_place (plan.place from) (arrived from)) [] (if_any (spill plan from)) ++ arrival_marks (suc from) count
+      cond (same_place (plan.place from) (variable_arrival from)) [] (if_any (spill plan from)) ++ arrival_marks (suc from) count
 
   abbrev pub entry_marks : Option Entry → List MarkKind
   entry_marks None = []

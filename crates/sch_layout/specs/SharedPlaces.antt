@@ -11,7 +11,8 @@ use Rattle.sch_control.specs.Meaning.{binds, no_region, with_region}
 use Rattle.sch_control.specs.Tree.{Expression, perform, bind, sequence, branch, fix, call, tail_call, return, end, save}
 use Rattle.sch_control.specs.Valid.{member_variables}
 use Rattle.sch_word.specs.values.Places.{same_place, is_slot, link_place}
-use Rattle.sch_layout.specs.BodyLayout.{Plan, arguments_at, arrived, target}
+use Rattle.sch_layout.specs.BodyLayout.{Plan, arguments_at, target}
+use Rattle.sch_control.specs.flow.Places.{variable_arrival}
 use Rattle.sch_layout.specs.Moves.{EachMove, Shuffled, is_own, reads_own}
 use Rattle.sch_control.specs.flow.Apart.{Around, EachHas}
 use Rattle.sch_control.specs.flow.Live.{Mentions, Perhaps, Across, Later, Live, nothing_later}
@@ -89,13 +90,13 @@ module _ (plan : Plan) where
   -- Where a variable stands just before one is brought into its place: it stands there itself if it is before that one,
   -- and else where it arrives.
   abbrev pub place_before : (before : ℕ) → ℕ → Place
-  place_before before x = cond (nat_lt x before) (plan.place x) (arrived x)
+  place_before before x = cond (nat_lt x before) (plan.place x) (variable_arrival x)
 
   -- A variable that is brought into its place comes where no other that is live stands, of those with which a body is
   -- entered. One that stays where it arrives comes nowhere.
   abbrev pub Arrives : (live : ℕ → Type 0) → (count : ℕ) → Type 0
   Arrives live count =
-      (y : ℕ) → y < count → same_place (plan.place y) (arrived y) ≡ false
+      (y : ℕ) → y < count → same_place (plan.place y) (variable_arrival y) ≡ false
       → (x : ℕ) → x < count → live x → x ≢ y → same_place (place_before y x) (plan.place y) ≡ false
 
 -- ## Bodies

@@ -1,6 +1,8 @@
 -- The steps of the walk that numbers drafts, over plain values.
-use Rattle.std.proofs.Common.{◌≡◌, ◌<◌, ◌≤◌, ℕ, zero, suc, ◌+◌, Bool, List, [], ◌∷◌, ◌++◌, length, drop, get_or, map, Option, None, refl, sym, ap, subst, ◌∙◌, add-one, arith, append_assoc, length-append}
+use Rattle.std.proofs.Common.{◌≡◌, ◌<◌, ◌≤◌, ℕ, zero, suc, ◌+◌, Bool, List, [], ◌∷◌, ◌++◌, length, drop, get_or, map, Option, None, refl, sym, ap, subst, ◌∙◌, add-one, arith, append_assoc, length-append, ◌^◌, true}
+use Rattle.std.proofs.lemmas.Bool.{and_from, and_parts, ltb-true}
 use Rattle.std.proofs.lemmas.List.{map-append, length-map}
+use Rattle.std.specs.Prelude.{◌&&◌, nat_lt}
 use Rattle.std.specs.Borrow.{Bor}
 use Rattle.sch_names.specs.ScopeView.{one_name, given_names}
 use Rattle.sch_word.specs.declared.primitive.Primitive.{Primitive}
@@ -15,13 +17,13 @@ use Rattle.sch_lang.proofs.ListViews.{expressions_of_list}
 use Rattle.sch_read.specs.Grammar.{Datum}
 use Rattle.sch_sketch.specs.declared.draft.Draft as code
 use Rattle.sch_names.specs.Scope.{VariableNames}
-use Rattle.sch_sketch.specs.Draft.{Draft, Drafts, branch, bind, letrec, call, operation, count}
+use Rattle.sch_sketch.specs.Draft.{Draft, Drafts, local, set_local, set_global, define, branch, sequence, bind, letrec, lambda, call, operation, and_draft, count}
 use Rattle.sch_sketch.specs.DraftMeasures.{size, size_each}
 use Rattle.sch_sketch.specs.DraftView.{draft_of, drafts_of}
 use Rattle.sch_link_tables.specs.Assigned.{is_group}
-use Rattle.sch_link_tables.specs.Constants.{HasConstants, HaveConstants}
+use Rattle.sch_link_tables.specs.Constants.{draft_in_range, drafts_in_range, HasConstants, HaveConstants}
 use Rattle.sch_link_tables.specs.Quoted.{quotes_in, quotes_in_each}
-use Rattle.sch_link_tables.specs.Room.{HasRoom}
+use Rattle.sch_link_tables.specs.Room.{HasRoom, has_near_variables, have_near_variables}
 use Rattle.sch_link_tables.specs.Sites.{unless_group, widths, widths_of_each}
 use Rattle.sch_link_tables.specs.declared.tables.Output.{Output}
 use Rattle.sch_link_tables.specs.Numbered.{numbered, numbered_each, grouped, first_of, others_of}
@@ -173,14 +175,26 @@ next_literals f es i e s s' r l is h k =
     let k' = rw (next_draft es i e l is) at k in
     rw add-one (then_literals f (quotes_in (draft_of e)) (quotes_in_each (drafts_of (drop (suc i) es))) s h refl ∙ k')
 
+pub branch_constants : {d a b c : Draft} → d ≡ branch a b c → HasConstants a → HasConstants b → HasConstants c → HasConstants d
+branch_constants {a = a} {b} h p q r = subst HasConstants (sym h) (and_from (draft_in_range a) _ p (and_from (draft_in_range b) _ q r))
+
+pub bind_constants : {d e : Draft} {vs : VariableNames} {es : Drafts} → d ≡ bind vs es e → HaveConstants es → HasConstants e → HasConstants d
+bind_constants {es = es} h p q = subst HasConstants (sym h) (and_from (drafts_in_range es) _ p q)
+
+pub letrec_constants : {d e : Draft} {vs : VariableNames} {g : Bool} {es : Drafts} → d ≡ letrec vs g es e → HaveConstants es → HasConstants e → HasConstants d
+letrec_constants {es = es} h p q = subst HasConstants (sym h) (and_from (drafts_in_range es) _ p q)
+
+pub call_constants : {d f : Draft} {vs : VariableNames} {es : Drafts} → d ≡ call vs f es → HasConstants f → HaveConstants es → HasConstants d
+call_constants {f = f} h p q = subst HasConstants (sym h) (and_from (draft_in_range f) _ p q)
+
 pub next_constants : (es : List code.Draft) (i : ℕ) (e : code.Draft) → i < length es → e ≡ get_or es i e → HasConstants (draft_of e) →
     (HaveConstants (drafts_of (drop i es)) → HaveConstants (drafts_of es)) → HaveConstants (drafts_of (drop (i + 1) es)) → HaveConstants (drafts_of es)
 next_constants es i e l is here before rest =
     let rest' : HaveConstants (drafts_of (drop (suc i) es)) = subst (λ k. HaveConstants (drafts_of (drop k es))) (add-one i) rest in
-    before (subst HaveConstants (sym (next_draft es i e l is)) (here, rest'))
+    before (subst HaveConstants (sym (next_draft es i e l is)) (and_from (draft_in_range (draft_of e)) _ here rest'))
 
 pub end_constants : (es : List code.Draft) (i : ℕ) → length es ≤ i → (HaveConstants (drafts_of (drop i es)) → HaveConstants (drafts_of es)) → HaveConstants (drafts_of es)
-end_constants es i l before = before (subst HaveConstants (sym (no_draft es i l)) tt)
+end_constants es i l before = before (subst HaveConstants (sym (no_draft es i l)) refl)
 
 -- ## Room
 
@@ -189,3 +203,56 @@ pub next_room : (es : List code.Draft) (i : ℕ) (e : code.Draft) (out out' : Ou
 next_room es i e out out' here is r s l =
     let n : size_each (drafts_of (drop i es)) ≡ size (draft_of e) + size_each (drafts_of (drop (suc i) es)) = ap size_each (next_draft es i e here is) in
     rw add-one (room_after out out' (size_each (drafts_of (drop (suc i) es))) r (draft_of e) s l (omega (arith, n)))
+
+-- ## Variables
+
+abbrev IsNear : Draft → Type 0
+IsNear d = has_near_variables d ≡ true
+
+abbrev AreNear : Drafts → Type 0
+AreNear es = have_near_variables es ≡ true
+
+module _ {d : Draft} (near : has_near_variables d ≡ true) where
+  pub local_near : {k : ℕ} → d ≡ local k → k < 2 ^ 32
+  local_near {k} h = ltb-true k (2 ^ 32) (subst IsNear h near)
+
+  pub set_local_near : {k : ℕ} {e : Draft} → d ≡ set_local k e → (k < 2 ^ 32) × IsNear e
+  set_local_near {k} {e} h =
+      let p = and_parts (nat_lt k (2 ^ 32)) (has_near_variables e) (subst IsNear h near) in
+      (ltb-true k (2 ^ 32) p.0, p.1)
+
+  pub set_global_near : {x : List ℕ} {e : Draft} → d ≡ set_global x e → IsNear e
+  set_global_near h = subst IsNear h near
+
+  pub define_near : {x : List ℕ} {e : Draft} → d ≡ define x e → IsNear e
+  define_near h = subst IsNear h near
+
+  pub branch_near : {a b c : Draft} → d ≡ branch a b c → IsNear a × IsNear b × IsNear c
+  branch_near {a} {b} {c} h =
+      let p = and_parts (has_near_variables a) (has_near_variables b && has_near_variables c) (subst IsNear h near) in
+      let q = and_parts (has_near_variables b) (has_near_variables c) p.1 in
+      (p.0, q.0, q.1)
+
+  pub sequence_near : {es : Drafts} → d ≡ sequence es → AreNear es
+  sequence_near h = subst IsNear h near
+
+  pub bind_near : {vs : VariableNames} {es : Drafts} {e : Draft} → d ≡ bind vs es e → AreNear es × IsNear e
+  bind_near {es = es} {e} h = and_parts (have_near_variables es) (has_near_variables e) (subst IsNear h near)
+
+  pub letrec_near : {vs : VariableNames} {g : Bool} {es : Drafts} {e : Draft} → d ≡ letrec vs g es e → AreNear es × IsNear e
+  letrec_near {es = es} {e} h = and_parts (have_near_variables es) (has_near_variables e) (subst IsNear h near)
+
+  pub lambda_near : {n : ℕ} {r : Bool} {e : Draft} → d ≡ lambda n r e → IsNear e
+  lambda_near h = subst IsNear h near
+
+  pub call_near : {vs : VariableNames} {f : Draft} {es : Drafts} → d ≡ call vs f es → IsNear f × AreNear es
+  call_near {f = f} {es} h = and_parts (has_near_variables f) (have_near_variables es) (subst IsNear h near)
+
+  pub operation_near : {p : Primitive} {es : Drafts} → d ≡ operation p es → AreNear es
+  operation_near h = subst IsNear h near
+
+pub each_near : {ds : Drafts} {e : Draft} {es : Drafts} → have_near_variables ds ≡ true → ds ≡ and_draft e es → IsNear e × AreNear es
+each_near {e = e} {es} near h = and_parts (has_near_variables e) (have_near_variables es) (subst AreNear h near)
+
+pub next_variables : (es : List code.Draft) (i : ℕ) (e : code.Draft) → i < length es → e ≡ get_or es i e → have_near_variables (drafts_of (drop i es)) ≡ true → have_near_variables (drafts_of (drop (i + 1) es)) ≡ true
+next_variables es i e here is near = rw add-one (each_near near (next_draft es i e here is)).1

@@ -1,6 +1,6 @@
 //! From drafts to expressions: symbols, literals, globals and sites have their numbers.
 
-ghost use Rattle.std.specs.Prelude.{◌≡◌, ◌<◌, ◌^◌, ◌++◌, ◌∷◌, [], length, drop, map, List as Listed, Option, ℕ, IfOk, OnOk};
+ghost use Rattle.std.specs.Prelude.{◌≡◌, ◌<◌, ◌^◌, ◌++◌, ◌∷◌, [], true, length, drop, map, List as Listed, Option, ℕ, IfOk, OnOk};
 ghost use Rattle.sch_word.specs.declared.constant.Const.TheVariants.{Symbol};
 ghost use Rattle.sch_word.specs.values.LiteralView.{literal};
 ghost use Rattle.sch_lang.specs.Tree as tree;
@@ -12,7 +12,7 @@ ghost use Rattle.sch_sketch.specs.DraftMeasures.{size, size_each};
 ghost use Rattle.sch_sketch.specs.DraftView.{draft_of, drafts_of};
 ghost use Rattle.sch_link_tables.specs.Named.{global_of};
 ghost use Rattle.sch_link_tables.specs.Quoted.{quotes_in, quotes_in_each};
-ghost use Rattle.sch_link_tables.specs.Room.{HasRoom};
+ghost use Rattle.sch_link_tables.specs.Room.{HasRoom, has_near_variables, have_near_variables};
 ghost use Rattle.sch_link_tables.specs.Sites.{widths, widths_of_each};
 ghost use Rattle.sch_link_tables.specs.Constants.{HasConstants, HaveConstants};
 ghost use Rattle.sch_link_tables.specs.Numbered.{first_of};
@@ -98,6 +98,7 @@ pub fn number(
 ) -> Result<Exp, Mem>
     requires names { HasFewNames tables.now }
     requires room { HasRoom out.old (size (draft_of e.now)) }
+    requires variables { has_near_variables (draft_of e.now) ≡ true }
     ensures made { IfOk result (λ q. expression q ≡ expression_with tables.now out.old (one_name v.entry) (draft_of e.now)) }
     ensures sites { OnOk result (out.new.sites ≡ out.old.sites ++ widths (draft_of e.now)) }
     ensures literals { OnOk result (map literal out.new.literals ≡ literals_with tables.now out.old (quotes_in (draft_of e.now))) }
@@ -107,11 +108,15 @@ pub fn number(
         Draft::Constant(c) => Ok(constant(*c)),
         Draft::Symbol(x) => Ok(symbol(tables, x)),
         Draft::Literal(d) => new_literal(alloc, tables, d, out),
-        Draft::Local(k) => Ok(Exp::Local(*k)),
+        Draft::Local(k) => {
+            let nearer = *k as u32;
+            Ok(Exp::Local(nearer))
+        }
         Draft::Global(x) => Ok(Exp::Global(global_number(tables, x, out)?)),
         Draft::SetLocal(k, e) => {
+            let nearer = *k as u32;
             let value = number(alloc, tables, None, e, out)?;
-            Ok(Exp::SetLocal(*k, Box::new(alloc, value)?))
+            Ok(Exp::SetLocal(nearer, Box::new(alloc, value)?))
         }
         Draft::SetGlobal(x, e) => {
             let global = global_number(tables, x, out)?;
@@ -153,6 +158,7 @@ fn number_branch(
     requires kind { IsBranch (draft_of e.now) }
     requires names { HasFewNames tables.now }
     requires room { HasRoom out.old (size (draft_of e.now)) }
+    requires variables { has_near_variables (draft_of e.now) ≡ true }
     ensures made { IfOk result (λ q. (v : Option (Listed ℕ)) → expression q ≡ expression_with tables.now out.old v (draft_of e.now)) }
     ensures sites { OnOk result (out.new.sites ≡ out.old.sites ++ widths (draft_of e.now)) }
     ensures literals { OnOk result (map literal out.new.literals ≡ literals_with tables.now out.old (quotes_in (draft_of e.now))) }
@@ -180,6 +186,7 @@ fn number_let(
     requires kind { IsBind (draft_of e.now) }
     requires names { HasFewNames tables.now }
     requires room { HasRoom out.old (size (draft_of e.now)) }
+    requires variables { has_near_variables (draft_of e.now) ≡ true }
     ensures made { IfOk result (λ q. (v : Option (Listed ℕ)) → expression q ≡ expression_with tables.now out.old v (draft_of e.now)) }
     ensures sites { OnOk result (out.new.sites ≡ out.old.sites ++ widths (draft_of e.now)) }
     ensures literals { OnOk result (map literal out.new.literals ≡ literals_with tables.now out.old (quotes_in (draft_of e.now))) }
@@ -207,6 +214,7 @@ fn number_letrec(
     requires kind { IsLetrec (draft_of e.now) }
     requires names { HasFewNames tables.now }
     requires room { HasRoom out.old (size (draft_of e.now)) }
+    requires variables { has_near_variables (draft_of e.now) ≡ true }
     ensures made { IfOk result (λ q. (v : Option (Listed ℕ)) → expression q ≡ expression_with tables.now out.old v (draft_of e.now)) }
     ensures sites { OnOk result (out.new.sites ≡ out.old.sites ++ widths (draft_of e.now)) }
     ensures literals { OnOk result (map literal out.new.literals ≡ literals_with tables.now out.old (quotes_in (draft_of e.now))) }
@@ -235,6 +243,7 @@ fn number_call(
     requires kind { IsCall (draft_of e.now) }
     requires names { HasFewNames tables.now }
     requires room { HasRoom out.old (size (draft_of e.now)) }
+    requires variables { has_near_variables (draft_of e.now) ≡ true }
     ensures made { IfOk result (λ q. (v : Option (Listed ℕ)) → expression q ≡ expression_with tables.now out.old v (draft_of e.now)) }
     ensures sites { OnOk result (out.new.sites ≡ out.old.sites ++ widths (draft_of e.now)) }
     ensures literals { OnOk result (map literal out.new.literals ≡ literals_with tables.now out.old (quotes_in (draft_of e.now))) }
@@ -262,6 +271,7 @@ pub fn number_each(
 ) -> Result<List<Exp>, Mem>
     requires names { HasFewNames tables.now }
     requires room { HasRoom out.old (size_each (drafts_of es.now)) }
+    requires variables { have_near_variables (drafts_of es.now) ≡ true }
     ensures made { IfOk result (λ qs. expressions_of qs ≡ expressions_with tables.now out.old (given_names names.now) (drafts_of es.now)) }
     ensures sites { OnOk result (out.new.sites ≡ out.old.sites ++ widths_of_each (drafts_of es.now)) }
     ensures literals { OnOk result (map literal out.new.literals ≡ literals_with tables.now out.old (quotes_in_each (drafts_of es.now))) }

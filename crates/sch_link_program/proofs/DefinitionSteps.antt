@@ -1,5 +1,6 @@
 -- The steps of the loops over definitions that name and number them, over plain values.
 use Rattle.std.proofs.Common.{◌≡◌, ◌<◌, ◌≤◌, ◌+◌, ℕ, suc, List, [], ◌∷◌, ◌++◌, length, drop, get_or, map, None, refl, sym, ap, subst, ◌∙◌, add-one, append_assoc, arith}
+use Rattle.std.proofs.lemmas.Bool.{and_from}
 use Rattle.std.proofs.lemmas.List.{map-append, drop_all}
 use Rattle.sch_word.specs.values.Literals.{Literal}
 use Rattle.sch_lang.specs.declared.tree.Lambda.{Lambda}
@@ -9,7 +10,7 @@ use Rattle.sch_lang.proofs.ListViews.{lambdas_of_list}
 use Rattle.sch_read.specs.Grammar.{Datum}
 use Rattle.sch_sketch.specs.DraftMeasures.{size}
 use Rattle.sch_sketch.specs.DraftView.{draft_of}
-use Rattle.sch_link_tables.specs.Constants.{HasConstants}
+use Rattle.sch_link_tables.specs.Constants.{draft_in_range, HasConstants}
 use Rattle.sch_link_tables.specs.Named.{firsts, globals_in, symbols_in}
 use Rattle.sch_link_tables.specs.Numbered.{numbered}
 use Rattle.sch_link_tables.specs.Quoted.{quotes_in}
@@ -74,7 +75,7 @@ module _ (ds : List KeptDefinition) (i : ℕ) where
     pub next_bodies : HasConstants (draft_of d.body.now) → (BodiesHaveConstants (kept_definitions (drop i ds)) → BodiesHaveConstants (kept_definitions ds)) → BodiesHaveConstants (kept_definitions (drop (i + 1) ds)) → BodiesHaveConstants (kept_definitions ds)
     next_bodies h before rest =
         let rest' : BodiesHaveConstants (kept_definitions (drop (suc i) ds)) = subst (λ k. BodiesHaveConstants (kept_definitions (drop k ds))) (add-one i) rest in
-        before (subst BodiesHaveConstants (sym next_definition) (h, rest'))
+        before (subst BodiesHaveConstants (sym next_definition) (and_from (draft_in_range (draft_of d.body.now)) _ h rest'))
 
     module _ (globals symbols : List (List ℕ)) where
       pub next_procedures : (all : List Lambda) (q : Lambda) (s l s' l' : ℕ) (r : Lambdas) → (q.name ≡ d.name.now) × (q.formals ≡ d.formals) × (q.rest ≡ d.rest) → expression q.body ≡ numbered [] globals symbols None (draft_of d.body.now) s l →
@@ -90,4 +91,4 @@ module _ (ds : List KeptDefinition) (i : ℕ) where
       lambdas_of_list all ∙ sym (onto_none (map function all)) ∙ k'
 
   pub end_bodies : length ds ≤ i → (BodiesHaveConstants (kept_definitions (drop i ds)) → BodiesHaveConstants (kept_definitions ds)) → BodiesHaveConstants (kept_definitions ds)
-  end_bodies h before = before (subst BodiesHaveConstants (sym (no_definition h)) tt)
+  end_bodies h before = before (subst BodiesHaveConstants (sym (no_definition h)) refl)

@@ -1,5 +1,5 @@
--- What is kept of few definitions are few, and none of them has more formals than those had; and what has numbers in definitions
--- is no more than their nodes.
+-- What is kept of few definitions are few, none of them has more formals than those had, nor variables that are farther; and what
+-- has numbers in definitions is no more than their nodes.
 use Rattle.std.proofs.Common.{◌≡◌, ◌<◌, ◌≤◌, ◌^◌, ℕ, zero, suc, ◌+◌, Bool, true, false, List, [], ◌∷◌, ◌++◌, length, get_or, map, refl, sym, ap, subst, arith, length-append}
 use Rattle.std.proofs.lemmas.Bool.{leb-true, and_parts, and_from}
 use Rattle.std.proofs.lemmas.List.{length-map}
@@ -10,18 +10,17 @@ use Rattle.sch_word.specs.values.LiteralView.{literal}
 use Rattle.sch_read.specs.Grammar.{Datum}
 use Rattle.sch_sketch.specs.Draft.{Drafts}
 use Rattle.sch_sketch.specs.DraftMeasures.{size_each}
-use Rattle.sch_link_tables.specs.Named.{firsts, library_global, globals_in, globals_in_each, symbols_in, symbols_in_each}
-use Rattle.sch_link_tables.specs.Programs.{Definition, kept, with_definition, globals_of_each, symbols_of_each, quotes_of_each, widths_of_definitions}
-use Rattle.sch_link_tables.specs.Quoted.{quotes_in}
-use Rattle.sch_link_tables.specs.Room.{HasRoom}
-use Rattle.sch_link_tables.specs.Sites.{widths}
+use Rattle.sch_link_tables.specs.Named.{firsts, library_global, globals_in_each, symbols_in, symbols_in_each}
+use Rattle.sch_link_tables.specs.Programs.{Definition, kept, with_definition, globals_of_each, symbols_of_each, quotes_of_each, widths_of_definitions, procedures_of_each}
+use Rattle.sch_link_tables.specs.Room.{HasRoom, has_near_variables}
+use Rattle.sch_sketch.specs.DraftView.{draft_of}
 use Rattle.sch_link_tables.specs.declared.tables.Output.{Output}
-use Rattle.sch_link_tables.proofs.FewNumbers.{firsts_length, few_globals, few_globals_of_each, few_quotes, few_widths}
+use Rattle.sch_link_tables.proofs.FewNumbers.{firsts_length, few_globals_of_each, few_quotes_of_each, few_widths_of_each}
 use Rattle.sch_link_drafts.proofs.NumberSteps.{sites_more, literals_more}
 use Rattle.sch_link_program.specs.declared.definition.Definition as code
 use Rattle.sch_link_program.specs.declared.definition.KeptDefinition.{KeptDefinition}
 use Rattle.sch_link_program.specs.Definitions.{definition_of, definitions_of, kept_of, kept_definitions}
-use Rattle.sch_link_program.specs.Size.{size_of_definitions, have_few_formals}
+use Rattle.sch_link_program.specs.Size.{size_of_definitions, have_few_formals, have_near_bodies}
 use Rattle.sch_link_program.proofs.ProgramSize.{kept_size}
 
 -- ## How many
@@ -61,20 +60,30 @@ formals_at [] i d l e h = absurd (omega (arith, l))
 formals_at (x ∷ ds) zero d l e h = subst (λ y. y.formals ≤ max_operands) (sym e) (leb-true x.formals max_operands (and_parts _ _ h).0)
 formals_at (x ∷ ds) (suc i) d l e h = formals_at ds i d (omega (arith, l)) e (and_parts _ _ h).1
 
+-- ## Variables
+
+with_near : (b : Bool) (d : Definition) (ks : List Definition) → has_near_variables d.body ≡ true → have_near_bodies ks ≡ true → have_near_bodies (with_definition b d ks) ≡ true
+with_near true d ks h k = and_from (has_near_variables d.body) (have_near_bodies ks) h k
+with_near false d ks h k = k
+
+kept_near : (ds : List Definition) (named : List (List ℕ)) → have_near_bodies ds ≡ true → have_near_bodies (kept ds named) ≡ true
+kept_near [] named h = refl
+kept_near (d ∷ ds) named h =
+    let p = and_parts (has_near_variables d.body) (have_near_bodies ds) h in
+    with_near (is_among (library_global d.name) (named ++ globals_of_each (kept ds named))) d (kept ds named) p.0 (kept_near ds named p.1)
+
+pub kept_bodies : (ks : List KeptDefinition) (ds : List code.Definition) (named : List (List ℕ)) → kept_definitions ks ≡ kept (definitions_of ds) named →
+    have_near_bodies (definitions_of ds) ≡ true → have_near_bodies (kept_definitions ks) ≡ true
+kept_bodies ks ds named e h = subst (λ l. have_near_bodies l ≡ true) (sym e) (kept_near (definitions_of ds) named h)
+
+pub variables_at : (ds : List KeptDefinition) (i : ℕ) (d : KeptDefinition) → i < length ds → d ≡ get_or ds i d → have_near_bodies (kept_definitions ds) ≡ true → has_near_variables (draft_of d.body.now) ≡ true
+variables_at [] i d l e h = absurd (omega (arith, l))
+variables_at (x ∷ ds) zero d l e h =
+    subst (λ y. has_near_variables (draft_of y.body.now) ≡ true) (sym e) (and_parts (has_near_variables (draft_of x.body.now)) (have_near_bodies (kept_definitions ds)) h).0
+variables_at (x ∷ ds) (suc i) d l e h =
+    variables_at ds i d (omega (arith, l)) e (and_parts (has_near_variables (draft_of x.body.now)) (have_near_bodies (kept_definitions ds)) h).1
+
 -- ## What has numbers
-
-few_sites : (ds : List Definition) → length (widths_of_definitions ds) ≤ size_of_definitions ds
-few_sites [] = omega arith
-few_sites (d ∷ ds) = omega (arith, length-append (widths d.body) (widths_of_definitions ds), few_widths d.body, few_sites ds)
-
-few_literals : (ds : List Definition) → length (quotes_of_each ds) ≤ size_of_definitions ds
-few_literals [] = omega arith
-few_literals (d ∷ ds) = omega (arith, length-append (quotes_in d.body) (quotes_of_each ds), few_quotes d.body, few_literals ds)
-
-few_globals_of_definitions : (ds : List Definition) → length (globals_of_each ds) ≤ size_of_definitions ds
-few_globals_of_definitions [] = omega arith
-few_globals_of_definitions (d ∷ ds) =
-    omega (arith, length-append (globals_in [] d.body) (globals_of_each ds), few_globals [] d.body, few_globals_of_definitions ds)
 
 with_symbols : (b : Bool) (d : Definition) (ds ks : List Definition) → length (symbols_of_each ks) ≤ length (symbols_of_each ds) →
     length (symbols_of_each (with_definition b d ks)) ≤ length (symbols_of_each (d ∷ ds))
@@ -118,7 +127,7 @@ module _ (ds : List Definition) (forms : Drafts) (small : size_of_definitions ds
         n,
         firsts_length (globals_of_each ds ++ globals_in_each own forms) [],
         length-append (globals_of_each ds) (globals_in_each own forms),
-        few_globals_of_definitions ds,
+        few_globals_of_each [] (procedures_of_each ds),
         few_globals_of_each own forms,
       )
 
@@ -135,8 +144,8 @@ module _ (ds : List Definition) (forms : Drafts) (small : size_of_definitions ds
         let s : length out.sites ≡ 0 = ap length sites in
         let l : length out.literals ≡ 0 = ap length literals in
         record {
-          sites = omega (arith, small, s, sites_more out.sites _ h, few_sites ds);
-          literals = omega (arith, small, l, literals_more f out.literals _ _ k, few_literals ds);
+          sites = omega (arith, small, s, sites_more out.sites _ h, few_widths_of_each (procedures_of_each ds));
+          literals = omega (arith, small, l, literals_more f out.literals _ _ k, few_quotes_of_each (procedures_of_each ds));
         }
 
 pub few_symbols_named : (xs : List (List ℕ)) {names : List (List ℕ)} → length xs < 2 ^ 32 → names ≡ firsts [] xs → length names < 2 ^ 32

@@ -84,10 +84,6 @@ last_apart xs x l e =
     let n : suc i ≡ length xs = omega (arith, l) in
     sym (take-append-drop i xs) ∙ ap (λ r. take i xs ++ r) (next_left xs i x (omega (arith, n)) e ∙ ap (λ r. x ∷ r) (drop_all (suc i) xs (omega (arith, n))))
 
-pub none_below : {A : Type 0} (xs : List A) → length xs < 1 → xs ≡ []
-none_below [] l = refl
-none_below (x ∷ xs) l = absurd (omega (arith, l))
-
 -- the last of those that are left, and those that have been looked at
 pub definition_before : (ds left others : List code.Definition) (d : code.Definition) → left ++ drop (length left) ds ≡ ds → left ≡ others ++ d ∷ [] → drop (length others) ds ≡ d ∷ drop (length left) ds
 definition_before ds left others d whole is =

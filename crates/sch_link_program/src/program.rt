@@ -11,15 +11,16 @@ ghost use Rattle.sch_link_tables.specs.Listed.{AreListed, IsListed};
 ghost use Rattle.sch_link_tables.specs.Named.{firsts, globals_in_each, symbols_in_each};
 ghost use Rattle.sch_link_tables.specs.Quoted.{literal_of, quotes_in};
 ghost use Rattle.sch_link_tables.specs.Constants.{HasConstants};
-ghost use Rattle.sch_link_tables.specs.Room.{HasRoom};
+ghost use Rattle.sch_link_tables.specs.Room.{HasRoom, has_near_variables, have_near_variables};
 ghost use Rattle.sch_link_tables.specs.Sites.{widths};
 ghost use Rattle.sch_link_tables.specs.Numbered.{numbered};
 ghost use Rattle.sch_link_tables.specs.Programs as words;
 ghost use Rattle.sch_link_tables.specs.Programs.{globals_of_each, symbols_of_each, quotes_of_each, widths_of_definitions, program_of};
 ghost use Rattle.sch_link_program.specs.Definitions.{definitions_of, kept_definitions};
 ghost use Rattle.sch_link_program.specs.PartsView.{parts_of};
-ghost use Rattle.sch_link_program.specs.Size.{size_of_definitions, have_few_formals};
-ghost use Rattle.sch_link_program.specs.Ranged.{trees_in_range, BodiesHaveConstants};
+ghost use Rattle.sch_link_program.specs.Size.{size_of_definitions, have_few_formals, have_near_bodies};
+ghost use Rattle.sch_lang.specs.Valid.{trees_in_range};
+ghost use Rattle.sch_link_program.specs.Ranged.{BodiesHaveConstants};
 
 use crate::definition::{Definition, KeptDefinition};
 use crate::keeping::{Asked, held, kept};
@@ -63,6 +64,7 @@ fn number_definition(
     requires globals { length (names_of tables.now.globals.names) < 2 ^ 32 }
     requires symbols { length (names_of tables.now.symbols.names) < 2 ^ 32 }
     requires room { HasRoom out.old (size (draft_of d.now.body.now)) }
+    requires variables { has_near_variables (draft_of d.now.body.now) ≡ true }
     ensures made { IfOk result (λ l. expression l.body
         ≡ numbered [] (names_of tables.now.globals.names) (names_of tables.now.symbols.names)
         None (draft_of d.now.body.now) (length out.old.sites) (length out.old.literals)) }
@@ -99,6 +101,7 @@ fn number_definitions(
     requires globals { length (names_of tables.now.globals.names) < 2 ^ 32 }
     requires symbols { length (names_of tables.now.symbols.names) < 2 ^ 32 }
     requires room { HasRoom out.old (size_of_definitions (kept_definitions definitions.now)) }
+    requires variables { have_near_bodies (kept_definitions definitions.now) ≡ true }
     ensures made { IfOk result (λ ls. lambdas_of ls
         ≡ words.procedures (names_of tables.now.globals.names) (names_of tables.now.symbols.names)
         (kept_definitions definitions.now) (length out.old.sites) (length out.old.literals)) }
@@ -166,6 +169,8 @@ fn program_with(
     requires few { length definitions.now < 2 ^ 32 }
     requires small { size_of_definitions (kept_definitions definitions.now) + size_each (drafts_of forms.now) < 2 ^ 32 }
     requires few_symbols { length (symbols_of_each (kept_definitions definitions.now) ++ symbols_in_each (drafts_of forms.now)) < 2 ^ 32 }
+    requires bodies { have_near_bodies (kept_definitions definitions.now) ≡ true }
+    requires variables { have_near_variables (drafts_of forms.now) ≡ true }
     requires globals { own.now.named.now.globals.list ≡ firsts [] (globals_in_each (names_of own.now.names.now) (drafts_of forms.now)) }
     requires symbols { own.now.named.now.symbols.list ≡ firsts [] (symbols_in_each (drafts_of forms.now)) }
     ensures made { IfOk result (λ p. parts_of p
@@ -211,6 +216,8 @@ pub fn assemble(
     requires few { length definitions.now < 2 ^ 32 }
     requires small { size_of_definitions (definitions_of definitions.now) + size_each (drafts_of forms.now) < 2 ^ 32 }
     requires few_symbols { length (symbols_of_each (definitions_of definitions.now) ++ symbols_in_each (drafts_of forms.now)) < 2 ^ 32 }
+    requires bodies { have_near_bodies (definitions_of definitions.now) ≡ true }
+    requires variables { have_near_variables (drafts_of forms.now) ≡ true }
     ensures made { IfOk result (λ p. parts_of p ≡ program_of (definitions_of definitions.now) (names_of own.now) (drafts_of forms.now)) }
     ensures ranged { IfOk result (λ p. IsTrue (trees_in_range (parts_of p))) }
 {

@@ -11,7 +11,7 @@ use Rattle.sch_sketch.specs.declared.draft.Draft as code
 use Rattle.sch_sketch.specs.declared.draft.Draft.TheOpen.{Draft-F}
 use Rattle.sch_sketch.specs.declared.draft.Draft.TheVariants.{Constant, rolls-Constant, Symbol, rolls-Symbol, Literal, rolls-Literal, Local, rolls-Local, Global, rolls-Global, SetLocal, rolls-SetLocal, SetGlobal, rolls-SetGlobal, Define, rolls-Define, If, rolls-If, Seq, rolls-Seq, Let, rolls-Let, Letrec, rolls-Letrec, Lambda, rolls-Lambda, Call, rolls-Call, Prim, rolls-Prim}
 use Rattle.sch_word.specs.declared.constant.Const.{Const}
-use Rattle.sch_read.specs.declared.datum.Datum as text
+use Rattle.sch_read.specs.declared.datum.Datum as code_datum
 use Rattle.sch_read.specs.Views.{tree_of}
 use Rattle.sch_sketch.specs.Draft as plain
 use Rattle.sch_sketch.specs.DraftView.{draft_view, draft_of, drafts_of}
@@ -22,7 +22,7 @@ constant_view k e = ap draft_of (e ∙ sym (rolls-Constant k)) ∙ fold-roll-Dra
 pub symbol_view : {d : code.Draft} (x : Bor (List ℕ)) → d ≡ Symbol x → draft_of d ≡ plain.symbol x.now
 symbol_view x e = ap draft_of (e ∙ sym (rolls-Symbol x)) ∙ fold-roll-Draft plain.Draft draft_view (Draft-F.Symbol x)
 
-pub literal_view : {d : code.Draft} (x : Bor text.Datum) → d ≡ Literal x → draft_of d ≡ plain.literal (tree_of x.now)
+pub literal_view : {d : code.Draft} (x : Bor code_datum.Datum) → d ≡ Literal x → draft_of d ≡ plain.literal (tree_of x.now)
 literal_view x e = ap draft_of (e ∙ sym (rolls-Literal x)) ∙ fold-roll-Draft plain.Draft draft_view (Draft-F.Literal x)
 
 pub local_view : {d : code.Draft} (k : ℕ) → d ≡ Local k → draft_of d ≡ plain.local k

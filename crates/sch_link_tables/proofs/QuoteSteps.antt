@@ -12,7 +12,7 @@ use Rattle.sch_word.proofs.facts.Lists.{map_length}
 use Rattle.sch_word.proofs.worked.LiteralRows.{literals_of_list}
 use Rattle.sch_read.specs.Grammar.{Datum, Data, dotted, vector, none, cons}
 use Rattle.sch_read.specs.DatumParts.{each_of, parts, trees_of}
-use Rattle.sch_read.specs.declared.datum.Datum as text
+use Rattle.sch_read.specs.declared.datum.Datum as code
 use Rattle.sch_read.specs.Views.{gather, tree_of, data_of}
 use Rattle.sch_read.proofs.DatumSteps.{each_gathered}
 use Rattle.sch_link_tables.specs.Quoted.{list_of, literal_of, literals_of_data, literals_of_parts, ArePartsReady}
@@ -26,11 +26,11 @@ module _ (symbols : List (List ℕ)) where
   quoted_literals (d ∷ ds) = ap (and_literal (literal_of symbols d)) (quoted_literals ds)
 
   -- literals that are those of data
-  pub same_quoted : (ls : List Lit) (items : List text.Datum) → plain ls ≡ quoted (trees_of items) → literals_of ls ≡ literals_of_data symbols (data_of items)
+  pub same_quoted : (ls : List Lit) (items : List code.Datum) → plain ls ≡ quoted (trees_of items) → literals_of ls ≡ literals_of_data symbols (data_of items)
   same_quoted ls items h = literals_of_list ls ∙ ap literals h ∙ quoted_literals (trees_of items)
 
   -- where the literals of the data of a list come first
-  module _ (items : List text.Datum) (all more : List Literal) (h : all ≡ quoted (each_of (data_of items)) ++ more) where
+  module _ (items : List code.Datum) (all more : List Literal) (h : all ≡ quoted (each_of (data_of items)) ++ more) where
     at_front : all ≡ quoted (trees_of items) ++ more
     at_front = h ∙ ap (λ ds. quoted ds ++ more) (each_gathered (trees_of items))
 

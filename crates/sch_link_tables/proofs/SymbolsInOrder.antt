@@ -7,7 +7,7 @@ use Rattle.std.specs.List.{flat_map}
 use Rattle.sch_word.specs.trees.InOrder.{AreInOrder, none as no_nodes, next}
 use Rattle.sch_read.specs.Grammar.{Datum, Data, atom, list, dotted, vector, none, cons, text as text_atom, symbol as symbol_atom}
 use Rattle.sch_read.specs.DatumParts.{each_of, parts, lent_trees}
-use Rattle.sch_read.specs.declared.datum.Datum as text
+use Rattle.sch_read.specs.declared.datum.Datum as code
 use Rattle.sch_link_tables.specs.Named.{firsts, symbols_at, symbols_of_datum, symbols_of_data}
 
 -- the symbols that are nodes, and those in trees
@@ -44,7 +44,7 @@ pub one_in_order : (nodes : List Datum) (d : Datum) → AreInOrder parts nodes (
 one_in_order nodes d w = in_order nodes (d ∷ []) w ∙ append-nil (symbols_of_datum d)
 
 -- every node is named
-pub last_node : (order : List (Bor text.Datum)) (i : ℕ) (seen r : List (List ℕ)) → length order ≤ i → firsts seen (symbols_of_nodes (lent_trees (drop i order))) ≡ r → seen ≡ r
+pub last_node : (order : List (Bor code.Datum)) (i : ℕ) (seen r : List (List ℕ)) → length order ≤ i → firsts seen (symbols_of_nodes (lent_trees (drop i order))) ≡ r → seen ≡ r
 last_node order i seen r l k = let k' = rw (ap lent_trees (drop_all i order l)) at k in k'
 
 -- ## Rows: a datum is a symbol, or has none itself

@@ -6,8 +6,8 @@ use Rattle.sch_lang.specs.Tree.{Lambdas, no_lambdas, and_lambda, Source}
 use Rattle.sch_read.specs.Grammar.{Datum}
 use Rattle.sch_names.specs.NamesView.{number_of}
 use Rattle.sch_names.specs.Scope.{is_among}
-use Rattle.sch_sketch.specs.Draft.{Draft, Drafts}
-use Rattle.sch_link_tables.specs.Named.{firsts, library_global, globals_in, globals_in_each, symbols_in, symbols_in_each}
+use Rattle.sch_sketch.specs.Draft.{Draft, Drafts, lambda, no_drafts, and_draft}
+use Rattle.sch_link_tables.specs.Named.{firsts, library_global, globals_in_each, symbols_in_each}
 use Rattle.sch_link_tables.specs.Quoted.{literal_of, quotes_in, quotes_in_each}
 use Rattle.sch_link_tables.specs.Sites.{widths, widths_of_each}
 use Rattle.sch_link_tables.specs.Numbered.{numbered, numbered_each}
@@ -19,12 +19,19 @@ pub record Definition : Type 0 where
   pub rest : Bool
   pub body : Draft
 
+-- the draft of a definition is that of its procedure
+abbrev pub procedure_of : Definition → Draft
+procedure_of d = lambda d.formals d.rest d.body
+
+abbrev pub procedures_of_each : List Definition → Drafts
+procedures_of_each [] = no_drafts
+procedures_of_each (d ∷ ds) = and_draft (procedure_of d) (procedures_of_each ds)
+
 -- ## Which definitions are kept
 
 -- the globals that definitions name
 abbrev pub globals_of_each : List Definition → List (List ℕ)
-globals_of_each [] = []
-globals_of_each (d ∷ ds) = globals_in [] d.body ++ globals_of_each ds
+globals_of_each ds = globals_in_each [] (procedures_of_each ds)
 
 abbrev pub with_definition : Bool → Definition → List Definition → List Definition
 with_definition true d ds = d ∷ ds
@@ -63,16 +70,13 @@ names_of_each [] = []
 names_of_each (d ∷ ds) = d.name ∷ names_of_each ds
 
 abbrev pub symbols_of_each : List Definition → List (List ℕ)
-symbols_of_each [] = []
-symbols_of_each (d ∷ ds) = symbols_in d.body ++ symbols_of_each ds
+symbols_of_each ds = symbols_in_each (procedures_of_each ds)
 
 abbrev pub quotes_of_each : List Definition → List Datum
-quotes_of_each [] = []
-quotes_of_each (d ∷ ds) = quotes_in d.body ++ quotes_of_each ds
+quotes_of_each ds = quotes_in_each (procedures_of_each ds)
 
 abbrev pub widths_of_definitions : List Definition → List ℕ
-widths_of_definitions [] = []
-widths_of_definitions (d ∷ ds) = widths d.body ++ widths_of_definitions ds
+widths_of_definitions ds = widths_of_each (procedures_of_each ds)
 
 abbrev pub procedures : (globals symbols : List (List ℕ)) → List Definition → (s l : ℕ) → Lambdas
 procedures globals symbols [] s l = no_lambdas

@@ -156,8 +156,8 @@ one_less (v ∷ s) t depth l e =
     let n : suc (length s - depth) ≡ suc (length s) - depth = omega (arith, l) in
     ap (λ u. drop (length u - depth) u) e ∙ ap (λ m. drop m (v ∷ s)) n
 
-pub one_more : (v : Option (List ℕ)) (s t start : Scope) → t ≡ v ∷ s → length start ≤ length s → drop (length s - length start) s ≡ start → drop (length t - length start) t ≡ start
-one_more v s t start e l h =
+pub start_left : (v : Option (List ℕ)) (s t start : Scope) → t ≡ v ∷ s → length start ≤ length s → drop (length s - length start) s ≡ start → drop (length t - length start) t ≡ start
+start_left v s t start e l h =
     let n : suc (length s) - length start ≡ suc (length s - length start) = omega (arith, l) in
     ap (λ u. drop (length u - length start) u) e ∙ ap (λ m. drop m (v ∷ s)) n ∙ h
 

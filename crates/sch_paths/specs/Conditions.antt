@@ -5,7 +5,7 @@ use Rattle.sch_word.specs.trees.NumberSets.{has}
 use Rattle.sch_word.specs.values.Values.{Value}
 use Rattle.sch_word.specs.runs.Computation.{gives, stops, spent}
 use Rattle.sch_control.specs.Meaning.{Reading, World, Result, Environment, Callee, plain, do_body, with_region, binds}
-use Rattle.sch_control.specs.Operations.{Procedure}
+use Rattle.sch_word.specs.runs.Procedures.{Procedure}
 use Rattle.sch_control.specs.Run.{Bodies}
 use Rattle.sch_control.specs.Tree.{Expression, perform, bind, sequence, branch, fix, call, tail_call, return, end, save, Code}
 use Rattle.sch_control.specs.flow.Live.{Perhaps, Across, MayGive, Live, Soon, Later}

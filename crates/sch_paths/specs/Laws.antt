@@ -38,16 +38,16 @@ SoonByPaths =
     → MayMeet (soon x) inside e (λ t. behind t ≡ true) ↔ Soon x e (λ t. behind t ≡ true)
 
 -- a variable that may be read: where to return, or one that is in scope
-abbrev pub BoundBefore : (scope : ℕ → Bool) → ℕ → Type 0
-BoundBefore scope x = (x ≡ 0) ⊎ (scope x ≡ true)
+abbrev pub Readable : (scope : ℕ → Bool) → ℕ → Type 0
+Readable scope x = (x ≡ 0) ⊎ (scope x ≡ true)
 
 -- Before an expression that binds none of what is in scope, a variable is live where it is bound before, and some path from
 -- there references it.
 abbrev pub LiveWhereReferenced : Type 0
 LiveWhereReferenced =
-    (e : Expression) (scope : ℕ → Bool) → in_scope e scope ≡ true → ((x : ℕ) → has x (bound_in e) ≡ true → BoundBefore scope x → ⊥)
-    → (inside : ℕ → Bool) (behind : ℕ → Bool → Bool) → ((x : ℕ) (t : Bool) → behind x t ≡ true → BoundBefore scope x)
-    → (x : ℕ) → (BoundBefore scope x × MayMeet (refers x) inside e (λ t. behind x t ≡ true)) ↔ Live x e (λ t. behind x t ≡ true)
+    (e : Expression) (scope : ℕ → Bool) → in_scope e scope ≡ true → ((x : ℕ) → has x (bound_in e) ≡ true → Readable scope x → ⊥)
+    → (inside : ℕ → Bool) (behind : ℕ → Bool → Bool) → ((x : ℕ) (t : Bool) → behind x t ≡ true → Readable scope x)
+    → (x : ℕ) → (Readable scope x × MayMeet (refers x) inside e (λ t. behind x t ≡ true)) ↔ Live x e (λ t. behind x t ≡ true)
 
 -- at each call of a path, the live set of the call has what some path from there references before it binds it
 abbrev pub SetsByPaths : Type 0

@@ -11,7 +11,8 @@ use Rattle.sch_homes.specs.Laws.{AreDense}
 use Rattle.sch_regs.specs.PlaceChoice.{arrived, nothing_behind, place_in, places, slots, table_of}
 use Rattle.sch_regs.proofs.OneChoice.{Below, slot_of}
 use Rattle.sch_regs.proofs.WellBound.{assign_below}
-use Rattle.sch_regs.proofs.WholeBodies.{count_places, first_slots, place_at, slots_same}
+use Rattle.sch_regs.proofs.WholeBodies.{first_slots, place_at, slots_same}
+use Rattle.sch_word.proofs.facts.NumberSets.{numbers_mapped}
 
 -- a place that is listed under a number is that of the variable
 pub listed_place : (places : List Place) (x : ℕ) (p : Place) → slice_get places x ≡ Some p → (x < length places) × (place_of places x ≡ p)
@@ -23,7 +24,7 @@ pub dense : (c : Code) (e : Expression) → erased e ≡ c.expression → in_sco
 dense c e is i n d x j h =
     let at = listed_place (places c.entry c.variables e) x (Slot j) h in
     let there = at.0 in
-    let whole = count_places (place_in (table_of c.entry e)) 0 c.variables in
+    let whole = numbers_mapped (place_in (table_of c.entry e)) 0 c.variables in
     let lt : x < c.variables = omega (arith, there, whole) in
     let same : place_in (table_of c.entry e) x ≡ Slot j =
     ap (place_in (table_of c.entry e)) (omega arith) ∙ (sym (place_at (place_in (table_of c.entry e)) 0 c.variables x lt) ∙ at.1) in

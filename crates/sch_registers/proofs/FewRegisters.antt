@@ -12,7 +12,7 @@ use Rattle.sch_control.specs.RegisterWork.{most_kept}
 use Rattle.sch_control.specs.Tree.{Code, Expression}
 use Rattle.sch_control.specs.flow.Apart.{Apart, EachHas}
 use Rattle.sch_control.specs.flow.Places.{count_slots, is_usual, place_of}
-use Rattle.sch_word.specs.values.Places.{is_slot}
+use Rattle.sch_word.specs.values.Places.{is_slot, same_place}
 use Rattle.sch_layout.specs.BodyLayout.{Plan}
 use Rattle.sch_layout.specs.FewCopies.{in_registers}
 use Rattle.sch_homes.specs.Homes.{homes_plan, lives_in}
@@ -22,10 +22,6 @@ use Rattle.sch_registers.proofs.DensePlaces.{listed_place}
 -- the return address, the closure, and the six for other variables
 abbrev kept_registers : List ℕ
 kept_registers = LINK_REGISTER ∷ CLOSURE_REGISTER ∷ argument_registers
-
-abbrev is_in : ℕ → Place → Bool
-is_in r (Reg q) = nat_eq q r
-is_in r (Slot j) = false
 
 same_register : (r q : ℕ) → Reg r ≡ Reg q → q ≡ r
 same_register r q h = cc
@@ -37,9 +33,9 @@ module _ (c : Code) (e : Expression) (places : List Place) (p : IsPlaced c e pla
   abbrev lives : Option Place → Place
   lives = lives_in
 
-  register_of : (x r : ℕ) → is_in r (plan.place x) ≡ true → place_of places x ≡ Reg r
+  register_of : (x r : ℕ) → same_place (plan.place x) (Reg r) ≡ true → place_of places x ≡ Reg r
   register_of x r h = by (slice_get places x) refl h where
-    by : (o : Option Place) → slice_get places x ≡ o → is_in r (lives o) ≡ true → place_of places x ≡ Reg r
+    by : (o : Option Place) → slice_get places x ≡ o → same_place (lives o) (Reg r) ≡ true → place_of places x ≡ Reg r
     by None i h = absurd (cc)
     by (Some (Reg q)) i h = (listed_place places x (Reg q) i).1 ∙ ap Reg (eqb-true q r h)
     by (Some (Slot j)) i h = absurd (cc)
@@ -63,19 +59,19 @@ module _ (c : Code) (e : Expression) (places : List Place) (p : IsPlaced c e pla
   -- ## One register
 
   abbrev one_in : ℕ → ℕ → ℕ
-  one_in r x = cond (is_in r (plan.place x)) 1 0
+  one_in r x = cond (same_place (plan.place x) (Reg r)) 1 0
 
   count_in : ℕ → List ℕ → ℕ
   count_in r [] = 0
   count_in r (x ∷ xs) = one_in r x + count_in r xs
 
-  none_else : (live : ℕ → Type 0) → Apart (place_of places) live → (x r : ℕ) → live x → is_in r (plan.place x) ≡ true
+  none_else : (live : ℕ → Type 0) → Apart (place_of places) live → (x r : ℕ) → live x → same_place (plan.place x) (Reg r) ≡ true
       → (xs : List ℕ) → has x xs ≡ false → EachHas live xs → count_in r xs ≡ 0
   unfolding count_in
   none_else live apart x r l i [] n each = refl
   none_else live apart x r l i (y ∷ ys) n each =
-      by (is_in r (plan.place y)) refl (none_else live apart x r l i ys (not_right (nat_eq x y) _ n) each.1) where
-        by : (t : Bool) → is_in r (plan.place y) ≡ t → count_in r ys ≡ 0 → cond t 1 0 + count_in r ys ≡ 0
+      by (same_place (plan.place y) (Reg r)) refl (none_else live apart x r l i ys (not_right (nat_eq x y) _ n) each.1) where
+        by : (t : Bool) → same_place (plan.place y) (Reg r) ≡ t → count_in r ys ≡ 0 → cond t 1 0 + count_in r ys ≡ 0
         by true j h =
             absurd (apart x y l each.0 (λ e. false_true (eq-eqb x y e) (not_left (nat_eq x y) _ n)) (register_of x r i ∙ sym (register_of y r j)))
         by false j h = omega (arith, h)
@@ -84,8 +80,8 @@ module _ (c : Code) (e : Expression) (places : List Place) (p : IsPlaced c e pla
   unfolding count_in
   one_at_most live apart r [] once each = omega arith
   one_at_most live apart r (x ∷ xs) once each =
-      by (is_in r (plan.place x)) refl (one_at_most live apart r xs (and_right (not (has x xs)) _ once) each.1) where
-        by : (t : Bool) → is_in r (plan.place x) ≡ t → count_in r xs ≤ 1 → cond t 1 0 + count_in r xs ≤ 1
+      by (same_place (plan.place x) (Reg r)) refl (one_at_most live apart r xs (and_right (not (has x xs)) _ once) each.1) where
+        by : (t : Bool) → same_place (plan.place x) (Reg r) ≡ t → count_in r xs ≤ 1 → cond t 1 0 + count_in r xs ≤ 1
         by true i h =
             let none : count_in r xs ≡ 0 = none_else live apart x r each.0 i xs (not_true (has x xs) (and_left (not (has x xs)) _ once)) each.1 in
             omega (arith, none)
@@ -126,7 +122,7 @@ module _ (c : Code) (e : Expression) (places : List Place) (p : IsPlaced c e pla
   once_in (q ∷ rs) x r i h = by (nat_eq r q) refl h (once_in rs x r i) where
     by : (t : Bool) → nat_eq r q ≡ t → (t || has r rs) ≡ true → (has r rs ≡ true → 1 ≤ times_in rs x) → 1 ≤ one_in q x + times_in rs x
     by true j h f =
-        let here : is_in q (plan.place x) ≡ true = ap (is_in q) i ∙ j in
+        let here : same_place (plan.place x) (Reg q) ≡ true = ap (λ p. same_place p (Reg q)) i ∙ j in
         let one : one_in q x ≡ 1 = ap (λ t. cond {A = ℕ} t 1 0) here in
         omega (arith, one)
     by false j h f = let more = f h in omega (arith, more)

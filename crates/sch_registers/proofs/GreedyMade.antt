@@ -19,7 +19,8 @@ use Rattle.sch_homes.proofs.CallSpare as spare
 use Rattle.sch_homes.proofs.CallsBring.{first_fits, first_low}
 use Rattle.sch_homes.proofs.FrameRoom.{calls_few, has_room, uses_low}
 use Rattle.sch_homes.proofs.SlotsApart.{lives_before}
-use Rattle.sch_registers.specs.GreedyCalls.{EachCall, IsGreedyCall}
+use Rattle.sch_registers.specs.GreedyCalls.{IsGreedyCall}
+use Rattle.sch_control.specs.EachCall.{EachCall}
 
 module _ (c : control.Code) (e : Expression) (places : List Place) (p : IsPlaced c e places) where
   abbrev plan : Plan

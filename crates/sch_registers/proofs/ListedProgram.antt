@@ -16,9 +16,9 @@ use Rattle.sch_control.specs.Tree as tree
 use Rattle.sch_control.specs.Valid.{bound_known, sites_of, sites_once}
 use Rattle.sch_control.specs.flow.Bare.{erased, unlisted}
 use Rattle.sch_control.specs.flow.LiveTests.{is_live, Behind}
-use Rattle.sch_frames.specs.Meaning.{argument_register, argument_slot}
-use Rattle.sch_layout.specs.BodyLayout.{in_either, target}
-use Rattle.sch_layout.proofs.Targets.{arrival_by}
+use Rattle.sch_control.specs.flow.Places.{argument_register, argument_slot, register_or_slot}
+use Rattle.sch_layout.specs.BodyLayout.{target}
+use Rattle.sch_control.proofs.RegisterOrSlot.{arrival_by}
 use Rattle.sch_shuffle.specs.Assignment.{place_at}
 use Rattle.sch_shuffle.specs.CycleSearch.{all_rings, cycles, places_at}
 use Rattle.sch_orders.specs.declared.listed_call.ListedCall.{ListedCall}
@@ -99,7 +99,7 @@ module _ (test : Place → Bool) (slots : (j : ℕ) → test (Slot j) ≡ true) 
   one_passes (x ∷ rs) zero r h e = let is : x ≡ r = cc in ap (λ r. test (Reg r)) (sym is) ∙ (and_parts (test (Reg x)) _ h).0
   one_passes (x ∷ rs) (suc k) r h e = one_passes rs k r (and_parts (test (Reg x)) _ h).1 e
 
-  either_passes : (o : Option ℕ) (k j : ℕ) → argument_register k ≡ o → test (in_either o j) ≡ true
+  either_passes : (o : Option ℕ) (k j : ℕ) → argument_register k ≡ o → test (register_or_slot o j) ≡ true
   either_passes (Some r) k j e = one_passes argument_registers k r registers e
   either_passes None k j e = slots j
 

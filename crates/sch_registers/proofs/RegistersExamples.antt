@@ -3,11 +3,8 @@ use Rattle.std.proofs.Common.{◌≡◌, refl, ℕ, List, [], ◌∷◌, false}
 use Rattle.sch_word.specs.declared.primitive.Primitive.TheVariants.{Add, Subtract, Multiply, Equal, Eq}
 use Rattle.sch_control.specs.declared.operation.Operation.TheVariants as operation
 use Rattle.sch_control.specs.Tree.{Expression, perform, bind, branch, call, return, save}
-use Rattle.sch_control.proofs.Examples.{applied, held_in, lambda, number, truth, value_of}
+use Rattle.sch_control.proofs.Examples.{applied, held_in, lambda, number, truth, value_of, global}
 use Rattle.sch_registers.specs.Registers.{registers_code, registers_tree, registers_words}
-
-abbrev global : Expression
-global = perform (operation.Global 0)
 
 -- ## (define (g x y) (if (and x (h y)) y (not (h x)))), where x is variable 2 and y is 3
 

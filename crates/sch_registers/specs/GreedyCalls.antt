@@ -1,10 +1,9 @@
 -- The moves of a call as a greedy shuffle makes them (PLDI 1995: Burger, Waddell and Dybvig). This is said without the function
 -- that makes them.
-use Rattle.std.specs.Prelude.{◌≡◌, ℕ, suc, Bool, true, false, List, length, map}
+use Rattle.std.specs.Prelude.{◌≡◌, ℕ, suc, Bool, List, length, map}
 use Rattle.sch_word.specs.declared.place.Place.{Place}
 use Rattle.sch_word.specs.trees.Bindings.{numbers}
 use Rattle.sch_control.specs.declared.operation.Application.{Application}
-use Rattle.sch_control.specs.Tree.{Expression, perform, bind, sequence, branch, fix, call, tail_call, return, end, save}
 use Rattle.sch_layout.specs.BodyLayout.{Plan, arguments_at, target}
 use Rattle.sch_shuffle.specs.Assignment.{AreSpare, Transfer, temps}
 use Rattle.sch_shuffle.specs.Cycles.{AreTheCycles}
@@ -12,19 +11,6 @@ use Rattle.sch_shuffle.specs.GreedySteps.{GoesOnInOrder, IsGreedy, IsOrdered}
 use Rattle.sch_shuffle.specs.Plans.{AreAtoms, ArePlanned, NeedsTemporaries}
 use Rattle.sch_shuffle.specs.Tree.{Tree}
 use Rattle.sch_homes.specs.CallMoves.{move_of, operand_tree}
-
--- each call and tail call of an expression has a property
-abbrev pub EachCall : (P : (tail : Bool) → Application ℕ → Type 0) → Expression → Type 0
-EachCall P (perform o) = Unit {0}
-EachCall P (bind x a b) = EachCall P a × EachCall P b
-EachCall P (sequence a b) = EachCall P a × EachCall P b
-EachCall P (branch a b c) = EachCall P a × (EachCall P b × EachCall P c)
-EachCall P (fix members e) = EachCall P e
-EachCall P (call a restores) = P false a
-EachCall P (tail_call a) = P true a
-EachCall P (return e) = EachCall P e
-EachCall P (end e) = EachCall P e
-EachCall P (save saves e) = EachCall P e
 
 module _ (plan : Plan) (tail : Bool) (a : Application ℕ) where
   -- what a shuffle is told of the operator and the operands, which is what places they use; and where it brings them

@@ -22,7 +22,8 @@ use Rattle.sch_paths.specs.Regions.{regions_stand}
 use Rattle.sch_paths.specs.RestoredByPaths.{RestoredByPaths}
 use Rattle.sch_regs.specs.Spills.{SlotsWhenFull}
 use Rattle.sch_saves.specs.Promises.{EachSaveFollowed}
-use Rattle.sch_registers.specs.GreedyCalls.{EachCall, IsGreedyCall}
+use Rattle.sch_registers.specs.GreedyCalls.{IsGreedyCall}
+use Rattle.sch_control.specs.EachCall.{EachCall}
 
 -- A tree with lazy saves. Each call lists what is live after it, and nothing where no path comes: what some path from there
 -- references before it binds it. Regions stand only round the whole and round arms of tests. The region round each of these

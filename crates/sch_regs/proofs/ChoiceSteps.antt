@@ -16,33 +16,33 @@ use Rattle.sch_word.proofs.facts.Booleans.{and_left, and_right, and_of, or_left,
 use Rattle.sch_control.specs.declared.operation.Member.{Member}
 use Rattle.sch_control.specs.Tree.{Expression, bind, sequence, branch, fix}
 use Rattle.sch_control.specs.Valid.{member_variables}
-use Rattle.sch_word.specs.values.Places.{is_slot}
+use Rattle.sch_word.specs.values.Places.{is_slot, same_place}
 use Rattle.sch_word.specs.values.Options.{first_or_0}
 use Rattle.sch_regs.specs.NotedSets.{Noted, assign_noted}
-use Rattle.sch_regs.specs.PlaceChoice.{Table, in_register, place_in, slots, in_order, held, first_free, choose, choose_each, live_first}
+use Rattle.sch_regs.specs.PlaceChoice.{Table, place_in, slots, in_order, held, first_free, choose, choose_each, live_first}
 use Rattle.sch_regs.specs.Shows.{holds, IsHeld, is_wanted}
 
 -- ## What is held
 
 held_by : (live : ℕ → Bool) (t : Table) (r : ℕ) → held live t r ≡ true → (x : ℕ) × ((live x ≡ true) × (holds t r x ≡ true))
 held_by live [] r h = absurd (cc)
-held_by live (w ∷ t) r h = by (live w.0 && in_register r w.1) refl (held_by live t r) h where
-  by : (b : Bool) → (live w.0 && in_register r w.1) ≡ b → (held live t r ≡ true → (x : ℕ) × ((live x ≡ true) × (holds t r x ≡ true)))
+held_by live (w ∷ t) r h = by (live w.0 && same_place w.1 (Reg r)) refl (held_by live t r) h where
+  by : (b : Bool) → (live w.0 && same_place w.1 (Reg r)) ≡ b → (held live t r ≡ true → (x : ℕ) × ((live x ≡ true) × (holds t r x ≡ true)))
       → (b || held live t r) ≡ true → (x : ℕ) × ((live x ≡ true) × (holds (w ∷ t) r x ≡ true))
   by true e f h = (
     w.0,
-    (and_left (live w.0) _ e, or_left (nat_eq w.0 w.0 && in_register r w.1) _ (and_of (nat_eq w.0 w.0) _ (eq-eqb w.0 w.0 refl) (and_right (live w.0) _ e))),
+    (and_left (live w.0) _ e, or_left (nat_eq w.0 w.0 && same_place w.1 (Reg r)) _ (and_of (nat_eq w.0 w.0) _ (eq-eqb w.0 w.0 refl) (and_right (live w.0) _ e))),
   )
-  by false e f h = let k = f h in (k.0, (k.1.0, or_right (nat_eq k.0 w.0 && in_register r w.1) _ k.1.1))
+  by false e f h = let k = f h in (k.0, (k.1.0, or_right (nat_eq k.0 w.0 && same_place w.1 (Reg r)) _ k.1.1))
 
 holder : (live : ℕ → Bool) (t : Table) (r x : ℕ) → live x ≡ true → holds t r x ≡ true → held live t r ≡ true
 holder live [] r x l h = absurd (cc)
-holder live (w ∷ t) r x l h = by (nat_eq x w.0 && in_register r w.1) refl (holder live t r x l) h where
-  by : (b : Bool) → (nat_eq x w.0 && in_register r w.1) ≡ b → (holds t r x ≡ true → held live t r ≡ true) → (b || holds t r x) ≡ true
-      → ((live w.0 && in_register r w.1) || held live t r) ≡ true
+holder live (w ∷ t) r x l h = by (nat_eq x w.0 && same_place w.1 (Reg r)) refl (holder live t r x l) h where
+  by : (b : Bool) → (nat_eq x w.0 && same_place w.1 (Reg r)) ≡ b → (holds t r x ≡ true → held live t r ≡ true) → (b || holds t r x) ≡ true
+      → ((live w.0 && same_place w.1 (Reg r)) || held live t r) ≡ true
   by true e f h =
-      or_left (live w.0 && in_register r w.1) _ (and_of (live w.0) _ (sym (ap live (eqb-true x w.0 (and_left (nat_eq x w.0) _ e))) ∙ l) (and_right (nat_eq x w.0) _ e))
-  by false e f h = or_right (live w.0 && in_register r w.1) _ (f h)
+      or_left (live w.0 && same_place w.1 (Reg r)) _ (and_of (live w.0) _ (sym (ap live (eqb-true x w.0 (and_left (nat_eq x w.0) _ e))) ∙ l) (and_right (nat_eq x w.0) _ e))
+  by false e f h = or_right (live w.0 && same_place w.1 (Reg r)) _ (f h)
 
 pub free_register : (t : Table) (r : ℕ) (s live m : NumberSet) (otherwise : Place) → IsHeld t r s → m ≡ set.intersection s live → m ≡ set.empty
     → Reg r ≡ cond (held (set.contains live) t r) otherwise (Reg r)
@@ -69,11 +69,11 @@ chain live t n p0 p1 p2 p3 p4 p5 p6 e e0 e1 e2 e3 e4 e5 e6 =
 
 -- ## A variable is given a place
 
-pub into_register : (t : Table) (r y : ℕ) (p : Place) (s s' : NumberSet) → in_register r p ≡ true → s' ≡ set.insert s y → IsHeld t r s → IsHeld ((y, p) ∷ t) r s'
+pub into_register : (t : Table) (r y : ℕ) (p : Place) (s s' : NumberSet) → same_place p (Reg r) ≡ true → s' ≡ set.insert s y → IsHeld t r s → IsHeld ((y, p) ∷ t) r s'
 into_register t r y p s s' here put h x =
     ap (λ q. set.contains q x) put ∙ (contains-insert s y x ∙ (ap (λ b. nat_eq x y || b) (h x) ∙ ap (λ b. b || holds t r x) (sym (ap (λ b. nat_eq x y && b) here ∙ and_true (nat_eq x y)))))
 
-pub elsewhere : (t : Table) (r y : ℕ) (p : Place) (s : NumberSet) → in_register r p ≡ false → IsHeld t r s → IsHeld ((y, p) ∷ t) r s
+pub elsewhere : (t : Table) (r y : ℕ) (p : Place) (s : NumberSet) → same_place p (Reg r) ≡ false → IsHeld t r s → IsHeld ((y, p) ∷ t) r s
 elsewhere t r y p s there h x = h x ∙ ap (λ b. b || holds t r x) (sym (ap (λ b. nat_eq x y && b) there ∙ and-false (nat_eq x y)))
 
 -- the list of places with one more

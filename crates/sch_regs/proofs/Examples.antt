@@ -1,5 +1,6 @@
 -- Worked rows: which places variables have.
 use Rattle.std.proofs.Common.{◌≡◌, ℕ, Bool, true, false, List, [], ◌∷◌, Option, Some, None, refl, ap, inl, inr, arith}
+use Rattle.std.proofs.lemmas.Bool.{false≢true}
 use Rattle.sch_word.specs.trees.NumberSets.{has}
 use Rattle.sch_word.specs.declared.place.Place.{Place}
 use Rattle.sch_word.specs.declared.place.Place.TheVariants.{Reg, Slot}
@@ -108,10 +109,7 @@ seven_place = place_of (places (with_formals 0) 10 seven)
 
 seven_full : SlotsWhenFull seven_place seven
 seven_full =
-    (register, (tt, (register, (tt, (register, (tt, (register, (tt, (register, (tt, (register, (tt, (full, (tt, (register, (tt, tt)))))))))))))))) where
-      register : {P : Type 0} → false ≡ true → P
-      register h = absurd (cc)
-
+    (λ h. absurd (false≢true h), (tt, (λ h. absurd (false≢true h), (tt, (λ h. absurd (false≢true h), (tt, (λ h. absurd (false≢true h), (tt, (λ h. absurd (false≢true h), (tt, (λ h. absurd (false≢true h), (tt, (full, (tt, (λ h. absurd (false≢true h), (tt, tt)))))))))))))))) where
       full : is_slot (seven_place 8) ≡ true → Full seven_place (λ x. Live x behind_seven (λ t. ⊥)) 8
       full h = (
         (2, ((λ e. omega (arith, e)), (inl refl, refl))),

@@ -5,7 +5,7 @@ use Rattle.std.specs.Bool.{MatchBool}
 use Rattle.std.proofs.lemmas.Bool.{ne_eqb}
 use Rattle.sch_word.specs.trees.NumberSets.{has, without_repeats}
 use Rattle.sch_word.proofs.facts.Booleans.{and_left, and_right, or_left, or_right, not_right, not_true, never_true}
-use Rattle.sch_word.proofs.facts.NumberSets.{has_append}
+use Rattle.sch_word.proofs.facts.NumberSets.{has_append, distinct_left, distinct_right}
 use Rattle.sch_control.specs.declared.operation.Member.{Member}
 use Rattle.sch_control.specs.AtomsAndSites.{member_atoms}
 use Rattle.sch_control.specs.Meaning.{binds}
@@ -13,7 +13,8 @@ use Rattle.sch_control.specs.Tree.{Expression, bind, sequence, branch, fix, retu
 use Rattle.sch_control.specs.Valid.{with_variable, with_members, in_scope_atoms, in_scope, member_variables, bound_in}
 use Rattle.sch_control.specs.flow.Apart.{Around}
 use Rattle.sch_control.specs.flow.Live.{Across, Live, Later}
-use Rattle.sch_paths.proofs.saves.LiveInScope.{Readable, Unbound, live_scope, repeats_left, repeats_right, repeats_apart, one_more, more_scope, outer_scope, binds_is, mentioned}
+use Rattle.sch_paths.proofs.saves.LiveInScope.{Unbound, live_scope, repeats_apart, one_more, more_scope, outer_scope, binds_is, mentioned}
+use Rattle.sch_paths.specs.Laws.{Readable}
 
 -- what is read is in scope, and what is bound is bound once and is not in scope before
 pub record Sits (e : Expression) (scope : ℕ → Bool) : Type 0 where
@@ -43,14 +44,14 @@ module _ (y : ℕ) (a b : Expression) (scope : ℕ → Bool) (s : Sits (bind y a
   pub bind_first : Sits a scope
   bind_first = record {
     scoped = and_left (in_scope a scope) _ s.scoped;
-    once = repeats_left (bound_in a) (bound_in b) (and_right (not (has y (bound_in a ++ bound_in b))) _ s.once);
+    once = distinct_left (bound_in a) (bound_in b) (and_right (not (has y (bound_in a ++ bound_in b))) _ s.once);
     unbound = λ x h. s.unbound x (or_right (nat_eq x y) _ (has_append x (bound_in a) (bound_in b) ∙ or_left (has x (bound_in a)) _ h));
   }
 
   pub bind_second : Sits b (with_variable y scope)
   bind_second = record {
     scoped = and_right (in_scope a scope) _ s.scoped;
-    once = repeats_right (bound_in a) (bound_in b) (and_right (not (has y (bound_in a ++ bound_in b))) _ s.once);
+    once = distinct_right (bound_in a) (bound_in b) (and_right (not (has y (bound_in a ++ bound_in b))) _ s.once);
     unbound = λ x h. one_more scope y x (bound_in b) h (not_right (has y (bound_in a)) _ (sym (has_append y (bound_in a) (bound_in b)) ∙ bind_once))
         (s.unbound x (or_right (nat_eq x y) _ (has_append x (bound_in a) (bound_in b) ∙ or_right (has x (bound_in a)) _ h)));
   }
@@ -76,14 +77,14 @@ module _ (a b : Expression) (scope : ℕ → Bool) (s : Sits (sequence a b) scop
   pub seq_first : Sits a scope
   seq_first = record {
     scoped = and_left (in_scope a scope) _ s.scoped;
-    once = repeats_left (bound_in a) (bound_in b) s.once;
+    once = distinct_left (bound_in a) (bound_in b) s.once;
     unbound = λ x h. s.unbound x (has_append x (bound_in a) (bound_in b) ∙ or_left (has x (bound_in a)) _ h);
   }
 
   pub seq_second : Sits b scope
   seq_second = record {
     scoped = and_right (in_scope a scope) _ s.scoped;
-    once = repeats_right (bound_in a) (bound_in b) s.once;
+    once = distinct_right (bound_in a) (bound_in b) s.once;
     unbound = λ x h. s.unbound x (has_append x (bound_in a) (bound_in b) ∙ or_right (has x (bound_in a)) _ h);
   }
 
@@ -96,14 +97,14 @@ module _ (a b c : Expression) (scope : ℕ → Bool) (s : Sits (branch a b c) sc
   pub branch_first : Sits a scope
   branch_first = record {
     scoped = and_left (in_scope a scope) _ s.scoped;
-    once = repeats_left (bound_in a) (bound_in b ++ bound_in c) s.once;
+    once = distinct_left (bound_in a) (bound_in b ++ bound_in c) s.once;
     unbound = λ x h. s.unbound x (has_append x (bound_in a) (bound_in b ++ bound_in c) ∙ or_left (has x (bound_in a)) _ h);
   }
 
   arms : Sits (sequence b c) scope
   arms = record {
     scoped = and_right (in_scope a scope) _ s.scoped;
-    once = repeats_right (bound_in a) (bound_in b ++ bound_in c) s.once;
+    once = distinct_right (bound_in a) (bound_in b ++ bound_in c) s.once;
     unbound = λ x h. s.unbound x (has_append x (bound_in a) (bound_in b ++ bound_in c) ∙ or_right (has x (bound_in a)) _ h);
   }
 
@@ -135,12 +136,12 @@ module _ (members : List (Member ℕ)) (e : Expression) (scope : ℕ → Bool) (
   fix_outer x h = never_true (has x (member_variables members)) (λ m. repeats_apart (member_variables members) (bound_in e) s.once x m h)
 
   pub members_once : without_repeats (member_variables members) ≡ true
-  members_once = repeats_left (member_variables members) (bound_in e) s.once
+  members_once = distinct_left (member_variables members) (bound_in e) s.once
 
   pub fix_inner : Sits e (with_members members scope)
   fix_inner = record {
     scoped = and_right (in_scope_atoms (with_members members scope) (member_atoms members)) _ s.scoped;
-    once = repeats_right (member_variables members) (bound_in e) s.once;
+    once = distinct_right (member_variables members) (bound_in e) s.once;
     unbound = λ x h w.
         s.unbound x (has_append x (member_variables members) (bound_in e) ∙ or_right (has x (member_variables members)) _ h) (elim w [
           | inl z ↦ inl z

@@ -4,10 +4,10 @@ use Rattle.std.specs.Prelude.{not, nat_eq, ◌&&◌, ◌||◌, cond}
 use Rattle.std.proofs.lemmas.Bool.{eqb-true, eq-eqb}
 use Rattle.sch_word.specs.trees.NumberSets.{has, without_repeats}
 use Rattle.sch_word.proofs.facts.Booleans.{and_left, and_right, or_left, or_right, not_left, not_right, not_true, false_true, never_true}
-use Rattle.sch_word.proofs.facts.NumberSets.{has_append}
+use Rattle.sch_word.proofs.facts.NumberSets.{has_append, distinct_left, distinct_right}
 use Rattle.sch_control.specs.Tree.{Expression, perform, bind, sequence, branch, fix, call, tail_call, return, end, save}
 use Rattle.sch_control.specs.Valid.{member_variables, bound_in}
-use Rattle.sch_paths.proofs.saves.LiveInScope.{repeats_left, repeats_right, repeats_apart}
+use Rattle.sch_paths.proofs.saves.LiveInScope.{repeats_apart}
 use Rattle.sch_control.specs.flow.LiveTests.{is_live, Behind}
 use Rattle.sch_regs.specs.PlaceChoice.{around}
 use Rattle.sch_regs.specs.NotedSets.{Noted, IsNoted, put, put_group, note}
@@ -87,28 +87,28 @@ notes (bind y a b) once l n =
     let la : Behind = λ x r. not (nat_eq x y) && is_live x b (l x) in (
       λ x. ap (λ f. f x) (note_kept a la n2 y (not_left (has y (bound_in a)) _ no_y) ∙ ap (λ t. cond t live (n1 y)) (eq-eqb y y refl)),
       (
-        notes a (repeats_left (bound_in a) (bound_in b) rest) la n2,
+        notes a (distinct_left (bound_in a) (bound_in b) rest) la n2,
         noted_same b l n1 (note a la n2) (λ z h. note_kept a la n2 z (apart (bound_in a) (bound_in b) rest z h)
             ∙ ap (λ t. cond t live (n1 z)) (never_true (nat_eq z y) (λ e. false_true h (ap (λ k. has k (bound_in b)) (eqb-true z y e) ∙ not_right (has y (bound_in a)) _ no_y))))
-            (notes b (repeats_right (bound_in a) (bound_in b) rest) l n),
+            (notes b (distinct_right (bound_in a) (bound_in b) rest) l n),
       ),
     )
 notes (sequence a b) once l n = (
-  notes a (repeats_left (bound_in a) (bound_in b) once) _ _,
-  noted_same b l (note b l n) _ (λ z h. note_kept a _ _ z (apart (bound_in a) (bound_in b) once z h)) (notes b (repeats_right (bound_in a) (bound_in b) once) l n),
+  notes a (distinct_left (bound_in a) (bound_in b) once) _ _,
+  noted_same b l (note b l n) _ (λ z h. note_kept a _ _ z (apart (bound_in a) (bound_in b) once z h)) (notes b (distinct_right (bound_in a) (bound_in b) once) l n),
 )
 notes (branch a b c) once l n =
-    let arms = repeats_right (bound_in a) (bound_in b ++ bound_in c) once in
+    let arms = distinct_right (bound_in a) (bound_in b ++ bound_in c) once in
     let n1 : Noted = note c l n in
     let n2 : Noted = note b l n1 in
     let past : (z : ℕ) → has z (bound_in b ++ bound_in c) ≡ true → note (branch a b c) l n z ≡ n2 z
     = λ z h. note_kept a _ n2 z (apart (bound_in a) (bound_in b ++ bound_in c) once z h) in (
-      notes a (repeats_left (bound_in a) (bound_in b ++ bound_in c) once) _ n2,
+      notes a (distinct_left (bound_in a) (bound_in b ++ bound_in c) once) _ n2,
       (
-        noted_same b l n2 _ (λ z h. past z (has_append z (bound_in b) (bound_in c) ∙ or_left (has z (bound_in b)) _ h)) (notes b (repeats_left (bound_in b) (bound_in c) arms) l n1),
+        noted_same b l n2 _ (λ z h. past z (has_append z (bound_in b) (bound_in c) ∙ or_left (has z (bound_in b)) _ h)) (notes b (distinct_left (bound_in b) (bound_in c) arms) l n1),
         noted_same c l n1 _
             (λ z h. past z (has_append z (bound_in b) (bound_in c) ∙ or_right (has z (bound_in b)) _ h) ∙ note_kept b l n1 z (apart (bound_in b) (bound_in c) arms z h))
-            (notes c (repeats_right (bound_in b) (bound_in c) arms) l n),
+            (notes c (distinct_right (bound_in b) (bound_in c) arms) l n),
       ),
     )
 notes (fix [] e) once l n = ((λ y h. absurd (false_true h refl)), notes e once l n)
@@ -117,7 +117,7 @@ notes (fix (m ∷ members) e) once l n =
     let ys : List ℕ = m.at ∷ member_variables members in
     let n1 : Noted = note e l n in (
       λ y h x. ap (λ t. cond t live (n1 m.at) x) (eq-eqb m.at m.at refl),
-      noted_same e l n1 (put m.at live n1) (λ z h. put_kept ys live n1 z (apart ys (bound_in e) once z h)) (notes e (repeats_right ys (bound_in e) once) l n),
+      noted_same e l n1 (put m.at live n1) (λ z h. put_kept ys live n1 z (apart ys (bound_in e) once z h)) (notes e (distinct_right ys (bound_in e) once) l n),
     )
 notes (call a restores) once l n = tt
 notes (tail_call a) once l n = tt

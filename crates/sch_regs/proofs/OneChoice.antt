@@ -9,25 +9,25 @@ use Rattle.sch_word.specs.values.Registers.{argument_registers}
 use Rattle.sch_word.proofs.facts.Booleans.{and_left, and_right, and_of, or_left, or_right, neither, not_left, not_right, false_true, not_true, never_true, or_around}
 use Rattle.sch_word.proofs.facts.NumberSets.{has_append}
 use Rattle.sch_control.specs.flow.Apart.{EachHas, Alone}
-use Rattle.sch_word.specs.values.Places.{is_slot}
+use Rattle.sch_word.specs.values.Places.{is_slot, same_place}
 use Rattle.sch_word.proofs.facts.Places.{slot_number}
 use Rattle.sch_control.proofs.NumberLists.{has_filter, once_filter}
 use Rattle.sch_control.proofs.VariableLists.{each_at}
-use Rattle.sch_regs.specs.PlaceChoice.{Table, placed, place_in, in_register, slots, held, first_free, choose, choose_each, live_first}
+use Rattle.sch_regs.specs.PlaceChoice.{Table, placed, place_in, slots, held, first_free, choose, choose_each, live_first}
 use Rattle.sch_regs.specs.Spills.{InSlotWhenFull}
 
 -- ## What is held
 
-pub is_register : (p : Place) (r : ℕ) → in_register r p ≡ true → p ≡ Reg r
+pub is_register : (p : Place) (r : ℕ) → same_place p (Reg r) ≡ true → p ≡ Reg r
 is_register (Reg q) r h = ap Reg (eqb-true q r h)
 is_register (Slot k) r h = absurd (cc)
 
-not_register : (p : Place) (r : ℕ) → in_register r p ≡ false → p ≢ Reg r
-not_register p r h e = false_true (ap (in_register r) e ∙ eq-eqb r r refl) h
+not_register : (p : Place) (r : ℕ) → same_place p (Reg r) ≡ false → p ≢ Reg r
+not_register p r h e = false_true (ap (λ q. same_place q (Reg r)) e ∙ eq-eqb r r refl) h
 
 held_none : (live : ℕ → Bool) (t : Table) (r : ℕ) → held live t r ≡ false → (x : ℕ) → has x (placed t) ≡ true → live x ≡ true → place_in t x ≢ Reg r
 held_none live [] r h x m l = absurd (cc)
-held_none live (w ∷ t) r h x m l = by (nat_eq x w.0) refl (held_none live t r (not_right (live w.0 && in_register r w.1) _ h) x) m where
+held_none live (w ∷ t) r h x m l = by (nat_eq x w.0) refl (held_none live t r (not_right (live w.0 && same_place w.1 (Reg r)) _ h) x) m where
   second : (b c : Bool) → b ≡ true → (b && c) ≡ false → c ≡ false
   second true c e h = h
   second false c e h = absurd (cc)
@@ -35,7 +35,7 @@ held_none live (w ∷ t) r h x m l = by (nat_eq x w.0) refl (held_none live t r 
   by : (b : Bool) → nat_eq x w.0 ≡ b → (has x (placed t) ≡ true → live x ≡ true → place_in t x ≢ Reg r) → (b || has x (placed t)) ≡ true
       → cond b w.1 (place_in t x) ≢ Reg r
   by true e f m =
-      not_register w.1 r (second (live w.0) _ (sym (ap live (eqb-true x w.0 e)) ∙ l) (not_left (live w.0 && in_register r w.1) _ h))
+      not_register w.1 r (second (live w.0) _ (sym (ap live (eqb-true x w.0 e)) ∙ l) (not_left (live w.0 && same_place w.1 (Reg r)) _ h))
   by false e f m = f m l
 
 -- a variable that holds a register
@@ -45,8 +45,8 @@ Holder live t r = (x : ℕ) × ((has x (placed t) ≡ true) × ((live x ≡ true
 held_some : (live : ℕ → Bool) (t : Table) (r : ℕ) → without_repeats (placed t) ≡ true → held live t r ≡ true → Holder live t r
 held_some live [] r o h = absurd (cc)
 held_some live (w ∷ t) r o h =
-    by (live w.0 && in_register r w.1) refl (held_some live t r (and_right (not (has w.0 (placed t))) _ o)) h where
-      by : (b : Bool) → (live w.0 && in_register r w.1) ≡ b → (held live t r ≡ true → Holder live t r) → (b || held live t r) ≡ true → Holder live (w ∷ t) r
+    by (live w.0 && same_place w.1 (Reg r)) refl (held_some live t r (and_right (not (has w.0 (placed t))) _ o)) h where
+      by : (b : Bool) → (live w.0 && same_place w.1 (Reg r)) ≡ b → (held live t r ≡ true → Holder live t r) → (b || held live t r) ≡ true → Holder live (w ∷ t) r
       by true e f h = (
         w.0,
         (

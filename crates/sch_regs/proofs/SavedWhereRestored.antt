@@ -7,11 +7,12 @@ use Rattle.std.specs.List.{list_all}
 use Rattle.std.proofs.lemmas.Bool.{or_cases}
 use Rattle.sch_word.specs.trees.NumberSets.{has, without_repeats}
 use Rattle.sch_word.proofs.facts.Booleans.{and_left, and_right, or_right}
-use Rattle.sch_control.specs.Meaning.{binds, with_region}
+use Rattle.sch_control.specs.Meaning.{binds, with_region, no_region}
 use Rattle.sch_control.specs.Tree.{Expression, perform, bind, sequence, branch, fix, call, tail_call, return, end, save}
 use Rattle.sch_control.specs.flow.Live.{known, ByResult, Across, MayGive, Live, Soon, Later}
 use Rattle.sch_control.specs.flow.Regions.{restores_saved}
-use Rattle.sch_control.proofs.VariableLists.{each_passes, heads_has}
+use Rattle.sch_control.proofs.VariableLists.{heads_has}
+use Rattle.sch_word.proofs.facts.NumberSets.{each_passes}
 use Rattle.sch_paths.specs.Conditions.{Saved, Restored, Fresh}
 
 -- what is live behind an expression is wanted soon there, or is saved round it
@@ -23,17 +24,11 @@ by_result (Some t) L S I f l = f t refl l
 by_result None L S I f (inl l) = elim (f true (inl refl) l) [ inl s ↦ inl (inl s) | inr i ↦ inr i ]
 by_result None L S I f (inr l) = elim (f false (inr refl) l) [ inl s ↦ inl (inr s) | inr i ↦ inr i ]
 
-differ : true ≡ false → ⊥
-differ h = cc
-
 -- what a call restores is inside a region
 call_kept : (inside : ℕ → Bool) (restores : List ℕ) → (without_repeats restores && list_all inside restores) ≡ true → (x : ℕ) → has x restores ≡ true → inside x ≡ true
 call_kept inside restores h x m = each_passes inside restores (and_right (without_repeats restores) _ h) x m
 
-abbrev none_kept : ℕ → Bool
-none_kept x = false
-
-kept_live : (e : Expression) (Met : Type 0) → Met → (inside : ℕ → Bool) (L S : Later) → Restored none_kept e Met L S → restores_saved e inside ≡ true → Fresh e L
+kept_live : (e : Expression) (Met : Type 0) → Met → (inside : ℕ → Bool) (L S : Later) → Restored no_region e Met L S → restores_saved e inside ≡ true → Fresh e L
     → Kept e Met inside L S → (x : ℕ) → Live x e (L x) → Soon x e (S x) ⊎ (inside x ≡ true)
 kept_live (perform o) Met met inside L S r v f k x (inl m) = inl (inl m)
 kept_live (perform o) Met met inside L S r v f k x (inr l) =
@@ -78,7 +73,7 @@ kept_live (save saves e) Met met inside L S r v f k x l =
       by false b h = inl (inl (heads_has e saves x h b))
 
 module _ (keeps : ℕ → Bool) where
-  pub saved : (e : Expression) (Met : Type 0) (inside : ℕ → Bool) (L S : Later) → Restored none_kept e Met L S → restores_saved e inside ≡ true → Fresh e L
+  pub saved : (e : Expression) (Met : Type 0) (inside : ℕ → Bool) (L S : Later) → Restored no_region e Met L S → restores_saved e inside ≡ true → Fresh e L
       → Kept e Met inside L S → Saved keeps e Met inside L
   saved (perform o) Met inside L S r v f k = tt
   saved (bind y a b) Met inside L S r v f k = (

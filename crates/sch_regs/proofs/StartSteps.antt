@@ -1,12 +1,12 @@
 -- What the walks over a body begin with.
-use Rattle.std.proofs.Common.{◌≡◌, ℕ, zero, suc, ◌+◌, ◌-◌, ◌≤◌, List, [], ◌∷◌, replicate, refl, ap, ◌∙◌, sym, arith}
+use Rattle.std.proofs.Common.{◌≡◌, ℕ, zero, suc, ◌+◌, List, [], ◌∷◌, replicate, refl, ap, ◌∙◌, sym, arith}
 use Rattle.std.specs.Prelude.{map}
 use Rattle.std.specs.FinSet as set
 use Rattle.sch_sets.specs.Members.{NumberSet}
 use Rattle.sch_sets.proofs.Membership.{contains-empty}
 use Rattle.sch_word.specs.trees.Bindings.{numbers}
 use Rattle.sch_word.specs.declared.place.Place.{Place}
-use Rattle.sch_word.specs.declared.place.Place.TheVariants.{Reg, Slot}
+use Rattle.sch_word.specs.declared.place.Place.TheVariants.{Reg}
 use Rattle.sch_control.specs.flow.Places.{arrival}
 use Rattle.sch_regs.specs.PlaceChoice.{place_in, in_order, arrived}
 use Rattle.sch_regs.specs.Shows.{IsHeld}
@@ -20,15 +20,6 @@ same_places k (suc n) = ap (λ q. Reg 3 ∷ q) (same_places (suc k) n)
 
 pub none_listed : (n : ℕ) (ps : List Place) → ps ≡ replicate n (Reg 3) → ps ≡ in_order n []
 none_listed n ps h = h ∙ same_places 0 n
-
-pub late_arrival : (k : ℕ) → 6 ≤ k → Slot (k - 6) ≡ arrival k
-late_arrival zero h = absurd (omega (arith, h))
-late_arrival (suc zero) h = absurd (omega (arith, h))
-late_arrival (suc (suc zero)) h = absurd (omega (arith, h))
-late_arrival (suc (suc (suc zero))) h = absurd (omega (arith, h))
-late_arrival (suc (suc (suc (suc zero)))) h = absurd (omega (arith, h))
-late_arrival (suc (suc (suc (suc (suc zero))))) h = absurd (omega (arith, h))
-late_arrival (suc (suc (suc (suc (suc (suc k)))))) h = ap Slot (omega arith)
 
 pub arrived_next : (k y n : ℕ) (p : Place) → y ≡ 2 + k → p ≡ arrival k → n ≡ k + 1 → (y, p) ∷ arrived k ≡ arrived n
 arrived_next k y n p e h l =

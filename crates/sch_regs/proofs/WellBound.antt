@@ -6,12 +6,13 @@ use Rattle.sch_word.specs.trees.NumberSets.{has, without_repeats}
 use Rattle.sch_word.specs.declared.place.Place.{Place}
 use Rattle.sch_word.specs.declared.place.Place.TheVariants.{Reg}
 use Rattle.sch_word.proofs.facts.Booleans.{and_left, and_right, and_of, or_left, or_right, not_left, not_right, not_true, neither, false_true, never_true, or_around}
-use Rattle.sch_word.proofs.facts.NumberSets.{has_append}
+use Rattle.sch_word.proofs.facts.NumberSets.{has_append, distinct_left, distinct_right}
 use Rattle.sch_control.specs.Tree.{Expression, perform, bind, sequence, branch, fix, call, tail_call, return, end, save}
 use Rattle.sch_control.specs.Valid.{with_variable, with_members, member_variables, bound_in}
 use Rattle.sch_control.specs.flow.Live.{Live, Later}
 use Rattle.sch_paths.proofs.paths.LiveByPaths.{itself, then_is, either_same, both_same}
-use Rattle.sch_paths.proofs.saves.LiveInScope.{Readable, outer_scope, repeats_left, repeats_right, repeats_apart}
+use Rattle.sch_paths.proofs.saves.LiveInScope.{outer_scope, repeats_apart}
+use Rattle.sch_paths.specs.Laws.{Readable}
 use Rattle.sch_control.specs.flow.LiveTests.{is_live, Behind}
 use Rattle.sch_regs.specs.PlaceChoice.{Table, placed, place_in, slots, choose, choose_each, live_first, around, assign}
 use Rattle.sch_word.specs.values.Registers.{argument_registers}
@@ -153,29 +154,29 @@ assign_once (bind y a b) l t new once o =
     assign_once b l (choose (λ x. is_live x b (l x)) y t1)
     (λ x h. neither (nat_eq x y) (has x (placed t1))
     (never_true (nat_eq x y) (λ e. false_true h (ap (λ z. has z (bound_in b)) (eqb-true x y e) ∙ not_right (has y (bound_in a)) _ no_y))) (new_1 x h))
-    (repeats_right (bound_in a) (bound_in b) rest)
-    (and_of (not (has y (placed t1))) _ (ap not y_new) (assign_once a la t new_a (repeats_left (bound_in a) (bound_in b) rest) o))
+    (distinct_right (bound_in a) (bound_in b) rest)
+    (and_of (not (has y (placed t1))) _ (ap not y_new) (assign_once a la t new_a (distinct_left (bound_in a) (bound_in b) rest) o))
 assign_once (sequence a b) l t new once o =
     let la : Behind = λ x r. is_live x b (l x) in
     assign_once b l (assign a la t)
     (new_more (bound_in b) a la t (λ x h. new x (has_append x (bound_in a) (bound_in b) ∙ or_right (has x (bound_in a)) _ h))
     (λ x h. never_true (has x (bound_in b)) (repeats_apart (bound_in a) (bound_in b) once x h)))
-    (repeats_right (bound_in a) (bound_in b) once)
-    (assign_once a la t (λ x h. new x (has_append x (bound_in a) (bound_in b) ∙ or_left (has x (bound_in a)) _ h)) (repeats_left (bound_in a) (bound_in b) once) o)
+    (distinct_right (bound_in a) (bound_in b) once)
+    (assign_once a la t (λ x h. new x (has_append x (bound_in a) (bound_in b) ∙ or_left (has x (bound_in a)) _ h)) (distinct_left (bound_in a) (bound_in b) once) o)
 assign_once (branch a b c) l t new once o =
     let la : Behind = λ x r. cond r (is_live x b (l x)) (is_live x c (l x)) in
     let t1 : Table = assign a la t in
-    let arms = repeats_right (bound_in a) (bound_in b ++ bound_in c) once in
+    let arms = distinct_right (bound_in a) (bound_in b ++ bound_in c) once in
     let new_arms : New (bound_in b ++ bound_in c) t1
     = new_more (bound_in b ++ bound_in c) a la t (λ x h. new x (has_append x (bound_in a) (bound_in b ++ bound_in c) ∙ or_right (has x (bound_in a)) _ h))
     (λ x h. never_true (has x (bound_in b ++ bound_in c)) (repeats_apart (bound_in a) (bound_in b ++ bound_in c) once x h)) in
     assign_once c l (assign b l t1)
     (new_more (bound_in c) b l t1 (λ x h. new_arms x (has_append x (bound_in b) (bound_in c) ∙ or_right (has x (bound_in b)) _ h))
     (λ x h. never_true (has x (bound_in c)) (repeats_apart (bound_in b) (bound_in c) arms x h)))
-    (repeats_right (bound_in b) (bound_in c) arms)
-    (assign_once b l t1 (λ x h. new_arms x (has_append x (bound_in b) (bound_in c) ∙ or_left (has x (bound_in b)) _ h)) (repeats_left (bound_in b) (bound_in c) arms)
+    (distinct_right (bound_in b) (bound_in c) arms)
+    (assign_once b l t1 (λ x h. new_arms x (has_append x (bound_in b) (bound_in c) ∙ or_left (has x (bound_in b)) _ h)) (distinct_left (bound_in b) (bound_in c) arms)
     (assign_once a la t (λ x h. new x (has_append x (bound_in a) (bound_in b ++ bound_in c) ∙ or_left (has x (bound_in a)) _ h))
-    (repeats_left (bound_in a) (bound_in b ++ bound_in c) once) o))
+    (distinct_left (bound_in a) (bound_in b ++ bound_in c) once) o))
 assign_once (fix members e) l t new once o =
     let ys : List ℕ = member_variables members in
     let live : ℕ → Bool = around members (λ x. is_live x e (l x)) in
@@ -184,8 +185,8 @@ assign_once (fix members e) l t new once o =
     (λ x h. each_placed live order t x ∙ (ap (λ z. z || has x (placed t)) (has_ordered live ys x)
     ∙ neither (has x ys) (has x (placed t)) (never_true (has x ys) (λ m. repeats_apart ys (bound_in e) once x m h))
     (new x (has_append x ys (bound_in e) ∙ or_right (has x ys) _ h))))
-    (repeats_right ys (bound_in e) once)
-    (each_once live order t (ordered_once live ys (repeats_left ys (bound_in e) once))
+    (distinct_right ys (bound_in e) once)
+    (each_once live order t (ordered_once live ys (distinct_left ys (bound_in e) once))
     (λ x h. new x (has_append x ys (bound_in e) ∙ or_left (has x ys) _ (sym (has_ordered live ys x) ∙ h))) o)
 assign_once (call a restores) l t new once o = o
 assign_once (tail_call a) l t new once o = o

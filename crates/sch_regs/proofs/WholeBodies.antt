@@ -15,12 +15,12 @@ use Rattle.sch_control.specs.flow.Apart.{EachBinding, Alone, EachBoundAlone, Eac
 use Rattle.sch_control.specs.flow.Bare.{erased}
 use Rattle.sch_control.specs.flow.Live.{Live, nothing_later}
 use Rattle.sch_word.specs.values.Places.{is_slot, link_place, closure_place}
-use Rattle.sch_control.specs.flow.Places.{place_of, count_slots, arrival, formals_of, stays, is_usual}
-use Rattle.sch_control.proofs.NumberLists.{once_from, has_first}
-use Rattle.sch_control.proofs.VariableLists.{each_passes}
+use Rattle.sch_control.specs.flow.Places.{place_of, count_slots, arrival, formals_of, stays, is_usual, variable_arrival}
+use Rattle.sch_control.proofs.NumberLists.{has_first}
+use Rattle.sch_word.proofs.facts.NumberSets.{each_passes, distinct_numbers, numbers_mapped}
 use Rattle.sch_paths.proofs.paths.UnlistedPaths.{positioned_erased}
 use Rattle.sch_paths.proofs.runs.RestoresAreEnough.{scope_erased, bound_erased, valid_once, valid_unbound}
-use Rattle.sch_paths.proofs.saves.LiveInScope.{Readable}
+use Rattle.sch_paths.specs.Laws.{Readable}
 use Rattle.sch_regs.specs.PlaceChoice.{Table, placed, place_in, slots, arrived, nothing_behind, table_of, places}
 use Rattle.sch_regs.specs.Spills.{InSlotWhenFull, SlotsWhenFull}
 use Rattle.sch_regs.proofs.UsualPlaces.{proper, proper_of, assign_proper, first_proper, usual_of}
@@ -31,11 +31,6 @@ use Rattle.sch_regs.proofs.WellBound.{New, well, assign_placed, assign_kept, ass
 
 -- ## Arrivals
 
-abbrev pub entry_place : ℕ → Place
-entry_place zero = link_place
-entry_place (suc zero) = closure_place
-entry_place (suc (suc k)) = arrival k
-
 abbrev rank_of : ℕ → ℕ
 rank_of r =
     cond (nat_eq r 15) 0 (cond (nat_eq r 14) 1 (cond (nat_eq r 3) 2 (cond (nat_eq r 8) 3 (cond (nat_eq r 9) 4 (cond (nat_eq r 10) 5 (cond (nat_eq r 6) 6 7))))))
@@ -44,19 +39,19 @@ abbrev rank : Place → ℕ
 rank (Reg r) = rank_of r
 rank (Slot k) = suc (suc (suc (suc (suc (suc (suc (suc k)))))))
 
-rank_entry_place : (x : ℕ) → rank (entry_place x) ≡ x
-rank_entry_place zero = refl
-rank_entry_place (suc zero) = refl
-rank_entry_place (suc (suc zero)) = refl
-rank_entry_place (suc (suc (suc zero))) = refl
-rank_entry_place (suc (suc (suc (suc zero)))) = refl
-rank_entry_place (suc (suc (suc (suc (suc zero))))) = refl
-rank_entry_place (suc (suc (suc (suc (suc (suc zero)))))) = refl
-rank_entry_place (suc (suc (suc (suc (suc (suc (suc zero))))))) = refl
-rank_entry_place (suc (suc (suc (suc (suc (suc (suc (suc k)))))))) = refl
+rank_variable_arrival : (x : ℕ) → rank (variable_arrival x) ≡ x
+rank_variable_arrival zero = refl
+rank_variable_arrival (suc zero) = refl
+rank_variable_arrival (suc (suc zero)) = refl
+rank_variable_arrival (suc (suc (suc zero))) = refl
+rank_variable_arrival (suc (suc (suc (suc zero)))) = refl
+rank_variable_arrival (suc (suc (suc (suc (suc zero))))) = refl
+rank_variable_arrival (suc (suc (suc (suc (suc (suc zero)))))) = refl
+rank_variable_arrival (suc (suc (suc (suc (suc (suc (suc zero))))))) = refl
+rank_variable_arrival (suc (suc (suc (suc (suc (suc (suc (suc k)))))))) = refl
 
-entry_place_apart : (x y : ℕ) → x ≢ y → entry_place x ≢ entry_place y
-entry_place_apart x y n e = n (sym (rank_entry_place x) ∙ (ap rank e ∙ rank_entry_place y))
+variable_arrival_apart : (x y : ℕ) → x ≢ y → variable_arrival x ≢ variable_arrival y
+variable_arrival_apart x y n e = n (sym (rank_variable_arrival x) ∙ (ap rank e ∙ rank_variable_arrival y))
 
 -- ## The first table
 
@@ -79,13 +74,13 @@ below_placed (suc n) x h = by (nat_eq x (suc (suc n))) refl (below_placed n x) w
   by true e f = refl
   by false e f = f (grind (arith, nat_tests, e, h))
 
-first_place : (n x : ℕ) → x < suc (suc n) → place_in (arrived n) x ≡ entry_place x
+first_place : (n x : ℕ) → x < suc (suc n) → place_in (arrived n) x ≡ variable_arrival x
 first_place zero zero h = refl
 first_place zero (suc zero) h = refl
 first_place zero (suc (suc x)) h = absurd (omega (arith, h))
 first_place (suc n) x h = by (nat_eq x (suc (suc n))) refl (first_place n x) where
-  by : (b : Bool) → nat_eq x (suc (suc n)) ≡ b → (x < suc (suc n) → place_in (arrived n) x ≡ entry_place x) → cond b (arrival n) (place_in (arrived n) x) ≡ entry_place x
-  by true e f = sym (ap entry_place (eqb-true x (suc (suc n)) e))
+  by : (b : Bool) → nat_eq x (suc (suc n)) ≡ b → (x < suc (suc n) → place_in (arrived n) x ≡ variable_arrival x) → cond b (arrival n) (place_in (arrived n) x) ≡ variable_arrival x
+  by true e f = sym (ap variable_arrival (eqb-true x (suc (suc n)) e))
   by false e f = f (grind (arith, nat_tests, e, h))
 
 six_more : (k : ℕ) → slots (arrived (suc (suc (suc (suc (suc (suc k))))))) ≡ k
@@ -127,10 +122,6 @@ pub place_at : (f : ℕ → Place) (k n x : ℕ) → x < n → place_of (map f (
 place_at f k zero x l = absurd (omega (arith, l))
 place_at f k (suc n) zero l = ap f (omega arith)
 place_at f k (suc n) (suc x) l = place_at f (suc k) n x (omega (arith, l)) ∙ ap f (omega arith)
-
-pub count_places : (f : ℕ → Place) (k n : ℕ) → length (map f (numbers k n)) ≡ n
-count_places f k zero = refl
-count_places f k (suc n) = ap suc (count_places f (suc k) n)
 
 -- a number of slots, one more where a place is one
 abbrev more : Place → ℕ → ℕ
@@ -265,7 +256,7 @@ module _ (c : Code) (e : Expression) (is : erased e ≡ c.expression) (i : in_sc
   listed_at : (x : ℕ) → x < c.variables → place_of ps x ≡ place_in t x
   listed_at x l = place_at (place_in t) 0 c.variables x l ∙ ap (place_in t) (omega arith)
 
-  at_entry : (x : ℕ) → x < suc (suc n0) → place_of ps x ≡ entry_place x
+  at_entry : (x : ℕ) → x < suc (suc n0) → place_of ps x ≡ variable_arrival x
   at_entry x h =
       let k = enough in
       listed_at x (omega (arith, h, k))
@@ -273,7 +264,7 @@ module _ (c : Code) (e : Expression) (is : erased e ≡ c.expression) (i : in_sc
 
   pub slots_same : count_slots ps ≡ slots t
   slots_same =
-      slots_listed t (numbers 0 c.variables) (once_from 0 c.variables) once
+      slots_listed t (numbers 0 c.variables) (distinct_numbers 0 c.variables) once
       (λ x h. has_first x c.variables ∙ (let lt = within x h in grind (arith, nat_tests, lt)))
 
   well_bound : EachBinding (WellBound (place_of ps)) e nothing_later
@@ -287,14 +278,14 @@ module _ (c : Code) (e : Expression) (is : erased e ≡ c.expression) (i : in_sc
   entry_alone : EnteredAlone (place_of ps) (2 + n0) e
   entry_alone y h x l differ same =
       let lx : x < suc (suc n0) = live_entered x l in
-      entry_place_apart x y differ (sym (at_entry x lx) ∙ (same ∙ at_entry y (omega (arith, h))))
+      variable_arrival_apart x y differ (sym (at_entry x lx) ∙ (same ∙ at_entry y (omega (arith, h))))
 
   pub is_placed : IsPlaced c.entry c.variables e ps
   is_placed =
       let stay : (k : ℕ) → k < n0 → place_of ps (2 + k) ≡ arrival k = λ k h. ap (place_of ps) (omega arith) ∙ at_entry (suc (suc k)) (omega (arith, h)) in
       let alone : EachBoundAlone (place_of ps) e = each_binding (WellBound (place_of ps)) (Alone (place_of ps)) (λ live y w. w.0) e nothing_later well_bound in
       record {
-        whole = count_places (place_in t) 0 c.variables;
+        whole = numbers_mapped (place_in t) 0 c.variables;
         link = at_entry 0 (omega arith);
         closure = at_entry 1 (omega arith);
         usual = λ x l m.

@@ -11,7 +11,7 @@ use Rattle.sch_control.specs.AtomsAndSites.{member_atoms}
 use Rattle.sch_control.specs.Tree.{Expression, perform, bind, sequence, branch, fix, call, tail_call, return, end, save}
 use Rattle.sch_control.specs.Valid.{member_variables}
 use Rattle.sch_control.specs.flow.Live.{named}
-use Rattle.sch_word.specs.values.Places.{is_slot, link_place, closure_place}
+use Rattle.sch_word.specs.values.Places.{is_slot, link_place, closure_place, same_place}
 use Rattle.sch_control.specs.flow.Places.{arrival, formals_of}
 use Rattle.sch_control.specs.flow.LiveTests.{is_live, Behind}
 
@@ -41,14 +41,10 @@ in_order count t = map (place_in t) (numbers 0 count)
 
 -- ## The choice
 
-abbrev pub in_register : (register : ℕ) → Place → Bool
-in_register r (Reg q) = nat_eq q r
-in_register r (Slot k) = false
-
 -- a variable that is live is in that register
 abbrev pub held : (live : ℕ → Bool) → Table → (register : ℕ) → Bool
 held live [] r = false
-held live (w ∷ t) r = (live w.0 && in_register r w.1) || held live t r
+held live (w ∷ t) r = (live w.0 && same_place w.1 (Reg r)) || held live t r
 
 -- the first register that holds no live variable, or else the next slot
 abbrev pub first_free : (live : ℕ → Bool) → Table → (registers : List ℕ) → Place

@@ -1,15 +1,17 @@
 -- What the walk over a body keeps, as the table that it stands for.
 use Rattle.std.specs.Prelude.{◌≡◌, ◌<◌, ◌^◌, ℕ, Bool, false, ◌||◌, ◌&&◌, nat_eq, not, cond, filter, List, [], ◌∷◌}
 use Rattle.std.specs.FinSet as set
+use Rattle.sch_word.specs.declared.place.Place.TheVariants.{Reg}
+use Rattle.sch_word.specs.values.Places.{same_place}
 use Rattle.sch_sets.specs.Members.{NumberSet}
-use Rattle.sch_regs.specs.PlaceChoice.{Table, in_register, slots, in_order, choose_each, live_first}
+use Rattle.sch_regs.specs.PlaceChoice.{Table, slots, in_order, choose_each, live_first}
 use Rattle.sch_regs.specs.declared.placing.Placing.{Placing}
-use Rattle.sch_regs.specs.declared.placing.TheConstants.{R8, R9, R10, RBX, RDI, RSI}
+use Rattle.sch_word.specs.declared.registers.TheConstants.{R8, R9, R10, RBX, RDI, RSI}
 
 -- a variable is in that register, by some entry of the table
 abbrev pub holds : Table → (register : ℕ) → ℕ → Bool
 holds [] r x = false
-holds (w ∷ t) r x = (nat_eq x w.0 && in_register r w.1) || holds t r x
+holds (w ∷ t) r x = (nat_eq x w.0 && same_place w.1 (Reg r)) || holds t r x
 
 -- a set has the variables that are in a register
 abbrev pub IsHeld : Table → (register : ℕ) → NumberSet → Type 0

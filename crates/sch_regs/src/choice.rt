@@ -4,16 +4,17 @@ ghost use Rattle.std.specs.Prelude.{◌≡◌, ◌*◌, ◌+◌, ◌<◌, ◌^�
 ghost use Rattle.std.specs.FinSet as set;
 ghost use Rattle.sch_word.specs.declared.place.Place.TheVariants.{Reg};
 ghost use Rattle.sch_word.specs.values.Registers.{argument_registers};
-ghost use Rattle.sch_word.specs.values.Places.{is_slot};
+ghost use Rattle.sch_word.specs.values.Places.{is_slot, same_place};
 ghost use Rattle.sch_regs.specs.PlaceChoice as table;
 ghost use Rattle.sch_regs.specs.Shows.{Becomes, IsHeld, ShowsAll};
 
-use crate::placing::{Placing, R8, R9, R10, RBX, RDI, RSI};
+use crate::placing::Placing;
 use sch_sets::Set;
 use sch_word::Place;
+use sch_word::registers::{R8, R9, R10, RBX, RDI, RSI};
 
 fn is_register(register: u8, p: Place) -> bool
-    ensures { result ≡ table.in_register register p }
+    ensures { result ≡ same_place p (Reg register) }
 {
     match p {
         Place::Reg(r) => r == register,

@@ -1,20 +1,7 @@
 //! The places that variables have so far.
 
 use sch_sets::Set;
-use sch_word::{ARGUMENT_REGISTERS, Place};
-
-// The six registers, by their names.
-pub(crate) const RBX: u8 = ARGUMENT_REGISTERS[0];
-
-pub(crate) const R8: u8 = ARGUMENT_REGISTERS[1];
-
-pub(crate) const R9: u8 = ARGUMENT_REGISTERS[2];
-
-pub(crate) const R10: u8 = ARGUMENT_REGISTERS[3];
-
-pub(crate) const RSI: u8 = ARGUMENT_REGISTERS[4];
-
-pub(crate) const RDI: u8 = ARGUMENT_REGISTERS[5];
+use sch_word::Place;
 
 /// The places of variables by their numbers, how many of them are slots, and the variables in each of the six registers. The
 /// sets are on the heap, as they are large.

@@ -5,14 +5,15 @@ ghost use Rattle.std.specs.FinSet as set;
 ghost use Rattle.sch_word.specs.declared.place.Place.TheVariants.{Reg};
 ghost use Rattle.sch_control.specs.flow.Places as entry_places;
 ghost use Rattle.sch_regs.specs.PlaceChoice.{arrived};
-ghost use Rattle.sch_regs.specs.declared.placing.TheConstants.{RBX};
+ghost use Rattle.sch_word.specs.declared.registers.TheConstants.{RBX};
 ghost use Rattle.sch_regs.specs.Shows.{Shows};
 
 use crate::choice::give;
-use crate::placing::{Placing, R8, R9, R10, RBX, RDI, RSI};
-use sch_control::Entry;
+use crate::placing::Placing;
+use sch_control::{Entry, arrival};
 use sch_sets::Set;
-use sch_word::{ARGUMENT_REGISTERS, CLOSURE_REGISTER, LINK_REGISTER, Mem, Place};
+use sch_word::registers::RBX;
+use sch_word::{CLOSURE_REGISTER, LINK_REGISTER, Mem, Place};
 use std::alloc::Global;
 
 // A list in which each number counts as being in RBX.
@@ -66,21 +67,6 @@ fn none_placed<const N: usize>(alloc: Global, variables: u32) -> Result<Placing<
         rsi,
         rdi,
     })
-}
-
-// Where the operand with `k` before it arrives.
-fn arrival(k: u32) -> Place
-    ensures { result ≡ entry_places.arrival k }
-{
-    match k {
-        0 => Place::Reg(RBX),
-        1 => Place::Reg(R8),
-        2 => Place::Reg(R9),
-        3 => Place::Reg(R10),
-        4 => Place::Reg(RSI),
-        5 => Place::Reg(RDI),
-        _ => Place::Slot(k - ARGUMENT_REGISTERS.len() as u32),
-    }
 }
 
 /// How many operands a body is entered with.

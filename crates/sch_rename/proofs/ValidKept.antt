@@ -1,12 +1,13 @@
 -- A valid program with numbers is a valid cell program.
 use Rattle.std.proofs.Common.{◌≡◌, ℕ, zero, suc, ◌+◌, true, false, List, [], ◌∷◌, ◌++◌, length, refl, ap, ◌∙◌, subst, arith}
 use Rattle.std.specs.Prelude.{IsTrue, ◌&&◌, nat_le}
+use Rattle.sch_word.proofs.facts.Booleans.{and_of, and_parts}
 use Rattle.sch_word.specs.trees.Bindings.{scope_with}
 use Rattle.sch_word.specs.values.Literals.{count_literals}
 use Rattle.sch_word.specs.runs.Runs.{statics_in_range}
 use Rattle.sch_word.specs.trees.Shape as shapes
 use Rattle.sch_word.specs.trees.Shape.{names_known, constant_in_range, well_formed, fits, procedures_fit, max_variables, max_levels}
-use Rattle.sch_word.proofs.Shaped.{Implies, implies_joins, same_implies, Holds, holds_joins, parts, both_true}
+use Rattle.sch_word.proofs.Shaped.{Implies, implies_joins, same_implies, Holds, holds_joins}
 use Rattle.sch_lang.specs.Tree.{Expression, Expressions, Lambdas, Source, constant, literal, local, global, set_local, set_global, define, branch, sequence, bind, fix, letrec, lambda, call, operation, no_expressions, and_expression, count_lambdas}
 use Rattle.sch_lang.specs.Measures.{variables, levels_lambdas, levels_each}
 use Rattle.sch_lang.specs.Valid as valid
@@ -21,7 +22,8 @@ use Rattle.sch_rename.proofs.AssignedKept.{first_assigned, first_assigned_lambda
 use Rattle.sch_rename.proofs.BodiesKept.{procedures_kept, form_variables_kept}
 use Rattle.sch_rename.proofs.ShapesKept.{shape_kept, source_kept, measure_kept}
 use Rattle.sch_rename.proofs.LevelsKept.{each_levels, lambdas_levels}
-use Rattle.sch_rename.proofs.Numbers.{program_bound, numbers_distinct, numbers_below, each_closed, lambdas_closed}
+use Rattle.sch_rename.proofs.Numbers.{program_bound, numbers_below, each_closed, lambdas_closed}
+use Rattle.sch_word.proofs.facts.NumberSets.{distinct_numbers}
 
 -- ## Nodes
 
@@ -88,26 +90,26 @@ form_node (fix ls e) s x f i = refl
 forms_fit_kept : (es : Expressions) (x : ℕ) → EachInScope es 0 → Implies (valid.forms_fit es) (to_valid.forms_fit (renamed_each es [] x))
 forms_fit_kept no_expressions x i h = refl
 forms_fit_kept (and_expression e es) x i h =
-    let p = parts (nat_le (variables e []) max_variables) (valid.forms_fit es) h in
-    both_true (rw (form_variables_kept e x i.0) p.0) (forms_fit_kept es (x + binds e) i.1 p.1)
+    let p = and_parts (nat_le (variables e []) max_variables) (valid.forms_fit es) h in
+    and_of _ _ (rw (form_variables_kept e x i.0) p.0) (forms_fit_kept es (x + binds e) i.1 p.1)
 
 -- ## Programs
 
 module _ (p : Source) (c : IsClosed p) where
   pub scoped_kept : IsTrue (to_valid.scoped (renamed_source p))
   scoped_kept =
-      both_true (rw (program_bound p) (both_true (numbers_distinct 0 (binds_lambdas p.library + binds_each p.forms)) (numbers_below 0 (binds_lambdas p.library + binds_each p.forms) (binds_lambdas p.library + binds_each p.forms) (omega arith))))
-      (both_true (lambdas_closed p.library [] 0 c.library) (each_closed p.forms [] _ c.forms))
+      and_of _ _ (rw (program_bound p) (and_of _ _ (distinct_numbers 0 (binds_lambdas p.library + binds_each p.forms)) (numbers_below 0 (binds_lambdas p.library + binds_each p.forms) (binds_lambdas p.library + binds_each p.forms) (omega arith))))
+      (and_of _ _ (lambdas_closed p.library [] 0 c.library) (each_closed p.forms [] _ c.forms))
 
   names : IsTrue (valid.in_range p) → IsTrue (to.every (λ e. names_known (length p.statics.symbols) (count_literals p.statics.literals) (length p.statics.globals) (to.shape e)) (renamed_source p))
   names in_range =
       measure_kept true (λ a b. a && b) (names_known (length p.statics.symbols) (count_literals p.statics.literals) (length p.statics.globals)) p c
-      ∙ (parts (source_scope.each_in_scope p.forms 0) _ (parts (source_scope.lambdas_in_scope p.library 0) _ in_range).1).1
+      ∙ (and_parts (source_scope.each_in_scope p.forms 0) _ (and_parts (source_scope.lambdas_in_scope p.library 0) _ in_range).1).1
 
   pub formed_kept : IsTrue (valid.in_range p) → IsTrue (valid.shaped p) → IsTrue (to_valid.formed false (renamed_source p))
   formed_kept in_range h =
-      both_true (both_true (source_kept holds_joins (λ _. true) (λ e. to_valid.has_form false (to.shape e)) form_node p c) (names in_range))
-      (both_true (source_kept implies_joins valid.shaped_here (λ e. well_formed (to.shape e)) well_formed_node p c h)
+      and_of _ _ (and_of _ _ (source_kept holds_joins (λ _. true) (λ e. to_valid.has_form false (to.shape e)) form_node p c) (names in_range))
+      (and_of _ _ (source_kept implies_joins valid.shaped_here (λ e. well_formed (to.shape e)) well_formed_node p c h)
       (source_kept implies_joins valid.shaped_here to_valid.fix_unassigned fix_node p c h))
 
   pub words_kept : IsTrue (valid.constants_in_range p) → IsTrue (to_valid.constants_in_range (renamed_source p))
@@ -115,12 +117,12 @@ module _ (p : Source) (c : IsClosed p) where
 
   pub limited_kept : IsTrue (valid.within_limits p) → IsTrue (to_valid.within_limits false (renamed_source p))
   limited_kept h =
-      let l = parts (nat_le (levels_lambdas p.library) max_levels && nat_le (levels_each p.forms) max_levels) _ h in
-      let n = parts (nat_le (levels_lambdas p.library) max_levels) (nat_le (levels_each p.forms) max_levels) l.0 in
-      let b = parts (valid.lambdas_fit p.library && valid.forms_fit p.forms) _ l.1 in
-      let d = parts (valid.lambdas_fit p.library) (valid.forms_fit p.forms) b.0 in
-      both_true (both_true (ap (λ n. nat_le n max_levels) (lambdas_levels p.library [] 0) ∙ n.0) (ap (λ n. nat_le n max_levels) (each_levels p.forms [] _) ∙ n.1))
-      (both_true (both_true (ap (procedures_fit max_variables) (procedures_kept p.library [] 0 tt c.library) ∙ d.0) (forms_fit_kept p.forms _ c.forms d.1))
+      let l = and_parts (nat_le (levels_lambdas p.library) max_levels && nat_le (levels_each p.forms) max_levels) _ h in
+      let n = and_parts (nat_le (levels_lambdas p.library) max_levels) (nat_le (levels_each p.forms) max_levels) l.0 in
+      let b = and_parts (valid.lambdas_fit p.library && valid.forms_fit p.forms) _ l.1 in
+      let d = and_parts (valid.lambdas_fit p.library) (valid.forms_fit p.forms) b.0 in
+      and_of _ _ (and_of _ _ (ap (λ n. nat_le n max_levels) (lambdas_levels p.library [] 0) ∙ n.0) (ap (λ n. nat_le n max_levels) (each_levels p.forms [] _) ∙ n.1))
+      (and_of _ _ (and_of _ _ (ap (procedures_fit max_variables) (procedures_kept p.library [] 0 tt c.library) ∙ d.0) (forms_fit_kept p.forms _ c.forms d.1))
       (measure_kept true (λ a b. a && b) (fits max_variables) p c ∙ b.1))
 
   pub sited_kept : IsTrue (valid.sites_once p) → IsTrue (to_valid.sited (renamed_source p))

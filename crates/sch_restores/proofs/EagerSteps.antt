@@ -21,7 +21,8 @@ use Rattle.sch_control.specs.Valid.{member_variables}
 use Rattle.sch_control.specs.flow.Live.{named}
 use Rattle.sch_control.specs.flow.LiveTests.{behind, is_soon, Behind}
 use Rattle.sch_control.specs.flow.Reads.{IsWith}
-use Rattle.sch_control.proofs.NumberLists.{has_items, once_filter, once_from}
+use Rattle.sch_control.proofs.NumberLists.{has_items, once_filter}
+use Rattle.sch_word.proofs.facts.NumberSets.{distinct_numbers}
 use Rattle.sch_control.proofs.SetTests.{link_only, one_set, two_sets}
 use Rattle.sch_control.proofs.VariableLists.{among_is}
 use Rattle.sch_restores.specs.Restores.{eager, wanted}
@@ -29,7 +30,7 @@ use Rattle.sch_restores.specs.Restores.{eager, wanted}
 -- ## What a call restores
 
 pub once_first : (f : ℕ → Bool) (n : ℕ) → without_repeats (filter f (numbers 0 n)) ≡ true
-once_first f n = once_filter f (numbers 0 n) (once_from 0 n)
+once_first f n = once_filter f (numbers 0 n) (distinct_numbers 0 n)
 
 module _ (n : ℕ) (live inside t f soon saved all : NumberSet) (wants : soon ≡ set.union t f) (saves : saved ≡ set.intersection inside soon)
     (is : all ≡ set.intersection live saved) (xs : List ℕ) (made : xs ≡ filter (set.contains all) (numbers 0 n)) where

@@ -1,5 +1,5 @@
--- All routines keep to the form of routines, and name RBP only to put its address into RCX. Neither sees how long a number or a
--- displacement is, nor where the heap ends.
+-- All routines keep to the form of routines, and name the frame's register only to put its address into RCX. Neither sees how long a
+-- number or a displacement is, nor where the heap ends.
 use Rattle.std.proofs.Common.{◌≡◌, ℕ, ◌+◌, List, [], ◌∷◌, ◌++◌, true, Option, Some, None, cond, refl, sym, ap, ◌∙◌, ◌&&◌}
 use Rattle.std.specs.Prelude.{ℤ, Bool, IsTrue, false, nat_eq, nat_le}
 use Rattle.std.specs.List.{list_all}
@@ -7,7 +7,7 @@ use Rattle.std.proofs.lemmas.List.{map-append}
 use Rattle.sch_insn.specs.declared.insn.Arg.TheVariants.{Base8, Base32}
 use Rattle.sch_insn.specs.declared.insn.Insn.{Insn}
 use Rattle.sch_insn.specs.declared.insn.Insn.TheVariants.{MovTo, AddNumber}
-use Rattle.sch_insn.specs.declared.register.TheConstants.{R11}
+use Rattle.sch_word.specs.declared.registers.TheConstants.{R11}
 use Rattle.sch_asm.specs.declared.item.Item.{Item}
 use Rattle.sch_asm.specs.declared.item.Item.TheVariants as item
 use Rattle.sch_asm.specs.Narrow.{narrow_item, narrowed, short_number, with_operand}

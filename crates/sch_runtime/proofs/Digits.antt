@@ -4,13 +4,14 @@ use Rattle.std.specs.Prelude.{pos, not, nat_lt, Result, Ok, if◌then◌else◌}
 use Rattle.std.specs.Fmt.{digit_glyph, digits_onto}
 use Rattle.std.proofs.lemmas.Bool.{eqb-false}
 use Rattle.std.proofs.lemmas.Bool.Decides.{nat_tests}
+use Rattle.sch_word.specs.runs.ProgramLayout.{data_address}
 use Rattle.sch_insn.specs.declared.insn.Arg.TheVariants.{Reg, Base}
 use Rattle.sch_insn.specs.declared.insn.Insn.TheVariants.{MovNumber, Idiv, AddNumber8, SubNumber8, CmpNumber8}
 use Rattle.sch_insn.specs.declared.state.StuckCause.{StuckCause}
 use Rattle.sch_insn.specs.Machine.{set_register, add64, sub64, magnitude, difference_of, sum_of, unknown_flags, condition, when_ok, with_flags, with_register, with_place}
 use Rattle.sch_insn.specs.Step.{Runs, moved, perform, quotient_of, dividend_magnitude, is_quotient}
 use Rattle.sch_insn.proofs.Paths.{leads_then, leads_on}
-use Rattle.sch_insn.specs.declared.register.TheConstants.{RAX, RCX, RDX, RSI, RDI, R11}
+use Rattle.sch_word.specs.declared.registers.TheConstants.{RAX, RCX, RDX, RSI, RDI, R11}
 use Rattle.sch_insn.specs.declared.condition.TheConstants.{NE}
 use Rattle.sch_asm.specs.declared.item.Item.TheVariants.{JumpIf}
 use Rattle.sch_asm.specs.Stands.{Setting, Stands}
@@ -18,6 +19,7 @@ use Rattle.sch_asm.specs.Data.{PieceAt, word_in}
 use Rattle.sch_asm.specs.Views.{View, full, Leads}
 use Rattle.sch_asm.proofs.EachItem.{goes, branches, stores_one_byte}
 use Rattle.sch_asm.proofs.Bytes.{with_byte, size_with_byte, from_byte, behind_byte, word_beside_byte}
+use Rattle.sch_asm.specs.Effects.{own_size}
 use Rattle.sch_runtime.specs.Code.{digit_code, digit_label, digits_end, sign_code}
 use Rattle.sch_runtime.proofs.ZeroTests.{ne_zero}
 use Rattle.sch_runtime.proofs.WriteLoop.{is_other, other_of}
@@ -42,10 +44,10 @@ glyph_of : (d : ℕ) → d < 10 → 48 + d ≡ digit_glyph false d
 glyph_of d lt = let e : nat_lt d 10 ≡ true = grind (arith, nat_tests) in rw e refl
 
 -- one more byte before a piece
-piece_longer : (bs : List ℕ) (a b v : ℕ) (piece : List ℕ) → PieceAt bs a piece → b + 1 ≡ a → 0x10000000 ≤ b → b < 0x10000000 + length bs → PieceAt (with_byte bs b v) b (v ∷ piece)
+piece_longer : (bs : List ℕ) (a b v : ℕ) (piece : List ℕ) → PieceAt bs a piece → b + 1 ≡ a → data_address ≤ b → b < data_address + length bs → PieceAt (with_byte bs b v) b (v ∷ piece)
 piece_longer bs a b v piece at e low lt = record {
   rest = at.rest;
-  is = from_byte bs b v low lt ∙ ap (λ k. v ∷ drop (k - 0x10000000) bs) e ∙ ap (λ l. v ∷ l) at.is;
+  is = from_byte bs b v low lt ∙ ap (λ k. v ∷ drop (k - data_address) bs) e ∙ ap (λ l. v ∷ l) at.is;
   low = low;
   high = let s = size_with_byte bs b v low lt in let h = at.high in omega (arith, s, h, e);
 }
@@ -72,13 +74,13 @@ module _ (setting : Setting) where
     pub r11_is : y.registers R11 ≡ z.registers R11
     pub registers : (r : ℕ) → is_other r ≡ true → y.registers r ≡ z.registers r
     pub size : length y.bytes ≡ length z.bytes
-    pub words : (b : ℕ) → 0x10000000 ≤ b → b + 8 ≤ 0x10000018 → word_in y.bytes b ≡ word_in z.bytes b
-    pub others : drop 512 y.bytes ≡ drop 512 z.bytes
+    pub words : (b : ℕ) → data_address ≤ b → b + 8 ≤ 0x10000018 → word_in y.bytes b ≡ word_in z.bytes b
+    pub others : drop own_size y.bytes ≡ drop own_size z.bytes
     pub output_is : y.output ≡ z.output
     pub answers_are : y.answers ≡ z.answers
 
   -- one byte more, where rsi has gone down by one
-  pub longer : (z x y : View) (piece : List ℕ) (room v : ℕ) → Begun z x piece (suc room) → 512 ≤ length z.bytes → y.registers RSI ≡ x.registers RSI - 1
+  pub longer : (z x y : View) (piece : List ℕ) (room v : ℕ) → Begun z x piece (suc room) → own_size ≤ length z.bytes → y.registers RSI ≡ x.registers RSI - 1
       → y.bytes ≡ with_byte x.bytes (x.registers RSI - 1) v → y.registers RDI ≡ x.registers RDI → y.registers R11 ≡ x.registers R11 →
       ((r : ℕ) → is_other r ≡ true → y.registers r ≡ x.registers r) → y.output ≡ x.output → y.answers ≡ x.answers → Begun z y (v ∷ piece) room
   longer z x y piece room v b long e f g h i j k =
@@ -86,8 +88,8 @@ module _ (setting : Setting) where
       let end = b.end in
       let size = b.size in
       let a = x.registers RSI - 1 in
-      let base : 0x10000000 ≤ a = omega arith in
-      let inside : a < 0x10000000 + length x.bytes = omega arith in
+      let base : data_address ≤ a = omega arith in
+      let inside : a < data_address + length x.bytes = omega arith in
       let same : a + 1 ≡ x.registers RSI = omega arith in
       let at = piece_longer x.bytes (x.registers RSI) a v piece b.digits same base inside in
       record {
@@ -99,7 +101,7 @@ module _ (setting : Setting) where
         registers = λ r o. i r o ∙ b.registers r o;
         size = ap length f ∙ size_with_byte x.bytes a v base inside ∙ size;
         words = λ c l u. ap (λ l. word_in l c) f ∙ word_beside_byte x.bytes a v c base inside l (inl (omega (arith, u, low))) ∙ b.words c l u;
-        others = ap (drop 512) f ∙ behind_byte x.bytes a v 512 base inside (omega (arith, end)) ∙ b.others;
+        others = ap (drop own_size) f ∙ behind_byte x.bytes a v own_size base inside (omega (arith, end)) ∙ b.others;
         output_is = j ∙ b.output_is;
         answers_are = k ∙ b.answers_are;
       }
@@ -124,7 +126,7 @@ module _ (setting : Setting) where
     test : condition y.flags NE ≡ Some (not (x.registers RAX / 10 == 0))
     ahead : Stands setting [] y.place (JumpIf NE digit_label ∷ sign_code)
 
-  digit : (z x : View) (piece : List ℕ) (room : ℕ) → Stands setting [] x.place digit_code → x.registers RAX < 2 ^ 63 → x.registers RCX ≡ 10 → 512 ≤ length z.bytes → Begun z x piece (suc room)
+  digit : (z x : View) (piece : List ℕ) (room : ℕ) → Stands setting [] x.place digit_code → x.registers RAX < 2 ^ 63 → x.registers RCX ≡ 10 → own_size ≤ length z.bytes → Begun z x piece (suc room)
       → Digit z x piece room
   digit z x piece room h small ten long b =
       let n = x.registers RAX in
@@ -206,7 +208,7 @@ module _ (setting : Setting) where
   module _ (digit_stands : Stands setting [] (place_of digit_label) digit_code) where
     -- From `digit_label` on, rax has the number and rcx ten.
     pub prints : (j f : ℕ) (z x : View) (piece : List ℕ) → j ≤ f → x.place ≡ place_of digit_label → x.registers RAX < limit j → x.registers RAX < 2 ^ 63 → x.registers RCX ≡ 10
-        → 512 ≤ length z.bytes → Begun z x piece (suc (suc j)) →
+        → own_size ≤ length z.bytes → Begun z x piece (suc (suc j)) →
         Printed z x (digits_onto (suc f) 10 false (x.registers RAX) piece) (7 + 7 * j)
     prints zero f z x piece le at lt small ten long b =
         let h = subst (λ a. Stands setting [] a digit_code) (sym at) digit_stands in

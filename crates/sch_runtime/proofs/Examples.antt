@@ -8,7 +8,7 @@ use Rattle.sch_word.specs.declared.answer.Answer.TheVariants.{Took, Failed}
 use Rattle.sch_word.specs.declared.stop.Stop.TheVariants.{DivideByZero}
 use Rattle.sch_insn.specs.declared.insn.Arg.TheVariants.{Reg}
 use Rattle.sch_insn.specs.declared.insn.Insn.TheVariants.{MovNumber, MovWord}
-use Rattle.sch_insn.specs.declared.register.TheConstants.{RAX, RCX, RDX, R11}
+use Rattle.sch_word.specs.declared.registers.TheConstants.{RAX, RCX, RDX, R11}
 use Rattle.sch_insn.specs.Decode.{escaped_of, narrow_of, operand_of, rexed_of, wide_of}
 use Rattle.sch_insn.specs.Machine.{test_of}
 use Rattle.sch_insn.specs.Behaves.{exit_of, start, zeros}

@@ -7,7 +7,7 @@ use Rattle.sch_insn.specs.declared.insn.Insn.TheVariants.{MovNumber, Syscall}
 use Rattle.sch_insn.specs.Machine.{set_register}
 use Rattle.sch_insn.specs.Step.{Exited}
 use Rattle.sch_insn.proofs.Paths.{leads_then, leads_on}
-use Rattle.sch_insn.specs.declared.register.TheConstants.{RAX, RDI}
+use Rattle.sch_word.specs.declared.registers.TheConstants.{RAX, RDI}
 use Rattle.sch_asm.specs.Stands.{Setting, Stands}
 use Rattle.sch_asm.specs.Views.{View, full, Leads}
 use Rattle.sch_asm.specs.Effects.{Stops}

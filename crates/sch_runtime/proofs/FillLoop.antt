@@ -3,12 +3,13 @@ use Rattle.std.proofs.Common.{◌≡◌, ℕ, zero, suc, ◌+◌, ◌-◌, ◌*�
 use Rattle.std.specs.Prelude.{pos, not}
 use Rattle.std.specs.Int.{w64, to_le_bytes}
 use Rattle.std.proofs.lemmas.Bool.{ne_eqb}
+use Rattle.sch_word.specs.runs.ProgramLayout.{data_address}
 use Rattle.sch_insn.specs.declared.insn.Arg.TheVariants.{Reg, Base}
 use Rattle.sch_insn.specs.declared.insn.Insn.{Insn}
 use Rattle.sch_insn.specs.declared.insn.Insn.TheVariants.{AddNumber8, SubNumber8, CmpNumber8, JumpTo}
 use Rattle.sch_insn.specs.Machine.{set_register, add64, sub64, difference_of, sum_of, condition, put_bytes, word}
 use Rattle.sch_insn.proofs.Paths.{leads_then, leads_on}
-use Rattle.sch_insn.specs.declared.register.TheConstants.{RAX, RCX, RDX, R11}
+use Rattle.sch_word.specs.declared.registers.TheConstants.{RAX, RCX, RDX, R11}
 use Rattle.sch_insn.specs.declared.condition.TheConstants.{NE}
 use Rattle.sch_asm.specs.declared.item.Item.TheVariants.{Label, Plain}
 use Rattle.sch_asm.specs.Stands.{Setting, Found, Stands}
@@ -37,17 +38,17 @@ module _ (setting : Setting) where
   -- Wherever it stands, an instruction stores an element of some bytes at the address in rax, where rcx has
   -- this word.
   abbrev Stores : Insn → ℕ → List ℕ → Type 0
-  Stores store w element = (x : View) (n a : ℕ) → Found setting x.place store n [] → x.registers RAX ≡ a → x.registers RCX ≡ w → 0x10000000 ≤ a → a + length element ≤ 0x10000000 + length x.bytes →
-      Leads setting 1 1 [] x (record x { bytes = put_bytes x.bytes (a - 0x10000000) element; place = x.place + n })
+  Stores store w element = (x : View) (n a : ℕ) → Found setting x.place store n [] → x.registers RAX ≡ a → x.registers RCX ≡ w → data_address ≤ a → a + length element ≤ data_address + length x.bytes →
+      Leads setting 1 1 [] x (record x { bytes = put_bytes x.bytes (a - data_address) element; place = x.place + n })
 
   word_stores : (w : ℕ) → Stores word_store w (to_le_bytes w64 w)
   word_stores w x n a f at is low high =
-      subst (λ v. Leads setting 1 1 [] x (record x { bytes = put_bytes x.bytes (a - 0x10000000) (to_le_bytes w64 v); place = x.place + n })) is
+      subst (λ v. Leads setting 1 1 [] x (record x { bytes = put_bytes x.bytes (a - data_address) (to_le_bytes w64 v); place = x.place + n })) is
       (stores_word setting x RCX n a (Base RAX) [] f at (record { low = low; high = high }))
 
   byte_stores : (w b : ℕ) → w % 256 ≡ b → Stores byte_store w (b ∷ [])
   byte_stores w b e x n a f at is low high =
-      subst (λ v. Leads setting 1 1 [] x (record x { bytes = put_bytes x.bytes (a - 0x10000000) (v ∷ []); place = x.place + n })) (ap (λ v. v % 256) is ∙ e)
+      subst (λ v. Leads setting 1 1 [] x (record x { bytes = put_bytes x.bytes (a - data_address) (v ∷ []); place = x.place + n })) (ap (λ v. v % 256) is ∙ e)
       (stores_one_byte setting x RCX n a (Base RAX) [] f at low (omega (arith, high)))
 
   module _ (store : Insn) (size turn test w : ℕ) (element : List ℕ) (stores : Stores store w element) (size_is : length element ≡ size) (step_is : word (pos size) ≡ size) where
@@ -57,7 +58,7 @@ module _ (setting : Setting) where
       leads : Leads setting (5 * n + 3) (5 * n + 3) [] x y
       at : y.place ≡ x.registers R11
       registers : (r : ℕ) → (r == RAX) ≡ false → (r == RDX) ≡ false → y.registers r ≡ x.registers r
-      bytes : y.bytes ≡ put_bytes x.bytes (a - 0x10000000) (repeated n element)
+      bytes : y.bytes ≡ put_bytes x.bytes (a - data_address) (repeated n element)
       output_is : y.output ≡ x.output
       left_is : y.answers ≡ x.answers
 
@@ -67,9 +68,9 @@ module _ (setting : Setting) where
       address : x.registers RAX ≡ a
       count : x.registers RDX ≡ n
       element_is : x.registers RCX ≡ w
-      low : 0x10000000 ≤ a
-      high : a + length (repeated n element) ≤ 0x10000000 + length x.bytes
-      top : 0x10000000 + length x.bytes < 2 ^ 63
+      low : data_address ≤ a
+      high : a + length (repeated n element) ≤ data_address + length x.bytes
+      top : data_address + length x.bytes < 2 ^ 63
       few : n < 2 ^ 63
 
     module _ (turn_stands : Stands setting [] (place_of turn) (turn_code store size turn test)) (test_stands : Stands setting [] (place_of test) (test_code turn)) where
@@ -90,7 +91,7 @@ module _ (setting : Setting) where
                 (goes setting y2 y3 (JumpTo (Reg R11)) h2.0 [] h2.1 refl);
             at = refl;
             registers = λ r e f. refl;
-            bytes = sym (put_none x.bytes (a - 0x10000000));
+            bytes = sym (put_none x.bytes (a - data_address));
             output_is = refl;
             left_is = refl;
           }
@@ -102,7 +103,7 @@ module _ (setting : Setting) where
         ahead : Ahead y (a + size) n
         back : y.registers R11 ≡ x.registers R11
         registers : (r : ℕ) → (r == RAX) ≡ false → (r == RDX) ≡ false → y.registers r ≡ x.registers r
-        bytes : y.bytes ≡ put_bytes x.bytes (a - 0x10000000) element
+        bytes : y.bytes ≡ put_bytes x.bytes (a - data_address) element
         output_is : y.output ≡ x.output
         left_is : y.answers ≡ x.answers
 
@@ -114,7 +115,7 @@ module _ (setting : Setting) where
           let few = q.few in
           let count = q.count in
           let address = q.address in
-          let k = a - 0x10000000 in
+          let k = a - data_address in
           let both = length-append element (repeated n element) in
           let h = subst (λ p. Stands setting [] p (test_code turn)) (sym q.at) test_stands in
           let y1 : View = record x { flags = (difference_of (x.registers RDX) 0).flags; place = x.place + h.0 } in
@@ -163,8 +164,8 @@ module _ (setting : Setting) where
           let r = turns n t.y (a + size) t.ahead in
           let low = q.low in
           let high = q.high in
-          let k = a - 0x10000000 in
-          let next : a + size - 0x10000000 ≡ k + length element = omega (arith, low, size_is) in
+          let k = a - data_address in
+          let next : a + size - data_address ≡ k + length element = omega (arith, low, size_is) in
           let steps : 5 + (5 * n + 3) ≡ 5 * suc n + 3 = omega arith in
           record {
             y = r.y;
@@ -182,12 +183,12 @@ module _ (setting : Setting) where
     -- the routine
     fills : (label : ℕ) → Stands setting [] (place_of label) (fill_code store size turn test) → (x : View) (a n total : ℕ) (AreFilled : List ℕ → Type 0) → x.place ≡ place_of label → IsReady x
         → HasRoom x a n total → x.registers RCX ≡ w →
-        length (repeated n element) ≡ total → n ≤ total → AreFilled (put_bytes x.bytes (a - 0x10000000) (repeated n element)) → Fills setting x a total (5 * n + 4) AreFilled
+        length (repeated n element) ≡ total → n ≤ total → AreFilled (put_bytes x.bytes (a - data_address) (repeated n element)) → Fills setting x a total (5 * n + 4) AreFilled
     fills label stands x a n total AreFilled at ready room is all within filled =
         let low = room.low in
         let high = room.high in
         let top = ready.within in
-        let k = a - 0x10000000 in
+        let k = a - data_address in
         let h = subst (λ p. Stands setting [] p (fill_code store size turn test)) (sym at) stands in
         let turn_stands : Stands setting [] (place_of turn) (turn_code store size turn test) = subst (λ p. Stands setting [] p (turn_code store size turn test)) (sym h.4.1) h.4.2 in
         let test_stands : Stands setting [] (place_of test) (test_code turn) = subst (λ p. Stands setting [] p (test_code turn)) (sym turn_stands.2.2.2.1) turn_stands.2.2.2.2 in
@@ -205,7 +206,7 @@ module _ (setting : Setting) where
         let r = turns turn_stands test_stands n y a ahead in
         let fit : k + length (repeated n element) ≤ length x.bytes = omega (arith, low, high, all) in
         let start : k ≤ length x.bytes = omega (arith, fit) in
-        let end : a + total - 0x10000000 ≡ k + length (repeated n element) = omega (arith, low, all) in
+        let end : a + total - data_address ≡ k + length (repeated n element) = omega (arith, low, all) in
         record {
           y = r.y;
           least = 1 + (5 * n + 3);
@@ -218,7 +219,7 @@ module _ (setting : Setting) where
           size_is = ap length r.bytes ∙ size_put x.bytes k (repeated n element) fit;
           before = ap (take k) r.bytes ∙ before_put x.bytes k (repeated n element) start;
           filled = subst AreFilled (sym r.bytes) filled;
-          behind = ap (λ l. drop (a + total - 0x10000000) l) r.bytes
+          behind = ap (λ l. drop (a + total - data_address) l) r.bytes
               ∙ ap (λ j. drop j (put_bytes x.bytes k (repeated n element))) end
               ∙ behind_put x.bytes k (repeated n element) start
               ∙ ap (λ j. drop j x.bytes) (sym end);

@@ -11,7 +11,7 @@ use Rattle.sch_insn.specs.declared.insn.Insn.TheVariants.{SubTo, XorTo, CmpTo, A
 use Rattle.sch_insn.specs.declared.insn.Insn.TheVariants.{AddNumber, OrNumber, AndNumber, SubNumber, XorNumber, CmpNumber, AddNumber8}
 use Rattle.sch_insn.specs.declared.insn.Insn.TheVariants.{OrNumber8, AndNumber8, SubNumber8, XorNumber8, CmpNumber8, TestTo, Imul, Neg}
 use Rattle.sch_insn.specs.declared.insn.Insn.TheVariants.{Idiv, Cqo, Shl, Shr, Sar, JumpTo, Syscall}
-use Rattle.sch_insn.specs.declared.register.TheConstants.{RAX, RDX, RSI, RDI, R11, R15}
+use Rattle.sch_word.specs.declared.registers.TheConstants.{RAX, RDX, RSI, RDI, R11, R15}
 use Rattle.sch_asm.specs.declared.item.Item.{Item}
 use Rattle.sch_asm.specs.declared.item.Item.TheVariants.{Label, Plain, Jump, JumpIf, LoadLabel, LoadWord, StoreWord}
 use Rattle.sch_runtime.specs.Code.{exit_code, kept_r11, kept_rsi, routine_items}

@@ -5,6 +5,7 @@ use Rattle.std.specs.Int.{w64, to_le_bytes, from_le_bytes}
 use Rattle.std.proofs.lemmas.List.{drop-drop, length-take-le, take-append-drop}
 use Rattle.std.proofs.lemmas.Nat.{from_le_bytes-to_le_bytes_8}
 use Rattle.std.proofs.Math.Seq.{take-append_seam, drop-append_seam, take-append-add}
+use Rattle.sch_word.specs.runs.ProgramLayout.{data_address}
 use Rattle.sch_insn.specs.Machine.{put_bytes}
 use Rattle.sch_asm.specs.Effects.{AreWords, AreBytes}
 use Rattle.sch_asm.proofs.Words.{eight_count}
@@ -71,19 +72,19 @@ word_of (suc n) (suc j) w rest lt fits =
     let e : 8 * suc j ≡ 8 + 8 * j = omega arith in
     ap (λ m. from_le_bytes w64 (drop m all)) e ∙ ap (from_le_bytes w64) (sym (drop-drop (8 * j) 8 all)) ∙ word_of n j w rest (omega (arith, lt)) fits
 
-pub words_put : (bs : List ℕ) (a n w : ℕ) → 0x10000000 ≤ a → a ≤ 0x10000000 + length bs → w < 2 ^ 64 → AreWords a n w (put_bytes bs (a - 0x10000000) (repeated n (to_le_bytes w64 w)))
+pub words_put : (bs : List ℕ) (a n w : ℕ) → data_address ≤ a → a ≤ data_address + length bs → w < 2 ^ 64 → AreWords a n w (put_bytes bs (a - data_address) (repeated n (to_le_bytes w64 w)))
 words_put bs a n w low high fits j lt =
-    let k = a - 0x10000000 in
+    let k = a - data_address in
     let xs = repeated n (to_le_bytes w64 w) in
     let all = put_bytes bs k xs in
-    let e : a + 8 * j - 0x10000000 ≡ k + 8 * j = omega (arith, low) in
+    let e : a + 8 * j - data_address ≡ k + 8 * j = omega (arith, low) in
     ap (λ m. from_le_bytes w64 (drop m all)) e
     ∙ ap (from_le_bytes w64) (sym (drop-drop (8 * j) k all) ∙ ap (drop (8 * j)) (from_put bs k xs (omega (arith, low, high))))
     ∙ word_of n j w (drop (k + length xs) bs) lt fits
 
-pub bytes_put : (bs : List ℕ) (a n b : ℕ) → 0x10000000 ≤ a → a ≤ 0x10000000 + length bs → AreBytes a n b (put_bytes bs (a - 0x10000000) (repeated n (b ∷ [])))
+pub bytes_put : (bs : List ℕ) (a n b : ℕ) → data_address ≤ a → a ≤ data_address + length bs → AreBytes a n b (put_bytes bs (a - data_address) (repeated n (b ∷ [])))
 bytes_put bs a n b low high =
-    let k = a - 0x10000000 in
+    let k = a - data_address in
     let xs = repeated n (b ∷ []) in
     let rest = drop (k + length xs) bs in
     ap (take n) (from_put bs k xs (omega (arith, low, high)))

@@ -3,17 +3,18 @@ use Rattle.std.proofs.Common.{◌≡◌, ℕ, suc, ◌+◌, ◌-◌, ◌*◌, �
 use Rattle.std.specs.Prelude.{pos, negsuc, ℤ, ◌≤ℤ◌}
 use Rattle.std.specs.Fmt.{decimal, digits, digits_onto, signed_decimal}
 use Rattle.std.proofs.lemmas.Int.{ints}
+use Rattle.sch_word.specs.runs.ProgramLayout.{data_address}
 use Rattle.sch_insn.specs.declared.insn.Arg.TheVariants.{Reg, Base}
 use Rattle.sch_insn.specs.declared.insn.Insn.TheVariants.{MovTo, MovNumber, SubTo, SubNumber8, CmpNumber8, Neg, Sar}
 use Rattle.sch_insn.specs.Machine.{set_register, sub64, is_negative, difference_of, unknown_flags, shift_right_signed}
 use Rattle.sch_insn.proofs.Paths.{leads_then, leads_on, leads_within}
-use Rattle.sch_insn.specs.declared.register.TheConstants.{RAX, RCX, RDX, RSI, RDI, R11}
+use Rattle.sch_word.specs.declared.registers.TheConstants.{RAX, RCX, RDX, RSI, RDI, R11}
 use Rattle.sch_insn.specs.declared.condition.TheConstants.{GE}
 use Rattle.sch_asm.specs.declared.item.Item.TheVariants.{JumpIf, Label, Plain, StoreWord}
 use Rattle.sch_asm.specs.Stands.{Setting, Stands}
 use Rattle.sch_asm.specs.Data.{FixnumWord, word_in, with_word}
 use Rattle.sch_asm.specs.Views.{View, Leads}
-use Rattle.sch_asm.specs.Effects.{IsReady, Puts}
+use Rattle.sch_asm.specs.Effects.{IsReady, Puts, own_size}
 use Rattle.sch_asm.proofs.EachItem.{goes, jumps, branches, stores_data, stores_one_byte}
 use Rattle.sch_asm.proofs.Bytes.{with_byte}
 use Rattle.sch_runtime.specs.Code.{absolute_code, digit_code, digit_label, digits_end, done_code, done_label, exit_code, failed_label, fixnum_code, fixnum_label, kept_rdi, kept_rsi, loop_code, loop_label, minus_code, positive_code, positive_label, ready_code, ready_label, sign_code, write_code, write_label}
@@ -78,9 +79,9 @@ module _ (setting : Setting) where
   open setting use {place_of}
 
   -- nothing is begun, with room for twenty digits
-  begun_at : (x : View) → 512 ≤ length x.bytes → x.registers RSI ≡ digits_end → Begun setting x x [] 20
+  begun_at : (x : View) → own_size ≤ length x.bytes → x.registers RSI ≡ digits_end → Begun setting x x [] 20
   begun_at x long e = record {
-    digits = record { rest = drop (x.registers RSI - 0x10000000) x.bytes; is = refl; low = omega (arith, e); high = omega (arith, e, long) };
+    digits = record { rest = drop (x.registers RSI - data_address) x.bytes; is = refl; low = omega (arith, e); high = omega (arith, e, long) };
     end = omega (arith, e);
     low = omega (arith, e);
     rdi_is = refl;
@@ -104,7 +105,7 @@ module _ (setting : Setting) where
     ahead : Stands setting [] y.place ready_code
 
   signs : (ready_stands : Stands setting [] (place_of ready_label) ready_code) (z x : View) (piece : List ℕ) (negative : Bool) → Stands setting [] x.place sign_code → Begun setting z x piece 1
-      → 512 ≤ length z.bytes → is_negative (x.registers RDI) ≡ negative → x.registers RDI < 2 ^ 64 → Signed z x (cond negative (45 ∷ piece) piece)
+      → own_size ≤ length z.bytes → is_negative (x.registers RDI) ≡ negative → x.registers RDI < 2 ^ 64 → Signed z x (cond negative (45 ∷ piece) piece)
   signs ready_stands z x piece false h b long e fits =
       let y1 : View = record x { flags = (difference_of (x.registers RDI) 0).flags; place = x.place + h.0 } in
       record {
@@ -269,7 +270,7 @@ module _ (setting : Setting) where
         let w1 : View = record z { registers = set_register z.registers RSI digits_end; place = z.place + h.0 } in
         let w2 : View = record w1 { registers = set_register w1.registers RCX 10; place = w1.place + h.2.0 } in
         let size : length z.bytes ≡ length x.bytes = ap length o.bytes ∙ kept.size in
-        let long : 512 ≤ length w2.bytes = omega (arith, size, ready.own_words) in
+        let long : own_size ≤ length w2.bytes = omega (arith, size, ready.own_words) in
         let e0 = o.size_is in
         let r = prints setting digit_stands 18 63 w2 w2 [] (omega arith) (sym h.2.2.1) (omega (arith, e0, s.digits)) (omega (arith, e0, s.small)) refl long (begun_at w2 long refl) in
         let p0 : Leads setting (o.least + 1 + 1 + r.least) (o.most + 1 + 1 + r.most) [] x r.y = leads_then setting.marks (leads_on setting.marks (leads_on setting.marks o.leads
@@ -301,7 +302,7 @@ module _ (setting : Setting) where
           rdi_kept = λ u. b.words kept_rdi (omega arith) (omega arith) ∙ ap (λ l. word_in l kept_rdi) o.bytes ∙ kept.rdi_kept u;
           registers = λ r e. let q = other_of r e in rw (q.2) (b.registers r e ∙ rw (q.1, q.3) (o.registers r e));
           size = b.size ∙ size;
-          others = b.others ∙ ap (drop 512) o.bytes ∙ kept.behind 512 (omega arith);
+          others = b.others ∙ ap (drop own_size) o.bytes ∙ kept.behind own_size (omega arith);
           output_is = b.output_is ∙ o.output_is;
           answers_are = b.answers_are ∙ o.answers_are;
         } in

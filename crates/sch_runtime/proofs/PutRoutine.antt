@@ -4,16 +4,17 @@ use Rattle.std.specs.Prelude.{not}
 use Rattle.std.proofs.lemmas.Bool.{cases_Bool, eqb-true}
 use Rattle.sch_word.specs.values.Put.{put}
 use Rattle.sch_word.specs.declared.answer.Answer.{Answer}
+use Rattle.sch_word.specs.runs.ProgramLayout.{data_address}
 use Rattle.sch_insn.specs.declared.insn.Arg.TheVariants.{Reg}
 use Rattle.sch_insn.specs.declared.insn.Insn.TheVariants.{MovTo, JumpTo}
 use Rattle.sch_insn.specs.Machine.{set_register}
 use Rattle.sch_insn.proofs.Paths.{leads_then, leads_on}
-use Rattle.sch_insn.specs.declared.register.TheConstants.{RAX, RCX, RDX, RSI, RDI, R11}
+use Rattle.sch_word.specs.declared.registers.TheConstants.{RAX, RCX, RDX, RSI, RDI, R11}
 use Rattle.sch_asm.specs.declared.item.Item.TheVariants.{Label, Plain, LoadWord, StoreWord}
 use Rattle.sch_asm.specs.Stands.{Setting, Stands}
 use Rattle.sch_asm.specs.Data.{PieceAt, word_in, with_word, Inside}
 use Rattle.sch_asm.specs.Views.{View, Leads}
-use Rattle.sch_asm.specs.Effects.{is_scratch, IsReady, PutEnds, Puts}
+use Rattle.sch_asm.specs.Effects.{is_scratch, IsReady, PutEnds, Puts, own_size}
 use Rattle.sch_asm.proofs.EachItem.{goes, loads_data, stores_data}
 use Rattle.sch_asm.proofs.Words.{size_kept, word_same, word_other, behind_word}
 use Rattle.sch_asm.proofs.Pieces.{piece_behind}
@@ -22,7 +23,7 @@ use Rattle.sch_runtime.proofs.Exits.{stops_after}
 use Rattle.sch_runtime.proofs.WriteLoop.{is_other, other_of, Ends, writes}
 
 -- a word of the routines' own
-pub own_word : (size a : ℕ) → 512 ≤ size → 0x10000000 ≤ a → a + 8 ≤ 0x10000200 → Inside size a
+pub own_word : (size a : ℕ) → own_size ≤ size → data_address ≤ a → a + 8 ≤ data_address + own_size → Inside size a
 own_word size a long low high = record { low = low; high = omega arith }
 
 -- what is said of registers that are kept
@@ -76,7 +77,7 @@ module _ (setting : Setting) where
     pub rdi_kept : x.registers RDI < 2 ^ 64 → word_in z.bytes kept_rdi ≡ x.registers RDI
     pub registers : (r : ℕ) → is_other r ≡ true → z.registers r ≡ x.registers r
     pub size : length z.bytes ≡ length x.bytes
-    pub others : drop 512 z.bytes ≡ drop 512 x.bytes
+    pub others : drop own_size z.bytes ≡ drop own_size x.bytes
     pub output_is : z.output ≡ x.output
     pub answers_are : z.answers ≡ x.answers
 
@@ -89,12 +90,12 @@ module _ (setting : Setting) where
     returned x z w a b output left p e f same k ready false s = stops_after setting x w a b 12 (b + 16) 74 output left p s (let g = ap (λ l. 10 * length l) (f ∙ k.answers_are) in omega (arith, g))
     returned x z w a b output left p e f same k ready true d =
         let size = k.size in
-        let long : 512 ≤ length z.bytes = omega (arith, size, ready.own_words) in
+        let long : own_size ≤ length z.bytes = omega (arith, size, ready.own_words) in
         let i0 = own_word (length z.bytes) kept_r11 long (omega arith) (omega arith) in
         let y0 = d.y in
         let bs : y0.bytes ≡ with_word z.bytes kept_r11 (z.registers R11) = d.bytes ∙ e in
         let same_size : length y0.bytes ≡ length z.bytes = ap length bs ∙ size_kept z.bytes kept_r11 (z.registers R11) i0 in
-        let long' : 512 ≤ length y0.bytes = omega (arith, same_size, long) in
+        let long' : own_size ≤ length y0.bytes = omega (arith, same_size, long) in
         let h : Stands setting [] y0.place done_code = subst (λ a. Stands setting [] a done_code) (sym d.at) done_stands in
         let y1 : View = record y0 { registers = set_register y0.registers RSI (word_in y0.bytes kept_rsi); place = y0.place + h.0 } in
         let h1 = h.4 in
@@ -133,7 +134,7 @@ module _ (setting : Setting) where
               (cases_Bool (r == RDI)))
               (cases_Bool (r == RSI));
           size = same_size ∙ k.size;
-          others = ap (drop 512) bs ∙ behind_word z.bytes kept_r11 (z.registers R11) 512 i0 (omega arith) ∙ k.others;
+          others = ap (drop own_size) bs ∙ behind_word z.bytes kept_r11 (z.registers R11) own_size i0 (omega arith) ∙ k.others;
           output_is = d.output_is;
           left_is = d.left_is;
         }
@@ -142,7 +143,7 @@ module _ (setting : Setting) where
     pub finishes : (x z : View) (a b : ℕ) (piece : List ℕ) → Leads setting a b [] x z → Kept x z → IsReady x → z.registers RDX ≡ length piece → PieceAt z.bytes (z.registers RSI) piece
         → kept_rsi ≤ z.registers RSI → Puts setting x (b + 17) piece
     finishes x z a b piece p k ready size at low =
-        let long : 512 ≤ length z.bytes = (let e = k.size in omega (arith, e, ready.own_words)) in
+        let long : own_size ≤ length z.bytes = (let e = k.size in omega (arith, e, ready.own_words)) in
         let i0 = own_word (length z.bytes) kept_r11 long (omega arith) (omega arith) in
         let h : Stands setting [] z.place write_code = subst (λ a. Stands setting [] a write_code) (sym k.at) write_stands in
         let bs = with_word z.bytes kept_r11 (z.registers R11) in
@@ -150,7 +151,7 @@ module _ (setting : Setting) where
         let q : Leads setting (a + 1) (b + 1) [] x w = leads_then setting.marks p (stores_data setting z R11 kept_r11 (Label loop_label ∷ loop_code) [] h i0) in
         let here : w.place ≡ place_of loop_label = sym h.4.1 in
         let there : PieceAt bs (z.registers RSI) piece = piece_behind z.bytes (z.registers RSI) piece kept_r11 (z.registers R11) at (omega (arith, low)) i0 in
-        let top : 0x10000000 + length bs < 2 ^ 63 = (let e = size_kept z.bytes kept_r11 (z.registers R11) i0 in let f = k.size in omega (arith, e, f, ready.within)) in
+        let top : data_address + length bs < 2 ^ 63 = (let e = size_kept z.bytes kept_r11 (z.registers R11) i0 in let f = k.size in omega (arith, e, f, ready.within)) in
         let r = writes setting loop_stands failed_stands w.answers w piece refl here size there top in
         let back = returned x z w (a + 1) (b + 1) (w.output ++ (put piece w.answers).taken) (put piece w.answers).left q refl refl (λ r e. refl) k ready (put piece w.answers).whole r in
         let bound : b + 1 + 16 ≡ b + 17 = omega arith in
@@ -160,7 +161,7 @@ module _ (setting : Setting) where
         (subst (λ o. PutEnds setting (put piece z.answers).whole x (b + 17) (o ++ (put piece z.answers).taken) (put piece z.answers).left) k.output_is same)
 
     -- the routine that puts a piece
-    pub puts : (put_stands : Stands setting [] (place_of put_label) put_code) (x : View) (piece : List ℕ) → x.place ≡ place_of put_label → IsReady x → 0x10000200 ≤ x.registers RAX
+    pub puts : (put_stands : Stands setting [] (place_of put_label) put_code) (x : View) (piece : List ℕ) → x.place ≡ place_of put_label → IsReady x → data_address + own_size ≤ x.registers RAX
         → x.registers RDX ≡ length piece → PieceAt x.bytes (x.registers RAX) piece → Puts setting x 20 piece
     puts put_stands x piece at ready low size here =
         let s = saves x ready in
@@ -182,7 +183,7 @@ module _ (setting : Setting) where
           rdi_kept = s.rdi_kept;
           registers = λ r e. let o = other_of r e in rw (o.3) refl;
           size = s.size;
-          others = s.behind 512 (omega arith);
+          others = s.behind own_size (omega arith);
           output_is = refl;
           answers_are = refl;
         } in

@@ -11,10 +11,11 @@ use Rattle.sch_word.specs.declared.answer.Answer.TheVariants.{Took, Failed}
 use Rattle.sch_insn.specs.declared.insn.Arg.TheVariants.{Reg}
 use Rattle.sch_insn.specs.declared.insn.Insn.TheVariants.{MovNumber, AddTo, SubTo, CmpNumber8, Syscall}
 use Rattle.sch_word.specs.values.Options.{first_or_0}
+use Rattle.sch_word.specs.runs.ProgramLayout.{data_address}
 use Rattle.sch_insn.specs.Machine.{set_register, add64, sub64, difference_of, sum_of, unknown_flags, condition}
 use Rattle.sch_insn.specs.Step.{Runs, answered, rest_of, write_row, piece_written}
 use Rattle.sch_insn.proofs.Paths.{leads_then, leads_on}
-use Rattle.sch_insn.specs.declared.register.TheConstants.{RAX, RCX, RDX, RSI, RDI, R11}
+use Rattle.sch_word.specs.declared.registers.TheConstants.{RAX, RCX, RDX, RSI, RDI, R11}
 use Rattle.sch_insn.specs.declared.condition.TheConstants.{E, LE}
 use Rattle.sch_asm.specs.Stands.{Setting, Stands}
 use Rattle.sch_asm.specs.Data.{PieceAt}
@@ -222,7 +223,7 @@ module _ (setting : Setting) where
 
     -- a put, by the answers
     pub writes : (answers : List Answer) (x : View) (piece : List ℕ) → x.answers ≡ answers → x.place ≡ place_of loop_label → x.registers RDX ≡ length piece
-        → PieceAt x.bytes (x.registers RSI) piece → 0x10000000 + length x.bytes < 2 ^ 63 →
+        → PieceAt x.bytes (x.registers RSI) piece → data_address + length x.bytes < 2 ^ 63 →
         Ends (put piece answers).whole x (x.output ++ (put piece answers).taken) (put piece answers).left
     writes answers x [] e at size piece top =
         let d = finished x at size in
@@ -279,7 +280,7 @@ module _ (setting : Setting) where
         let at' : PieceAt t.y.bytes (t.y.registers RSI) (drop m whole) =
         subst (λ a. PieceAt t.y.bytes a (drop m whole)) (sym t.address)
         (subst (λ l. PieceAt l (x.registers RSI + m) (drop m whole)) (sym t.bytes) (piece_later x.bytes (x.registers RSI) whole m within piece)) in
-        let r = writes answers t.y (drop m whole) t.left_is t.at (omega arith) at' (subst (λ l. 0x10000000 + length l < 2 ^ 63) (sym t.bytes) top) in
+        let r = writes answers t.y (drop m whole) t.left_is t.at (omega arith) at' (subst (λ l. data_address + length l < 2 ^ 63) (sym t.bytes) top) in
         let p = put (drop (suc k) whole) answers in
         let r' = subst (λ l. Ends (put l answers).whole t.y (t.y.output ++ (put l answers).taken) (put l answers).left) (drop_min (suc k) whole) r in
         let out : t.y.output ++ p.taken ≡ x.output ++ (take (suc k) whole ++ p.taken) =

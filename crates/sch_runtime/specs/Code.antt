@@ -1,12 +1,14 @@
 -- The items of the run-time routines: those that know nothing of values but fixnums, and in front of them those that do. Each
 -- returns by a jump through r11. A call of the kernel overwrites r11, so it is kept in a word of the data meanwhile.
-use Rattle.std.specs.Prelude.{ℕ, ◌+◌, ◌%◌, List, [], ◌∷◌, ◌++◌, pos}
+use Rattle.std.specs.Prelude.{ℕ, ◌+◌, ◌%◌, List, [], ◌∷◌, ◌++◌, map, pos}
 use Rattle.sch_insn.specs.declared.insn.Arg.TheVariants.{Reg, Base}
 use Rattle.sch_insn.specs.declared.insn.Insn.{Insn}
 use Rattle.sch_insn.specs.declared.insn.Insn.TheVariants.{MovTo, MovNumber, StoreByte, AddTo, SubTo, AddNumber8, SubNumber8, CmpNumber8, Neg, Idiv, Sar, JumpTo, Syscall}
 use Rattle.sch_insn.specs.declared.condition.TheConstants.{E, NE, GE, LE}
-use Rattle.sch_insn.specs.declared.register.TheConstants.{RAX, RCX, RDX, RSI, RDI, R11}
+use Rattle.sch_word.specs.declared.registers.TheConstants.{RAX, RCX, RDX, RSI, RDI, R11}
+use Rattle.sch_insn.specs.declared.system_call.TheConstants.{STDOUT, SYS_EXIT, SYS_WRITE}
 use Rattle.sch_word.specs.runs.ProgramLayout.{data_address}
+use Rattle.sch_word.specs.runs.Stops.{all_stops, status_of}
 use Rattle.sch_word.specs.declared.stop.Stop.TheVariants.{OutputFailed}
 use Rattle.sch_asm.specs.declared.item.Item.{Item}
 use Rattle.sch_asm.specs.declared.item.Item.TheVariants.{Label, Plain, Jump, JumpIf, LoadWord, StoreWord}
@@ -14,6 +16,7 @@ use Rattle.sch_asm.specs.declared.routine.TheConstants.{FIRST_INNER_LABEL}
 use Rattle.sch_asm.specs.declared.routine.Routine.TheVariants.{Stop, Put, PutFixnum, FillWords, FillBytes}
 use Rattle.sch_asm.specs.Narrow.{narrowed}
 use Rattle.sch_asm.specs.Routines.{label_of}
+use Rattle.sch_select_memory.specs.Encoded.{fixnum_shift}
 use Rattle.sch_select_memory.specs.ValueCode.{value_code}
 
 -- ---- labels
@@ -68,11 +71,11 @@ bytes_test = 73
 -- ---- exits
 
 abbrev pub exit_code : ℕ → List Item
-exit_code status = Plain (MovNumber (Reg RDI) (pos status)) ∷ Plain (MovNumber (Reg RAX) (pos 60)) ∷ Plain Syscall ∷ []
+exit_code status = Plain (MovNumber (Reg RDI) (pos status)) ∷ Plain (MovNumber (Reg RAX) (pos SYS_EXIT)) ∷ Plain Syscall ∷ []
 
 -- The statuses: of a program's end, and of its stops.
 abbrev pub statuses : List ℕ
-statuses = 0 ∷ 65 ∷ 66 ∷ 67 ∷ 68 ∷ 69 ∷ 70 ∷ 71 ∷ 72 ∷ 73 ∷ 74 ∷ []
+statuses = 0 ∷ map status_of all_stops
 
 -- An exit for each status, with the label of the status modulo 64, and then other items.
 abbrev pub exits : List ℕ → List Item → List Item
@@ -103,7 +106,7 @@ count_code = Plain (CmpNumber8 (Reg RAX) (pos 0)) ∷ JumpIf LE failed_label ∷
 
 -- the kernel is asked
 abbrev pub ask_code : List Item
-ask_code = Plain (MovNumber (Reg RAX) (pos 1)) ∷ Plain (MovNumber (Reg RDI) (pos 1)) ∷ Plain Syscall ∷ count_code
+ask_code = Plain (MovNumber (Reg RAX) (pos SYS_WRITE)) ∷ Plain (MovNumber (Reg RDI) (pos STDOUT)) ∷ Plain Syscall ∷ count_code
 
 abbrev pub loop_code : List Item
 loop_code = Plain (CmpNumber8 (Reg RDX) (pos 0)) ∷ JumpIf E done_label ∷ ask_code
@@ -145,7 +148,7 @@ abbrev pub absolute_code : List Item
 absolute_code = Plain (CmpNumber8 (Reg RAX) (pos 0)) ∷ JumpIf GE positive_label ∷ Plain (Neg (Reg RAX)) ∷ Label positive_label ∷ positive_code
 
 abbrev pub fixnum_code : List Item
-fixnum_code = StoreWord kept_rsi RSI ∷ StoreWord kept_rdi RDI ∷ Plain (Sar (Reg RAX) 3) ∷ Plain (MovTo (Reg RDI) RAX) ∷ absolute_code
+fixnum_code = StoreWord kept_rsi RSI ∷ StoreWord kept_rdi RDI ∷ Plain (Sar (Reg RAX) fixnum_shift) ∷ Plain (MovTo (Reg RDI) RAX) ∷ absolute_code
 
 -- ---- fills: rax has the address of what is left, and rdx how many elements that is
 

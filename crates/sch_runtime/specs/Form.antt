@@ -10,8 +10,9 @@ use Rattle.std.specs.List.{list_any}
 use Rattle.sch_insn.specs.declared.insn.Arg.TheVariants.{Reg}
 use Rattle.sch_insn.specs.declared.insn.Insn.{Insn}
 use Rattle.sch_insn.specs.declared.insn.Insn.TheVariants as insn
-use Rattle.sch_insn.specs.declared.register.TheConstants.{RAX, R11}
+use Rattle.sch_word.specs.declared.registers.TheConstants.{RAX, R11}
 use Rattle.sch_insn.specs.Spelling.{in_memory}
+use Rattle.sch_insn.specs.declared.system_call.TheConstants.{SYS_EXIT}
 use Rattle.sch_asm.specs.declared.item.Item.{Item}
 use Rattle.sch_asm.specs.declared.item.Item.TheVariants.{Label, Plain, Jump, JumpIf, LoadLabel, LoadWord, StoreWord}
 use Rattle.sch_asm.specs.Items.{is_routine}
@@ -46,7 +47,7 @@ writes_memory (insn.Sar m k) = in_memory m
 writes_memory _ = false
 
 abbrev pub is_exit_number : Insn → Bool
-is_exit_number (insn.MovNumber (Reg r) (pos n)) = nat_eq r RAX && nat_eq n 60
+is_exit_number (insn.MovNumber (Reg r) (pos n)) = nat_eq r RAX && nat_eq n SYS_EXIT
 is_exit_number _ = false
 
 -- ## Where the address is to which a routine returns

@@ -1,12 +1,11 @@
 -- How an instruction names a register: as the base of an operand in memory (SDM volume 2, section 2.1.5), or itself; and which
--- items name the one that has the address of the frame, RBP.
+-- items name the one that has the address of the frame.
 use Rattle.std.specs.Prelude.{ℕ, nat_eq, Bool, true, false, ◌&&◌, ◌||◌, not, Option, Some, None}
-use Rattle.sch_word.specs.declared.registers.TheConstants.{FRAME_REGISTER}
+use Rattle.sch_word.specs.declared.registers.TheConstants.{FRAME_REGISTER, RCX}
 use Rattle.sch_insn.specs.declared.insn.Arg.{Arg}
 use Rattle.sch_insn.specs.declared.insn.Arg.TheVariants.{Reg, Base, Base8, Base32}
 use Rattle.sch_insn.specs.declared.insn.Insn.{Insn}
 use Rattle.sch_insn.specs.declared.insn.Insn.TheVariants as insn
-use Rattle.sch_insn.specs.declared.register.TheConstants.{RCX}
 use Rattle.sch_asm.specs.declared.item.Item.{Item}
 use Rattle.sch_asm.specs.declared.item.Item.TheVariants as item
 use Rattle.sch_asm.specs.Narrow.{operand_of}
@@ -70,7 +69,8 @@ hands_frame (insn.MovTo (Reg d) r) = nat_eq r FRAME_REGISTER && nat_eq d RCX
 hands_frame (insn.AddTo (Reg d) r) = nat_eq r FRAME_REGISTER && nat_eq d RCX
 hands_frame _ = false
 
--- RBP is nowhere in the item, or the address that it has goes into RCX. What is done with RCX then is not looked at.
+-- The frame's register is nowhere in the item, or the address that it has goes into RCX. What is done with RCX then is not looked
+-- at.
 abbrev pub leaves_frame : Item → Bool
 leaves_frame (item.Plain i) = is_without FRAME_REGISTER i || hands_frame i
 leaves_frame (item.LoadLabel r l) = not (nat_eq r FRAME_REGISTER)

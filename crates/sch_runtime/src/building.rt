@@ -20,8 +20,10 @@ use crate::new_vector::vector_routine;
 use crate::put_value::put_routine;
 use sch_asm::{Asm, FIRST_INNER_LABEL, Item, Routine, narrowed};
 use sch_insn::condition::{E, GE, LE, NE};
-use sch_insn::register::{R11, RAX, RCX, RDI, RDX, RSI};
+use sch_insn::system_call::{STDOUT, SYS_EXIT, SYS_WRITE};
 use sch_insn::{Arg, Insn};
+use sch_select_memory::word::FIXNUM_SHIFT;
+use sch_word::registers::{R11, RAX, RCX, RDI, RDX, RSI};
 use sch_word::{DATA_ADDRESS, List, Mem, Stop};
 use std::alloc::Global;
 
@@ -75,7 +77,7 @@ pub fn routines(alloc: Global, heap_end: u32) -> Result<Asm, Mem>
     ensures narrow { IfOk result (λ r. IsTrue (list_all is_narrow_item r.items)) }
     // Their text alone shows where each of them returns.
     ensures form { IfOk result (λ r. IsTrue (keeps_form r.items)) }
-    // RBP is nowhere in them, but that its address goes into RCX.
+    // The frame's register is nowhere in them, but that its address goes into RCX.
     ensures frame { IfOk result (λ r. IsTrue (list_all leaves_frame r.items)) }
 {
     let items = all_items(alloc, heap_end)?;
@@ -154,7 +156,7 @@ fn exit_items(status: u8) -> [Item; 4]
     [
         Item::Label((status % 64) as u32),
         Item::Plain(Insn::MovNumber(Arg::Reg(RDI), status as i32)),
-        Item::Plain(Insn::MovNumber(Arg::Reg(RAX), 60)),
+        Item::Plain(Insn::MovNumber(Arg::Reg(RAX), SYS_EXIT as i32)),
         Item::Plain(Insn::Syscall),
     ]
 }
@@ -173,8 +175,8 @@ fn put_items() -> [Item; 17]
         Item::Label(LOOP),
         Item::Plain(Insn::CmpNumber8(Arg::Reg(RDX), 0)),
         Item::JumpIf(E, DONE),
-        Item::Plain(Insn::MovNumber(Arg::Reg(RAX), 1)),
-        Item::Plain(Insn::MovNumber(Arg::Reg(RDI), 1)),
+        Item::Plain(Insn::MovNumber(Arg::Reg(RAX), SYS_WRITE as i32)),
+        Item::Plain(Insn::MovNumber(Arg::Reg(RDI), STDOUT as i32)),
         Item::Plain(Insn::Syscall),
         Item::Plain(Insn::CmpNumber8(Arg::Reg(RAX), 0)),
         Item::JumpIf(LE, Routine::Stop(Stop::OutputFailed).label()),
@@ -205,7 +207,7 @@ fn fixnum_items() -> [Item; 11]
         Item::Label(Routine::PutFixnum.label()),
         Item::StoreWord(KEPT_RSI, RSI),
         Item::StoreWord(KEPT_RDI, RDI),
-        Item::Plain(Insn::Sar(Arg::Reg(RAX), 3)),
+        Item::Plain(Insn::Sar(Arg::Reg(RAX), FIXNUM_SHIFT)),
         Item::Plain(Insn::MovTo(Arg::Reg(RDI), RAX)),
         Item::Plain(Insn::CmpNumber8(Arg::Reg(RAX), 0)),
         Item::JumpIf(GE, POSITIVE),

@@ -10,10 +10,10 @@ ghost use Rattle.sch_select_memory.specs.RestCode.{list_label, more_code, regist
 
 use sch_asm::Item;
 use sch_insn::condition::{A, E, NE};
-use sch_insn::register::{R11, RAX, RCX, RDX};
 use sch_insn::{Arg, Insn};
 use sch_select_memory::addresses::{DATA_OFFSET, FIRST_IN_SLOT, heap_offset, list_label, stop};
-use sch_select_memory::word::{NIL, PAIR};
+use sch_select_memory::word::{NIL, PAIR, PAIR_BYTES, UNIT_SHIFT};
+use sch_word::registers::{R11, RAX, RCX, RDX};
 use sch_word::{ARGUMENT_REGISTERS, FRAME_REGISTER, HEAP_REGISTER, List, Mem, Stop};
 
 // The labels inside the routine, most of them numbered by the operands in front.
@@ -35,7 +35,7 @@ fn check_list(out: &mut List<Item>, heap_end: u32) -> Result<(), Mem>
     let end = heap_offset(heap_end);
     out.extend_from_slice(&[
         Item::Plain(Insn::MovTo(Arg::Reg(RDX), RAX)),
-        Item::Plain(Insn::Shl(Arg::Reg(RDX), 4)),
+        Item::Plain(Insn::Shl(Arg::Reg(RDX), UNIT_SHIFT)),
         Item::Plain(Insn::AddTo(Arg::Reg(RDX), HEAP_REGISTER)),
         Item::Plain(Insn::SubNumber(Arg::Reg(RDX), DATA_OFFSET)),
         Item::Plain(Insn::CmpNumber(Arg::Reg(RDX), end)),
@@ -127,9 +127,9 @@ fn more(out: &mut List<Item>, m: u32, r: u8) -> Result<(), Mem>
         Item::Plain(Insn::SubNumber(Arg::Reg(RAX), 1)),
         Item::JumpIf(E, DONE_LABEL),
         Item::Plain(Insn::MovTo(Arg::Reg(RDX), HEAP_REGISTER)),
-        Item::Plain(Insn::AddNumber(Arg::Reg(RDX), 16 + PAIR)),
+        Item::Plain(Insn::AddNumber(Arg::Reg(RDX), PAIR_BYTES + PAIR)),
         Item::Plain(Insn::MovTo(Arg::Base32(HEAP_REGISTER, 8), RDX)),
-        Item::Plain(Insn::AddNumber(Arg::Reg(HEAP_REGISTER), 16)),
+        Item::Plain(Insn::AddNumber(Arg::Reg(HEAP_REGISTER), PAIR_BYTES)),
         Item::Plain(Insn::MovTo(Arg::Base32(HEAP_REGISTER, 0), r)),
     ])
 }
@@ -155,16 +155,16 @@ fn slots(out: &mut List<Item>) -> Result<(), Mem>
         Item::Plain(Insn::SubNumber(Arg::Reg(RAX), 1)),
         Item::JumpIf(E, DONE_LABEL),
         Item::Plain(Insn::MovTo(Arg::Reg(RDX), HEAP_REGISTER)),
-        Item::Plain(Insn::AddNumber(Arg::Reg(RDX), 16 + PAIR)),
+        Item::Plain(Insn::AddNumber(Arg::Reg(RDX), PAIR_BYTES + PAIR)),
         Item::Plain(Insn::MovTo(Arg::Base32(HEAP_REGISTER, 8), RDX)),
-        Item::Plain(Insn::AddNumber(Arg::Reg(HEAP_REGISTER), 16)),
+        Item::Plain(Insn::AddNumber(Arg::Reg(HEAP_REGISTER), PAIR_BYTES)),
         Item::Plain(Insn::MovFrom(RDX, Arg::Base32(RCX, 0))),
         Item::Plain(Insn::MovTo(Arg::Base32(HEAP_REGISTER, 0), RDX)),
         Item::Plain(Insn::AddNumber(Arg::Reg(RCX), 8)),
         Item::Jump(LOOP_LABEL),
         Item::Label(DONE_LABEL),
         Item::Plain(Insn::MovNumber(Arg::Base32(HEAP_REGISTER, 8), NIL)),
-        Item::Plain(Insn::AddNumber(Arg::Reg(HEAP_REGISTER), 16)),
+        Item::Plain(Insn::AddNumber(Arg::Reg(HEAP_REGISTER), PAIR_BYTES)),
         Item::Plain(Insn::JumpTo(Arg::Reg(R11))),
     ])
 }

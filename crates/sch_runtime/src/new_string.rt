@@ -9,10 +9,12 @@ ghost use Rattle.sch_select_memory.specs.MakeCode.{check_filling, make_string_co
 use crate::new_vector::check_room;
 use sch_asm::{Item, Routine};
 use sch_insn::condition::{L, NE};
-use sch_insn::register::{RAX, RCX, RDX};
 use sch_insn::{Arg, Insn};
 use sch_select_memory::addresses::stop;
-use sch_select_memory::word::{BYTE_MASK, CHARACTER, CHARACTER_SHIFT, FIXNUM_SHIFT, TAG_MASK};
+use sch_select_memory::word::{
+    BYTE_MASK, CHARACTER, CHARACTER_SHIFT, FIXNUM_SHIFT, ROUNDING, TAG_MASK, UNIT_SHIFT,
+};
+use sch_word::registers::{RAX, RCX, RDX};
 use sch_word::{HEAP_REGISTER, List, Mem, Stop};
 
 /// RAX has a length and RCX a character, or the program stops.
@@ -42,9 +44,9 @@ pub(crate) fn string_routine(out: &mut List<Item>, heap_end: u32) -> Result<(), 
     out.extend_from_slice(&[
         Item::Plain(Insn::MovTo(Arg::Reg(RDX), RAX)),
         Item::Plain(Insn::Shr(Arg::Reg(RDX), FIXNUM_SHIFT)),
-        Item::Plain(Insn::AddNumber(Arg::Reg(RDX), 23)),
-        Item::Plain(Insn::Shr(Arg::Reg(RDX), 4)),
-        Item::Plain(Insn::Shl(Arg::Reg(RDX), 4)),
+        Item::Plain(Insn::AddNumber(Arg::Reg(RDX), ROUNDING)),
+        Item::Plain(Insn::Shr(Arg::Reg(RDX), UNIT_SHIFT)),
+        Item::Plain(Insn::Shl(Arg::Reg(RDX), UNIT_SHIFT)),
     ])?;
     check_room(out, heap_end)?;
     out.extend_from_slice(&[

@@ -7,13 +7,16 @@ ghost use Rattle.sch_select_memory.specs.Addresses.{put_label};
 
 use sch_asm::{Item, Routine};
 use sch_insn::condition::{E, NE};
-use sch_insn::register::{RAX, RDX};
 use sch_insn::{Arg, Insn};
-use sch_select_memory::addresses::{DATA_OFFSET, TABLE_ADDRESS, stop};
+use sch_select_memory::addresses::{
+    BYTES_ADDRESS, NAME_ENTRY, NAME_LENGTH, STRING_BYTES, STRING_LENGTH, TABLE_ADDRESS,
+    TEXTS_ADDRESS, stop,
+};
 use sch_select_memory::word::{
     BYTE_MASK, CELL, CHARACTER, CHARACTER_SHIFT, FALSE, FIXNUM_SHIFT, NIL, PAIR, PROCEDURE, STRING,
     SYMBOL, TAG_MASK, TRUE, VECTOR,
 };
+use sch_word::registers::{RAX, RDX};
 use sch_word::{List, Mem, Stop};
 
 // The labels inside the routine.
@@ -27,14 +30,14 @@ const NOT_NIL: u32 = 77;
 
 const PROCEDURE_TEXT: u32 = 78;
 
-const STRING_BYTES: u32 = 79;
+const STRING_TEXT: u32 = 79;
 
-const SYMBOL_BYTES: u32 = 80;
+const SYMBOL_TEXT: u32 = 80;
 
-// Where the bytes and the texts that are put stand.
-const BYTES_ADDRESS: i32 = DATA_OFFSET + 0x200;
+// Where the bytes and the texts that are put stand, as immediates.
+const BYTES: i32 = BYTES_ADDRESS as i32;
 
-const TEXTS_ADDRESS: i32 = BYTES_ADDRESS + 256;
+const TEXTS: i32 = TEXTS_ADDRESS as i32;
 
 /// The tag of the word in RAX. Fixnums, procedures, strings and symbols are put elsewhere, and other objects are not.
 fn put_tags() -> [Item; 16]
@@ -54,9 +57,9 @@ fn put_tags() -> [Item; 16]
         Item::Plain(Insn::CmpNumber(Arg::Reg(RDX), VECTOR)),
         Item::JumpIf(E, stop(Stop::WrongType)),
         Item::Plain(Insn::CmpNumber(Arg::Reg(RDX), STRING)),
-        Item::JumpIf(E, STRING_BYTES),
+        Item::JumpIf(E, STRING_TEXT),
         Item::Plain(Insn::CmpNumber(Arg::Reg(RDX), SYMBOL)),
-        Item::JumpIf(E, SYMBOL_BYTES),
+        Item::JumpIf(E, SYMBOL_TEXT),
     ]
 }
 
@@ -70,7 +73,7 @@ fn put_character() -> [Item; 9]
         Item::Plain(Insn::CmpNumber(Arg::Reg(RDX), CHARACTER)),
         Item::JumpIf(NE, NO_CHARACTER),
         Item::Plain(Insn::Shr(Arg::Reg(RAX), CHARACTER_SHIFT)),
-        Item::Plain(Insn::AddNumber(Arg::Reg(RAX), BYTES_ADDRESS)),
+        Item::Plain(Insn::AddNumber(Arg::Reg(RAX), BYTES)),
         Item::Plain(Insn::MovNumber(Arg::Reg(RDX), 1)),
         Item::Jump(Routine::Put.label()),
         Item::Label(NO_CHARACTER),
@@ -84,30 +87,30 @@ fn put_texts() -> [Item; 26]
     [
         Item::Plain(Insn::CmpNumber(Arg::Reg(RAX), TRUE)),
         Item::JumpIf(NE, NOT_TRUE),
-        Item::Plain(Insn::MovNumber(Arg::Reg(RAX), TEXTS_ADDRESS)),
+        Item::Plain(Insn::MovNumber(Arg::Reg(RAX), TEXTS)),
         Item::Plain(Insn::MovNumber(Arg::Reg(RDX), 2)),
         Item::Jump(Routine::Put.label()),
         Item::Label(NOT_TRUE),
         Item::Plain(Insn::CmpNumber(Arg::Reg(RAX), FALSE)),
         Item::JumpIf(NE, NOT_FALSE),
-        Item::Plain(Insn::MovNumber(Arg::Reg(RAX), TEXTS_ADDRESS + 2)),
+        Item::Plain(Insn::MovNumber(Arg::Reg(RAX), TEXTS + 2)),
         Item::Plain(Insn::MovNumber(Arg::Reg(RDX), 2)),
         Item::Jump(Routine::Put.label()),
         Item::Label(NOT_FALSE),
         Item::Plain(Insn::CmpNumber(Arg::Reg(RAX), NIL)),
         Item::JumpIf(NE, NOT_NIL),
-        Item::Plain(Insn::MovNumber(Arg::Reg(RAX), TEXTS_ADDRESS + 4)),
+        Item::Plain(Insn::MovNumber(Arg::Reg(RAX), TEXTS + 4)),
         Item::Plain(Insn::MovNumber(Arg::Reg(RDX), 2)),
         Item::Jump(Routine::Put.label()),
         Item::Label(NOT_NIL),
-        Item::Plain(Insn::MovNumber(Arg::Reg(RAX), TEXTS_ADDRESS + 6)),
+        Item::Plain(Insn::MovNumber(Arg::Reg(RAX), TEXTS + 6)),
         Item::Plain(Insn::MovNumber(Arg::Reg(RDX), 14)),
         Item::Jump(Routine::Put.label()),
         Item::Label(PROCEDURE_TEXT),
-        Item::Plain(Insn::MovNumber(Arg::Reg(RAX), TEXTS_ADDRESS + 20)),
+        Item::Plain(Insn::MovNumber(Arg::Reg(RAX), TEXTS + 20)),
         Item::Plain(Insn::MovNumber(Arg::Reg(RDX), 12)),
         Item::Jump(Routine::Put.label()),
-        Item::Label(STRING_BYTES),
+        Item::Label(STRING_TEXT),
     ]
 }
 
@@ -116,15 +119,15 @@ fn put_objects() -> [Item; 12]
     ensures { result ≡ objects_put }
 {
     [
-        Item::Plain(Insn::MovFrom(RDX, Arg::Base32(RAX, -3))),
+        Item::Plain(Insn::MovFrom(RDX, STRING_LENGTH)),
         Item::Plain(Insn::Shr(Arg::Reg(RDX), FIXNUM_SHIFT)),
-        Item::Plain(Insn::AddNumber(Arg::Reg(RAX), 5)),
+        Item::Plain(Insn::AddNumber(Arg::Reg(RAX), STRING_BYTES)),
         Item::Jump(Routine::Put.label()),
-        Item::Label(SYMBOL_BYTES),
+        Item::Label(SYMBOL_TEXT),
         Item::LoadWord(RDX, TABLE_ADDRESS),
         Item::Plain(Insn::AddTo(Arg::Reg(RAX), RDX)),
-        Item::Plain(Insn::MovFrom(RAX, Arg::Base32(RAX, -5))),
-        Item::Plain(Insn::MovFrom(RDX, Arg::Base32(RAX, 0))),
+        Item::Plain(Insn::MovFrom(RAX, NAME_ENTRY)),
+        Item::Plain(Insn::MovFrom(RDX, NAME_LENGTH)),
         Item::Plain(Insn::Shr(Arg::Reg(RDX), FIXNUM_SHIFT)),
         Item::Plain(Insn::AddNumber(Arg::Reg(RAX), 8)),
         Item::Jump(Routine::Put.label()),

@@ -6,11 +6,8 @@ use Rattle.sch_control.specs.declared.operation.Atom.TheVariants.{Variable}
 use Rattle.sch_control.specs.declared.operation.Source.TheVariants as source
 use Rattle.sch_control.specs.declared.operation.Operation.TheVariants as operation
 use Rattle.sch_control.specs.Tree.{Expression, perform, bind, sequence, branch, fix, call, tail_call, return, end, save}
-use Rattle.sch_control.proofs.Examples.{number, truth, held_in, applied, value_of}
+use Rattle.sch_control.proofs.Examples.{number, truth, held_in, applied, value_of, global}
 use Rattle.sch_saves.specs.LazyRegions.{outermost, lazily_saved}
-
-abbrev global : Expression
-global = perform (operation.Global 0)
 
 -- ## (define (g x y) (if (and x (h y)) y (not (h x)))), where x is variable 2 and y is 3
 

@@ -9,7 +9,8 @@ use Rattle.sch_word.proofs.facts.Booleans.{and_left, and_right, and_of}
 use Rattle.sch_control.specs.Meaning.{no_region, with_region}
 use Rattle.sch_control.specs.Tree.{Expression, perform, bind, sequence, branch, fix, call, tail_call, return, end, save}
 use Rattle.sch_control.specs.Valid.{is_bare}
-use Rattle.sch_control.proofs.NumberLists.{has_filter, all_filter, once_filter, once_from, below_from, all_left}
+use Rattle.sch_control.proofs.NumberLists.{has_filter, all_filter, once_filter, below_from, all_left}
+use Rattle.sch_word.proofs.facts.NumberSets.{distinct_numbers}
 use Rattle.sch_control.specs.flow.Bare.{unlisted, unsaved, erased}
 use Rattle.sch_control.specs.flow.Regions.{regions_apart, SavesBelow}
 use Rattle.sch_paths.specs.Exact.{saved_round}
@@ -21,7 +22,7 @@ pub needed_below : (n bound : ℕ) (e : Expression) → n ≤ bound → list_all
 needed_below n bound e l = all_left _ _ (needed n e) (all_filter (λ x. nat_lt x bound) (λ x. needs x e) (numbers 0 n) (below_from 0 n bound (omega (arith, l))))
 
 needed_once : (n : ℕ) (e : Expression) → without_repeats (needed n e) ≡ true
-needed_once n e = once_filter (λ x. needs x e) (numbers 0 n) (once_from 0 n)
+needed_once n e = once_filter (λ x. needs x e) (numbers 0 n) (distinct_numbers 0 n)
 
 -- ## Round an expression
 

@@ -6,7 +6,8 @@ use Rattle.sch_sets.specs.Members.{NumberSet}
 use Rattle.sch_sets.proofs.Membership.{contains-empty, contains-union, contains-intersection}
 use Rattle.sch_word.specs.trees.NumberSets.{has}
 use Rattle.sch_word.specs.trees.Bindings.{numbers}
-use Rattle.sch_word.proofs.facts.Booleans.{and_true, and_false}
+use Rattle.sch_word.proofs.facts.Booleans.{and_true}
+use Rattle.std.proofs.Math.Bool.{and-false}
 use Rattle.sch_control.specs.declared.operation.Application.{Application}
 use Rattle.sch_control.specs.declared.operation.Operation.{Operation}
 use Rattle.sch_control.specs.Tree.{Expression, perform, bind, sequence, branch, call, tail_call, return, end}
@@ -55,7 +56,7 @@ module _ (n : ℕ) where
   IsAll all = (x : ℕ) → set.contains all x ≡ nat_lt x n
 
   none_saved : (e : Expression) (r : Bool) → ((x : ℕ) → saved_by x e r ≡ false) → IsSavedBy n e r set.empty
-  none_saved e r h x = contains-empty x ∙ (sym (and_false (nat_lt x n)) ∙ ap (λ b. nat_lt x n && b) (sym (h x)))
+  none_saved e r h x = contains-empty x ∙ (sym (and-false (nat_lt x n)) ∙ ap (λ b. nat_lt x n && b) (sym (h x)))
 
   all_saved : (e : Expression) (r : Bool) (all : NumberSet) → IsAll all → ((x : ℕ) → saved_by x e r ≡ true) → IsSavedBy n e r all
   all_saved e r all is h x = is x ∙ (sym (and_true (nat_lt x n)) ∙ ap (λ b. nat_lt x n && b) (sym (h x)))

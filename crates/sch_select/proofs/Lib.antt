@@ -1,2 +1,3 @@
 pub mod programs
 pub mod items
+pub mod frame

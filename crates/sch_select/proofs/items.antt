@@ -18,5 +18,3 @@ pub mod StoreExamples
 pub mod InstructionCounts
 pub mod JumpsAhead
 pub mod ReachedCodes
-pub mod ProgramFrames
-pub mod FrameExamples

@@ -3,6 +3,8 @@ pub mod Program
 pub mod Sizes
 pub mod MarkedStores
 pub mod FrameWords
+pub mod SlotAddress
+pub mod KnownBases
 pub mod Jumps
 pub mod Marks
 pub mod Ends

@@ -1,14 +1,13 @@
 -- Where the marks of stores stand among items: each write of a word of a frame stands behind one of them, and they stand
--- nowhere else. What is written through RBP is looked at, whose address goes nowhere else (FrameWords). One run-time routine, which
--- makes lists of operands, fills slots through RCX: it has no marks, and nothing here is said of it.
+-- nowhere else. What is written through the frame's register is looked at, whose address goes nowhere else (FrameWords). One
+-- run-time routine, which makes lists of operands, fills slots through RCX: it has no marks, and nothing here is said of it.
 use Rattle.std.specs.Prelude.{ℕ, nat_eq, Bool, true, false, ◌&&◌, not, List, [], ◌∷◌, Option, Some, None}
 use Rattle.sch_word.specs.declared.mark.MarkKind.{MarkKind}
 use Rattle.sch_word.specs.declared.mark.MarkKind.TheVariants as mark
-use Rattle.sch_word.specs.declared.registers.TheConstants.{CLOSURE_REGISTER, FRAME_REGISTER, LINK_REGISTER}
+use Rattle.sch_word.specs.declared.registers.TheConstants.{CLOSURE_REGISTER, FRAME_REGISTER, LINK_REGISTER, RDX}
 use Rattle.sch_insn.specs.declared.insn.Arg.TheVariants.{Reg}
 use Rattle.sch_insn.specs.declared.insn.Insn.{Insn}
 use Rattle.sch_insn.specs.declared.insn.Insn.TheVariants as insn
-use Rattle.sch_insn.specs.declared.register.TheConstants.{RDX}
 use Rattle.sch_asm.specs.declared.item.Item.{Item}
 use Rattle.sch_asm.specs.declared.item.Item.TheVariants as item
 use Rattle.sch_runtime.specs.FrameRegister.{has_base}

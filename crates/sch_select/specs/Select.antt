@@ -1,10 +1,10 @@
 -- The items of each instruction of a body. What follows is an argument, so nothing is appended. RAX is the
--- accumulator, RCX has a second operand, RDX and R11 are free, and RBP has the address of the frame. Of code that is
--- not covered nothing is claimed, whatever its items are here.
+-- accumulator, RCX has a second operand, and RDX and R11 are free. Of code that is not covered nothing is claimed, whatever
+-- its items are here.
 use Rattle.std.specs.Prelude.{ℕ, ◌+◌, List, [], ◌∷◌, pos}
 use Rattle.sch_word.specs.declared.place.Place.{Place}
 use Rattle.sch_word.specs.declared.place.Place.TheVariants as place
-use Rattle.sch_word.specs.declared.registers.TheConstants.{LINK_REGISTER}
+use Rattle.sch_word.specs.declared.registers.TheConstants.{LINK_REGISTER, RAX}
 use Rattle.sch_control.specs.declared.operation.Operand.{Operand}
 use Rattle.sch_control.specs.declared.operation.Operand.TheVariants as operand
 use Rattle.sch_control.specs.declared.operation.Operation.{Operation}
@@ -15,7 +15,6 @@ use Rattle.sch_insn.specs.declared.condition.TheConstants.{E}
 use Rattle.sch_insn.specs.declared.insn.Arg.TheVariants.{Reg}
 use Rattle.sch_insn.specs.declared.insn.Insn.{Insn}
 use Rattle.sch_insn.specs.declared.insn.Insn.TheVariants.{MovTo, MovFrom, CmpNumber, JumpTo}
-use Rattle.sch_insn.specs.declared.register.TheConstants.{RAX}
 use Rattle.sch_asm.specs.declared.item.Item.{Item}
 use Rattle.sch_asm.specs.declared.item.Item.TheVariants.{Label, Plain, Jump, JumpIf, Mark}
 use Rattle.sch_select_memory.specs.Encoded.{false_word}

@@ -19,12 +19,12 @@ use sch_asm::Item;
 use sch_control::{Entry, Operand, Operation};
 use sch_frames::{FrameBody, Instruction};
 use sch_insn::condition::E;
-use sch_insn::register::RAX;
 use sch_insn::{Arg, Insn};
 use sch_select_memory::addresses::{body_label, place_operand};
 use sch_select_memory::enter_rest;
 use sch_select_memory::word::FALSE;
 use sch_select_operations::{call, check_count, group, operation, tail_call};
+use sch_word::registers::RAX;
 use sch_word::{LINK_REGISTER, List, MarkKind, Mem, Place};
 
 /// Where the labels of a body are, its own from `base` on, and `end` behind it; how many words a frame has; where

@@ -1,6 +1,6 @@
 //! A frame program's items and data: `select`.
 
-ghost use Rattle.std.specs.Prelude.{◌≡◌, ◌+◌, ◌*◌, ◌^◌, ◌<◌, ◌≤◌, ◌++◌, [], ◌∷◌, IfOk, IsTrue, OnOk, length, pos, replicate};
+ghost use Rattle.std.specs.Prelude.{◌≡◌, ◌+◌, ◌*◌, ◌^◌, ◌<◌, ◌≤◌, ◌++◌, [], ◌∷◌, false, true, IfOk, IsTrue, OnOk, length};
 ghost use Rattle.std.specs.List.{list_all};
 ghost use Rattle.sch_word.specs.runs.ProgramLayout.{data_address, max_data_size};
 ghost use Rattle.sch_word.specs.declared.limits.TheConstants.{MAX_DEPTH};
@@ -25,7 +25,9 @@ ghost use Rattle.sch_select.specs.Program.{frames_bytes, forms_code, labels_of, 
 ghost use Rattle.sch_select.specs.Program.{own_labels, program_code, program_zeros, stack_bytes};
 ghost use Rattle.sch_select_memory.specs.Addresses.{max_heap_end, max_labels};
 ghost use Rattle.sch_select.specs.MarkedStores.{stores_marked};
-ghost use Rattle.sch_select.specs.FrameWords.{keeps_frame};
+ghost use Rattle.sch_select.specs.FrameWords.{keeps_frames};
+ghost use Rattle.sch_select.specs.KnownBases.{bases_known};
+ghost use Rattle.sch_select.specs.SlotAddress.{overwrites_slot};
 ghost use Rattle.sch_select.specs.Sizes.{kinds_in, kinds_of, steps_size};
 
 use crate::body_items::{Frames, forms};
@@ -154,11 +156,16 @@ pub fn select(alloc: Global, p: &FrameProgram, limits: Limits) -> Result<Asm, Me
     ensures instructions { IfOk result (λ a. steps_size (source p.now) ≤ 3 * instructions_in a.items) }
     ensures ahead { IfOk result (λ a. IsTrue (jumps_ahead (own_label (source p.now)) a.items)) }
     ensures marks { IfOk result (λ a. kinds_in a.items ≡ kinds_of 0 (source p.now).bodies) }
-    // Where each mark of a body stands at its instruction, each write of memory that RBP names stands behind one.
+    // Where each mark of a body stands at its instruction, each write of memory through the frame's register stands behind one.
     ensures stores { IfOk result (λ a. IsTrue (all_marks_stand (source p.now).bodies) → IsTrue (stores_marked None a.items)) }
-    // The address that RBP has goes into no other register and no word of memory; an address that is made of numbers or of
-    // other registers is not looked at, nor RCX behind the routine of lists, where it has the address of a slot.
-    ensures frame { IfOk result (λ a. IsTrue (list_all keeps_frame a.items)) }
+    // The address that the frame's register has goes into no other register and no word of memory. That register is set to no number
+    // but that where the frames begin, and each word that is named by its number ends before the heap begins.
+    ensures frame { IfOk result (λ a. IsTrue (keeps_frames (source p.now) limits.heap a.items)) }
+    // The address of a slot that the routine of lists leaves in RCX is overwritten before an item reads it.
+    ensures slot { IfOk result (λ a. IsTrue (overwrites_slot (own_label (source p.now)) true [] a.items)) }
+    // Each base of an operand in memory is the frame's register, the heap's, or one that has got a word of memory or of a variable, or
+    // whose tag was tested: none was set to a number since.
+    ensures bases { IfOk result (λ a. IsTrue (bases_known false false false a.items)) }
     // The words end where the heap begins.
     ensures words { IfOk result (λ a. data_address + 8 * length a.words ≡ heap_of (source p.now)) }
     ensures low { IfOk result (λ a. heap_of (source p.now) ≤ max_heap_address) }

@@ -7,6 +7,7 @@ use Rattle.std.proofs.lemmas.Grind.{flat_map-append}
 use Rattle.std.proofs.lemmas.List.{drop-drop}
 use Rattle.std.proofs.lemmas.Nat.{from_le_bytes-to_le_bytes_8}
 use Rattle.std.proofs.Math.Seq.{drop-append_seam, take-append_seam}
+use Rattle.sch_word.specs.runs.ProgramLayout.{data_address}
 use Rattle.sch_asm.specs.declared.assembly.Word.{Word}
 use Rattle.sch_asm.specs.declared.assembly.Word.TheVariants.{Fixed}
 use Rattle.sch_asm.specs.Codes.{bytes_of, value_of}
@@ -47,7 +48,7 @@ module _ (place_of : ℕ → ℕ) where
   abbrev pub WordsAt : (bytes : List ℕ) (a : ℕ) → List Word → Type 0
   WordsAt bytes a ws = PieceAt bytes a (spelled ws)
 
-  pub whole_words : (ws : List Word) (rest : List ℕ) → WordsAt (spelled ws ++ rest) 0x10000000 ws
+  pub whole_words : (ws : List Word) (rest : List ℕ) → WordsAt (spelled ws ++ rest) data_address ws
   whole_words ws rest = record {
     rest = rest;
     is = refl;
@@ -59,9 +60,9 @@ module _ (place_of : ℕ → ℕ) where
       → slice_get ws k ≡ Some w → value_of place_of w < 2 ^ 64 → word_in bytes (a + 8 * k) ≡ value_of place_of w
   word_there bytes a ws p k w e lt =
       let low = p.low in
-      let s : a + 8 * k - 0x10000000 ≡ (a - 0x10000000) + 8 * k = omega arith in
+      let s : a + 8 * k - data_address ≡ (a - data_address) + 8 * k = omega arith in
       ap (λ n. from_le_bytes w64 (drop n bytes)) s
-      ∙ ap (from_le_bytes w64) (sym (drop-drop (8 * k) (a - 0x10000000) bytes) ∙ ap (drop (8 * k)) p.is)
+      ∙ ap (from_le_bytes w64) (sym (drop-drop (8 * k) (a - data_address) bytes) ∙ ap (drop (8 * k)) p.is)
       ∙ spelled_word ws k w p.rest e lt
 
   -- some words, and those behind them
@@ -89,5 +90,5 @@ module _ (place_of : ℕ → ℕ) where
 
 -- the bytes of a piece
 pub taken : (bytes : List ℕ) (a : ℕ) (piece : List ℕ) → PieceAt bytes a piece
-    → take (length piece) (drop (a - 0x10000000) bytes) ≡ piece
+    → take (length piece) (drop (a - data_address) bytes) ≡ piece
 taken bytes a piece p = ap (take (length piece)) p.is ∙ take-append_seam piece p.rest

@@ -12,12 +12,14 @@ use Rattle.sch_word.specs.values.Values.{Value, Object, pair, vector, string}
 use Rattle.sch_word.specs.values.Literals.{Literals, count_literals, literal_values, objects_of_each}
 use Rattle.sch_word.specs.values.Literals.{literals_known, literals_in_range}
 use Rattle.sch_word.specs.runs.Runs.{Statics, library_known, starting_value}
-use Rattle.sch_control.specs.Operations.{Procedure}
-use Rattle.sch_control.specs.Run.{library_procedures}
+use Rattle.sch_word.specs.runs.Procedures.{Procedure, library_procedures}
+use Rattle.sch_word.specs.runs.ProgramLayout.{data_address}
 use Rattle.sch_asm.specs.declared.assembly.Word.{Word}
 use Rattle.sch_asm.specs.declared.assembly.Word.TheVariants.{Fixed, Address}
 use Rattle.sch_asm.specs.Codes.{bytes_of}
 use Rattle.sch_asm.specs.Data.{word_in, PieceAt}
+use Rattle.sch_asm.specs.Effects.{own_size}
+use Rattle.sch_asm.specs.declared.routine.TheConstants.{OWN_WORDS}
 use Rattle.sch_select_memory.specs.Parts.{a_procedure, a_cell, Part, Parts, units, end_of, spot_from, spot}
 use Rattle.sch_select_memory.specs.Encoded.{IsWord, IsHeld}
 use Rattle.sch_select_memory.specs.Heap.{RecordAt, HeapAt, AreNew}
@@ -32,7 +34,7 @@ use Rattle.sch_select_data.proofs.literals.PlacedLiterals.{placed_objects, place
 use Rattle.sch_select_data.proofs.literals.Sizes.{each_units, objects_contents_length}
 use Rattle.sch_select_data.proofs.literals.WordBytes.{word_bytes}
 use Rattle.sch_select_data.proofs.literals.PutSteps.{placed_values_length}
-use Rattle.sch_select_memory.specs.Addresses.{body_label, globals_address, global_address, literal_address}
+use Rattle.sch_select_memory.specs.Addresses.{body_label, globals_address, global_address, literal_address, bytes_address, literals_address}
 use Rattle.sch_select_memory.specs.Addresses.{names_address, table_address}
 use Rattle.sch_select_data.specs.NameWords.{symbol_words, symbols_count}
 use Rattle.sch_select_memory.specs.StaticBytes.{static_bytes}
@@ -172,14 +174,14 @@ objects_count ls unit =
 fixed_count : (ws : List ℕ) → length (map Fixed ws) ≡ length ws
 fixed_count ws = length-map ws Fixed
 
-unit_is : (c : ℕ) → 16 * closures_unit c ≡ 0x10000328 + 8 * c + 8 * (suc c % 2)
+unit_is : (c : ℕ) → 16 * closures_unit c ≡ literals_address + 8 * c + 8 * (suc c % 2)
 unit_is c = omega arith
 
 -- how long all lists are together
 ends_by : (x y v g n p c o : List Word) (w : Word) (literals globals names library units : ℕ) → length x ≡ 64 → length y ≡ 36
     → length v ≡ literals → length g ≡ globals → length n ≡ names → length p ≡ suc (literals + (globals + names)) % 2
     → length c ≡ 2 * library → length o ≡ 2 * units
-    → 0x10000000 + 8 * length (x ++ (y ++ (w ∷ (v ++ (g ++ (n ++ (p ++ (c ++ o)))))))) ≡
+    → data_address + 8 * length (x ++ (y ++ (w ∷ (v ++ (g ++ (n ++ (p ++ (c ++ o)))))))) ≡
     heap_address (literals + (globals + names)) library units
 ends_by x y v g n p c o w literals globals names library units e1 e2 e3 e4 e5 e6 e7 e8 =
     let a1 = length-append x (y ++ (w ∷ (v ++ (g ++ (n ++ (p ++ (c ++ o))))))) in
@@ -192,8 +194,8 @@ ends_by x y v g n p c o w literals globals names library units e1 e2 e3 e4 e5 e6
     let u = unit_is (literals + (globals + names)) in
     omega (arith, a1, a2, a3, a4, a5, a6, a7, u, e1, e2, e3, e4, e5, e6, e7, e8)
 
-bytes_sum : (xs ys : List ℕ) (k heap z : ℕ) → length xs ≡ 8 * k → length ys ≡ z → 0x10000000 + 8 * k ≡ heap
-    → length (xs ++ ys) + 0x10000000 ≡ heap + z
+bytes_sum : (xs ys : List ℕ) (k heap z : ℕ) → length xs ≡ 8 * k → length ys ≡ z → data_address + 8 * k ≡ heap
+    → length (xs ++ ys) + data_address ≡ heap + z
 bytes_sum xs ys k heap z a b c = let e = length-append xs ys in omega (arith, a, b, c, e)
 
 module _ (place_of : ℕ → ℕ) (small : (l : ℕ) → place_of l < 2 ^ 31) (s : Statics) (library : List ℕ) (zeros : ℕ)
@@ -275,12 +277,12 @@ module _ (place_of : ℕ → ℕ) (small : (l : ℕ) → place_of l < 2 ^ 31) (s
   globals_size : length gwords ≡ globals
   globals_size = globals_count closures_at s.globals
 
-  pub words_end : 0x10000000 + 8 * length all_words ≡ heap_address (static_count s) (length library) (units_in_each s.literals)
-  words_end = ends_by (replicate 64 (Fixed 0)) (word_list static_bytes) value_words gwords name_list (padding (static_count s))
+  pub words_end : data_address + 8 * length all_words ≡ heap_address (static_count s) (length library) (units_in_each s.literals)
+  words_end = ends_by (replicate OWN_WORDS (Fixed 0)) (word_list static_bytes) value_words gwords name_list (padding (static_count s))
       (closure_words library) object_list (Fixed names_at) literals globals (symbols_count s.symbols) (length library)
       (units_in_each s.literals) refl refl values_size globals_size names_size padding_size (closures_count library) objects_size
 
-  pub bytes_count : length all_bytes + 0x10000000 ≡ heap_address (static_count s) (length library) (units_in_each s.literals) + zeros
+  pub bytes_count : length all_bytes + data_address ≡ heap_address (static_count s) (length library) (units_in_each s.literals) + zeros
   bytes_count = bytes_sum (spelled place_of all_words) (replicate zeros 0) (length all_words) _ zeros
       (spelled_count place_of all_words) (length-replicate {A = ℕ} zeros 0) words_end
 
@@ -289,26 +291,26 @@ module _ (place_of : ℕ → ℕ) (small : (l : ℕ) → place_of l < 2 ^ 31) (s
   abbrev At : ℕ → List Word → Type 0
   At a ws = WordsAt place_of all_bytes a ws
 
-  static_at : At 0x10000200 from_static
-  static_at = later_words place_of all_bytes 0x10000000 (replicate 64 (Fixed 0)) from_static
-      (whole_words place_of all_words (replicate zeros 0)) 0x10000200 refl
+  static_at : At bytes_address from_static
+  static_at = later_words place_of all_bytes data_address (replicate OWN_WORDS (Fixed 0)) from_static
+      (whole_words place_of all_words (replicate zeros 0)) bytes_address refl
 
-  pub texts_there : take 288 (drop 512 all_bytes) ≡ static_bytes
-  texts_there = taken all_bytes 0x10000200 static_bytes (front_words place_of all_bytes 0x10000200 (word_list static_bytes)
+  pub texts_there : take 288 (drop own_size all_bytes) ≡ static_bytes
+  texts_there = taken all_bytes bytes_address static_bytes (front_words place_of all_bytes bytes_address (word_list static_bytes)
       from_table static_at)
 
-  table_at : At 0x10000320 from_table
-  table_at = later_words place_of all_bytes 0x10000200 (word_list static_bytes) from_table static_at 0x10000320 refl
+  table_at : At table_address from_table
+  table_at = later_words place_of all_bytes bytes_address (word_list static_bytes) from_table static_at table_address refl
 
   pub table_there : word_in all_bytes table_address ≡ names_at
-  table_there = word_there place_of all_bytes 0x10000320 from_table table_at 0 (Fixed names_at) refl
+  table_there = word_there place_of all_bytes table_address from_table table_at 0 (Fixed names_at) refl
       (let l = low in omega (arith, l))
 
-  values_at : At 0x10000328 from_values
-  values_at = later_words place_of all_bytes 0x10000320 (Fixed names_at ∷ []) from_values table_at 0x10000328 refl
+  values_at : At literals_address from_values
+  values_at = later_words place_of all_bytes table_address (Fixed names_at ∷ []) from_values table_at literals_address refl
 
   globals_at : At (globals_address literals) from_globals
-  globals_at = later_words place_of all_bytes 0x10000328 value_words from_globals values_at (globals_address literals)
+  globals_at = later_words place_of all_bytes literals_address value_words from_globals values_at (globals_address literals)
       (let v = values_size in omega (arith, v))
 
   names_from : At names_at from_names
@@ -329,7 +331,7 @@ module _ (place_of : ℕ → ℕ) (small : (l : ℕ) → place_of l < 2 ^ 31) (s
 
   -- ---- the names
 
-  pub names_there : take (length (word_bytes (symbol_words names_at s.symbols))) (drop (names_at - 0x10000000) all_bytes)
+  pub names_there : take (length (word_bytes (symbol_words names_at s.symbols))) (drop (names_at - data_address) all_bytes)
       ≡ word_bytes (symbol_words names_at s.symbols)
   names_there = taken all_bytes names_at (word_bytes (symbol_words names_at s.symbols))
       (subst (PieceAt all_bytes names_at) (spelled_fixed place_of (symbol_words names_at s.symbols))
@@ -405,8 +407,8 @@ module _ (place_of : ℕ → ℕ) (small : (l : ℕ) → place_of l < 2 ^ 31) (s
         ∙ ap (option_map Fixed) (ap (λ ws. slice_get ws k) (sym (placed_literals unit_at s.literals))
         ∙ slice_get-map (value_word (parts_at unit_at objects)) (literal_values s.literals 0) k
         ∙ ap (option_map (value_word (parts_at unit_at objects))) e) in
-        subst (IsWord parts_at_start v) (sym (word_there place_of all_bytes 0x10000328 value_words
-        (front_words place_of all_bytes 0x10000328 value_words from_globals values_at) k (Fixed w) at (fits parts_at_start v w is))) is
+        subst (IsWord parts_at_start v) (sym (word_there place_of all_bytes literals_address value_words
+        (front_words place_of all_bytes literals_address value_words from_globals values_at) k (Fixed w) at (fits parts_at_start v w is))) is
 
     pub contents_there : HeapAt (λ l. place_of (body_label l)) parts_at_start [] (library_procedures library) objects all_bytes
     contents_there = record {

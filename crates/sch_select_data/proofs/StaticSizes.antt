@@ -56,7 +56,7 @@ are_few s few literals globals symbols a b c =
 -- ---- from these numbers
 
 module _ (s : Statics) (literals globals symbols size : ℕ) (h : AreFew s literals globals symbols) where
-  pub fits_count : literals + globals + symbols ≤ 146800640
+  pub fits_count : literals + globals + symbols ≤ 5 * max_statics
   fits_count = let f = h.few in omega (arith, f)
 
 -- ---- what is made of literals

@@ -3,7 +3,10 @@ use Rattle.std.specs.Prelude.{ℕ, suc, ◌+◌, ◌*◌, ◌/◌, ◌%◌, List
 use Rattle.std.specs.Prelude.{None}
 use Rattle.std.specs.Int.{w64, from_le_bytes}
 use Rattle.sch_word.specs.values.Literals.{count_literals}
-use Rattle.sch_word.specs.runs.Runs.{Statics}
+use Rattle.sch_word.specs.runs.Charges.{rounded}
+use Rattle.sch_word.specs.runs.Runs.{Statics, max_statics}
+use Rattle.sch_word.specs.trees.Shape.{max_library}
+use Rattle.sch_asm.specs.declared.routine.TheConstants.{OWN_WORDS}
 use Rattle.sch_asm.specs.declared.assembly.Word.{Word}
 use Rattle.sch_asm.specs.declared.assembly.Word.TheVariants.{Fixed, Address}
 use Rattle.sch_select_memory.specs.Encoded.{unset_word, procedure_tag}
@@ -41,10 +44,10 @@ closures_of p = 16 * closures_unit (static_count p.statics)
 abbrev pub heap_of : Source → ℕ
 heap_of p = heap_address (static_count p.statics) (length p.library) (units_in_each p.statics.literals)
 
--- The last address at which the heap of a program may begin: what is static takes 32 bytes for each node and byte at most,
--- and the library's procedures take 16 each.
+-- The last address at which the heap of a program may begin: the words in front of literals take whole units, and one more that is not
+-- full is behind the names; what is static takes 32 bytes for each node and byte at most, and the library's procedures take 16 each.
 abbrev pub max_heap_address : ℕ
-max_heap_address = 0x49000340
+max_heap_address = rounded literals_address + 16 + (32 * max_statics + 16 * max_library)
 
 -- ## Words
 
@@ -76,7 +79,7 @@ closure_words (label ∷ library) = Address (body_label label) ∷ (Fixed 0 ∷ 
 -- and objects.
 abbrev pub data_words : (names closures unit : ℕ) → Statics → (library : List ℕ) → List Word
 data_words names closures unit s library =
-    replicate 64 (Fixed 0)
+    replicate OWN_WORDS (Fixed 0)
     ++ (word_list static_bytes
     ++ (Fixed names
     ∷ (map Fixed (placed_values s.literals unit)

@@ -4,6 +4,7 @@ use Rattle.std.specs.List.{list_all}
 use Rattle.sch_word.specs.values.Values.{Object, pair, vector, string}
 use Rattle.sch_word.specs.runs.Charges.{pair_bytes, vector_bytes, string_bytes}
 use Rattle.sch_select_memory.specs.Parts.{Owner, a_procedure, a_cell, a_pair, a_vector, a_string, Part, Parts, spot}
+use Rattle.sch_select_memory.specs.Heap.{owner_of}
 
 -- what an object takes is what is charged for a new one
 abbrev pub object_bytes : Object → ℕ
@@ -11,17 +12,12 @@ object_bytes (pair a d) = pair_bytes
 object_bytes (vector elements) = vector_bytes (length elements)
 object_bytes (string text) = string_bytes (length text)
 
-abbrev pub object_owner : (n : ℕ) → Object → Owner
-object_owner n (pair a d) = a_pair n
-object_owner n (vector elements) = a_vector n
-object_owner n (string text) = a_string n
-
 -- the units of 16 bytes that an object takes beside one
 abbrev pub object_more : Object → ℕ
 object_more o = object_bytes o / 16 - 1
 
 abbrev pub object_part : (n : ℕ) → Object → Part
-object_part n o = record { owner = object_owner n o; more = object_more o }
+object_part n o = record { owner = owner_of n o; more = object_more o }
 
 -- the parts of objects that have the numbers from n on
 abbrev pub object_parts : (n : ℕ) → List Object → List Part

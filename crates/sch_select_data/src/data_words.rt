@@ -8,6 +8,7 @@ ghost use Rattle.sch_word.specs.values.LiteralView.{literals_of};
 ghost use Rattle.sch_word.specs.values.Literals.{count_literals, literals_size};
 ghost use Rattle.sch_word.specs.values.StaticsView.{statics};
 ghost use Rattle.sch_asm.specs.declared.assembly.Word.TheVariants.{Fixed};
+ghost use Rattle.sch_asm.specs.declared.routine.TheConstants.{OWN_WORDS};
 ghost use Rattle.sch_select_data.specs.ObjectWords.{text_words};
 ghost use Rattle.sch_select_data.specs.PlacedWords.{placed_values, placed_each};
 ghost use Rattle.sch_select_data.specs.Data.{closure_words, closures_unit, data_words, global_word, global_words, objects_unit, static_count};
@@ -19,7 +20,7 @@ ghost use Rattle.sch_select_memory.specs.Reach.{is_reached_label};
 
 use crate::contents::word_at;
 use crate::placing::StaticObjects;
-use sch_asm::Word;
+use sch_asm::{OWN_WORDS, Word};
 use sch_frames::FrameProgram;
 use sch_select_memory::addresses::{LITERALS_ADDRESS, body_label};
 use sch_select_memory::word::{PROCEDURE, UNSET};
@@ -131,9 +132,9 @@ fn same_words(alloc: Global, word: Word, count: usize) -> Result<List<Word>, Mem
 
 /// The words in front of the address of names.
 fn first_words(alloc: Global) -> Result<List<Word>, Mem>
-    ensures { IfOk result (λ words. words ≡ replicate 64 (Fixed 0) ++ word_list static_bytes) }
+    ensures { IfOk result (λ words. words ≡ replicate OWN_WORDS (Fixed 0) ++ word_list static_bytes) }
 {
-    let mut words = same_words(alloc, Word::Fixed(0), 64)?;
+    let mut words = same_words(alloc, Word::Fixed(0), OWN_WORDS)?;
     words.extend_from_slice(&static_words())?;
     Ok(words)
 }

@@ -10,40 +10,41 @@ use Rattle.sch_word.specs.declared.place.Place.{Place}
 use Rattle.sch_word.specs.declared.place.Place.TheVariants.{Reg, Slot}
 use Rattle.sch_word.specs.values.Values.{Value}
 use Rattle.sch_word.specs.runs.Computation.{State}
-use Rattle.sch_control.specs.Operations.{Procedure}
+use Rattle.sch_word.specs.runs.Procedures.{Procedure}
 use Rattle.sch_frames.specs.Meaning.{Cell}
 use Rattle.sch_asm.specs.Data.{Inside, word_in, with_word}
-use Rattle.sch_asm.specs.Effects.{is_scratch}
+use Rattle.sch_asm.specs.Effects.{is_scratch, own_size}
 use Rattle.sch_asm.proofs.Words.{word_same, word_other, size_kept}
 use Rattle.sch_select_memory.specs.Parts.{Parts}
 use Rattle.sch_select_memory.specs.Encoded.{IsWord, IsHeld}
 use Rattle.sch_select_memory.proofs.heap.Ranges.{BytesStay, piece_in, word_stays, piece_beside}
 use Rattle.sch_select_memory.proofs.heap.Contents.{heap_kept}
 use Rattle.sch_word.proofs.facts.Lists.{set_here, set_elsewhere}
-use Rattle.sch_select_memory.specs.Addresses.{table_address, literal_address, global_address, names_address}
+use Rattle.sch_word.specs.runs.ProgramLayout.{data_address}
+use Rattle.sch_select_memory.specs.Addresses.{table_address, literal_address, global_address, names_address, bytes_address}
 use Rattle.sch_select_memory.proofs.heap.Encodings.{fits}
 use Rattle.sch_select_memory.proofs.Places.{Plan, code_of, heap_above, Activation, StoreAt, store_changed}
 use Rattle.sch_select_memory.proofs.Places.{PlacesAt, Holds, same_word, no_scratch}
 
 -- ---- bytes behind the routines' own words
 
-pub piece_behind : (bytes bytes' : List ℕ) (a n : ℕ) → drop 512 bytes' ≡ drop 512 bytes → 0x10000200 ≤ a
+pub piece_behind : (bytes bytes' : List ℕ) (a n : ℕ) → drop own_size bytes' ≡ drop own_size bytes → bytes_address ≤ a
     → piece_in bytes' a n ≡ piece_in bytes a n
 piece_behind bytes bytes' a n e le =
-    let k = a - 0x10000200 in
-    let at : 512 + k ≡ a - 0x10000000 = omega (arith, le) in
-    let cut : (xs : List ℕ) → drop (a - 0x10000000) xs ≡ drop k (drop 512 xs) = λ xs. ap (λ n. drop n xs) (sym at)
-    ∙ sym (drop-drop k 512 xs) in
+    let k = a - bytes_address in
+    let at : own_size + k ≡ a - data_address = omega (arith, le) in
+    let cut : (xs : List ℕ) → drop (a - data_address) xs ≡ drop k (drop own_size xs) = λ xs. ap (λ n. drop n xs) (sym at)
+    ∙ sym (drop-drop k own_size xs) in
     ap (take n) (cut bytes' ∙ ap (drop k) e ∙ sym (cut bytes))
 
-pub word_behind : (bytes bytes' : List ℕ) (a : ℕ) → drop 512 bytes' ≡ drop 512 bytes → 0x10000200 ≤ a
+pub word_behind : (bytes bytes' : List ℕ) (a : ℕ) → drop own_size bytes' ≡ drop own_size bytes → bytes_address ≤ a
     → word_in bytes' a ≡ word_in bytes a
 word_behind bytes bytes' a e le = word_stays bytes bytes' a (piece_behind bytes bytes' a 8 e le)
 
 module _ (plan : Plan) where
   open plan use {setting, size, words, literals, globals, names, heap, stack, stack_low, small, narrow, labels}
 
-  pub global_inside : (g : ℕ) (bytes : List ℕ) → g < globals → heap ≤ 0x10000000 + size → length bytes ≡ size
+  pub global_inside : (g : ℕ) (bytes : List ℕ) → g < globals → heap ≤ data_address + size → length bytes ≡ size
       → Inside (length bytes) (global_address literals g)
   global_inside g bytes lt le e = let h = heap_above plan in record
       { low = omega arith; high = omega (arith, h, lt, le, e) }
@@ -51,14 +52,14 @@ module _ (plan : Plan) where
   -- ---- a global has a value
 
   pub global_written : (parts : Parts) (s : State Procedure) (g : ℕ) (v : Value) (x : ℕ) (bytes output : List ℕ)
-      (answers : List Answer) → g < globals → heap ≤ 0x10000000 + size → IsWord parts v x
+      (answers : List Answer) → g < globals → heap ≤ data_address + size → IsWord parts v x
       → StoreAt plan parts s bytes output answers → StoreAt plan parts
       (record s { store = record s.store { globals = slice_set s.store.globals g (Some v) } })
       (with_word bytes (global_address literals g) x) output answers
   global_written parts s g v x bytes output answers lt le h at =
       let within = global_inside g bytes lt le at.size_is in
       let b = at.begins in let cl = plan.closures_low in
-      let beside : (a n : ℕ) → 0x10000000 ≤ a → (a + n ≤ global_address literals g) ⊎
+      let beside : (a n : ℕ) → data_address ≤ a → (a + n ≤ global_address literals g) ⊎
       (global_address literals g + 8 ≤ a) → piece_in (with_word bytes (global_address literals g) x) a n
       ≡ piece_in bytes a n = λ a n low far. piece_beside bytes (global_address literals g) x a n within low far in
       record {
@@ -69,7 +70,7 @@ module _ (plan : Plan) where
         within = at.within;
         begins = at.begins;
         ends = at.ends;
-        texts = beside 0x10000200 288 (omega arith) (inl (omega arith)) ∙ at.texts;
+        texts = beside bytes_address 288 (omega arith) (inl (omega arith)) ∙ at.texts;
         table = word_other bytes (global_address literals g) x table_address within (omega arith) (inl (omega arith))
             ∙ at.table;
         literal_count = at.literal_count;
@@ -117,12 +118,12 @@ module _ (plan : Plan) where
   -- ---- after a routine
 
   pub store_behind : (parts : Parts) (s : State Procedure) (bytes bytes' output output' : List ℕ)
-      (answers answers' : List Answer) → length bytes' ≡ length bytes → drop 512 bytes' ≡ drop 512 bytes
+      (answers answers' : List Answer) → length bytes' ≡ length bytes → drop own_size bytes' ≡ drop own_size bytes
       → StoreAt plan parts s bytes output answers → StoreAt plan parts
       (record s { store = record s.store { output = output'; answers = answers' } }) bytes' output' answers'
   store_behind parts s bytes bytes' output output' answers answers' n e at =
       let b = at.begins in let cl = plan.closures_low in
-      let stay : BytesStay 0x10000200 stack bytes bytes' = λ a n lo hi. piece_behind bytes bytes' a n e lo in
+      let stay : BytesStay bytes_address stack bytes bytes' = λ a n lo hi. piece_behind bytes bytes' a n e lo in
       let sl = plan.stack_low in let hl = plan.heap_low in let w = at.within in let z = at.ends in
       let kept : StoreAt plan parts s bytes' output answers =
       store_changed plan parts parts s s.cells s.procedures s.store.objects s.store.charged bytes bytes' output
@@ -153,7 +154,7 @@ module _ (plan : Plan) where
   module _ (act : Activation plan) where
     -- a store to a global leaves the frame
     pub places_written : (parts : Parts) (charged : ℕ) (places : Place → Cell) (outgoing : ℕ → Cell)
-        (registers : ℕ → ℕ) (bytes : List ℕ) (g x : ℕ) → g < globals → heap ≤ 0x10000000 + size → length bytes ≡ size
+        (registers : ℕ → ℕ) (bytes : List ℕ) (g x : ℕ) → g < globals → heap ≤ data_address + size → length bytes ≡ size
         → PlacesAt plan act parts charged places outgoing registers bytes
         → PlacesAt plan act parts charged places outgoing registers (with_word bytes (global_address literals g) x)
     places_written parts charged places outgoing registers bytes g x lt le e p = record {
@@ -172,7 +173,7 @@ module _ (plan : Plan) where
           (p.next j lj);
     }
 
-    pub below_written : (bytes : List ℕ) (g x : ℕ) → g < globals → heap ≤ 0x10000000 + size → length bytes ≡ size
+    pub below_written : (bytes : List ℕ) (g x : ℕ) → g < globals → heap ≤ data_address + size → length bytes ≡ size
         → (a : ℕ) → stack ≤ a → word_in (with_word bytes (global_address literals g) x) a ≡ word_in bytes a
     below_written bytes g x lt le e a low = let hl = heap_above plan in let sl = stack_low in word_other bytes
         (global_address literals g) x a (global_inside g bytes lt le e) (omega (arith, low, hl, sl))
@@ -182,7 +183,7 @@ module _ (plan : Plan) where
     pub places_behind : (parts : Parts) (charged : ℕ) (places : Place → Cell) (outgoing : ℕ → Cell)
         (registers registers' : ℕ → ℕ) (bytes bytes' : List ℕ) → heap + charged < 2 ^ 64
         → ((r : ℕ) → is_scratch r ≡ false → registers r < 2 ^ 64 → registers' r ≡ registers r)
-        → drop 512 bytes' ≡ drop 512 bytes → PlacesAt plan act parts charged places outgoing registers bytes
+        → drop own_size bytes' ≡ drop own_size bytes → PlacesAt plan act parts charged places outgoing registers bytes
         → PlacesAt plan act parts charged places outgoing registers' bytes'
     places_behind parts charged places outgoing registers registers' bytes bytes' far k e p =
         let low = act.room.low in let high = act.room.high in let s = small in let few = act.room.few in let f =

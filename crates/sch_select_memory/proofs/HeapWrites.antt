@@ -9,7 +9,8 @@ use Rattle.sch_word.specs.declared.place.Place.{Place}
 use Rattle.sch_word.specs.declared.place.Place.TheVariants.{Reg, Slot}
 use Rattle.sch_word.specs.values.Values.{Value}
 use Rattle.sch_word.specs.runs.Computation.{State}
-use Rattle.sch_control.specs.Operations.{Procedure}
+use Rattle.sch_word.specs.runs.Procedures.{Procedure}
+use Rattle.sch_word.specs.runs.ProgramLayout.{data_address}
 use Rattle.sch_frames.specs.Meaning.{Cell}
 use Rattle.sch_asm.specs.Data.{Inside, word_in, with_word}
 use Rattle.sch_asm.proofs.Words.{size_kept}
@@ -25,9 +26,9 @@ use Rattle.sch_select_memory.proofs.Places.{PlacesAt, Holds, holds_words, not_re
 -- Bytes from an address to another may have changed, and none else.
 pub record Wrote (from to : ℕ) (before after : List ℕ) : Type 0 where
   pub size : length after ≡ length before
-  pub pieces : (a n : ℕ) → 0x10000000 ≤ a → (a + n ≤ from) ⊎ (to ≤ a) → piece_in after a n ≡ piece_in before a n
+  pub pieces : (a n : ℕ) → data_address ≤ a → (a + n ≤ from) ⊎ (to ≤ a) → piece_in after a n ≡ piece_in before a n
 
-pub other_word : (from to : ℕ) (before after : List ℕ) → Wrote from to before after → (a : ℕ) → 0x10000000 ≤ a
+pub other_word : (from to : ℕ) (before after : List ℕ) → Wrote from to before after → (a : ℕ) → data_address ≤ a
     → (a + 8 ≤ from) ⊎ (to ≤ a) → word_in after a ≡ word_in before a
 other_word from to before after p a low far = word_stays before after a (p.pieces a 8 low far)
 
@@ -175,7 +176,7 @@ module _ (plan : Plan) where
 
   pub cell_written : (parts : Parts) (s : State Procedure) (bytes : List ℕ) (output : List ℕ) (answers : List Answer)
       (n : ℕ) (v : Value) (at : Spot) (x : ℕ) → n < length s.cells → spot parts (a_cell n) ≡ Some at
-      → IsWord parts v x → stack ≤ 0x10000000 + size
+      → IsWord parts v x → stack ≤ data_address + size
       → StoreAt plan parts s bytes output answers → StoreAt plan parts
       (record s { cells = slice_set s.cells n (Some v) }) (with_word bytes (16 * at.unit) x) output answers
   cell_written parts s bytes output answers n v at x lt there h top g =

@@ -9,9 +9,9 @@ use Rattle.sch_word.specs.declared.place.Place.{Place}
 use Rattle.sch_word.specs.declared.place.Place.TheVariants.{Reg, Slot}
 use Rattle.sch_word.specs.values.Values.{Value, Object}
 use Rattle.sch_word.specs.runs.Computation.{State}
-use Rattle.sch_control.specs.Operations.{Procedure}
+use Rattle.sch_word.specs.runs.Procedures.{Procedure}
 use Rattle.sch_frames.specs.Meaning.{Cell, Is, Link, Junk, value_in, set}
-use Rattle.sch_frames.specs.Valid.{is_place, is_register}
+use Rattle.sch_frames.specs.Valid.{is_place, is_register, max_words}
 use Rattle.sch_insn.specs.declared.insn.Arg.TheVariants as arg
 use Rattle.sch_insn.specs.declared.insn.Insn.TheVariants.{MovTo, MovFrom}
 use Rattle.sch_insn.specs.Machine.{set_register, add64, word}
@@ -19,9 +19,10 @@ use Rattle.sch_asm.specs.declared.item.Item.{Item}
 use Rattle.sch_asm.specs.declared.item.Item.TheVariants.{Plain}
 use Rattle.sch_word.specs.declared.mark.MarkKind.{MarkKind}
 use Rattle.sch_word.proofs.facts.Lists.{get_there}
+use Rattle.sch_word.specs.runs.ProgramLayout.{data_address}
 use Rattle.sch_asm.specs.Stands.{Setting, Stands}
 use Rattle.sch_asm.specs.Data.{Inside, word_in, with_word}
-use Rattle.sch_asm.specs.Effects.{is_scratch}
+use Rattle.sch_asm.specs.Effects.{is_scratch, own_size}
 use Rattle.sch_asm.specs.Views.{View, Leads}
 use Rattle.sch_asm.proofs.EachItem.{goes, loads_word, stores_word}
 use Rattle.sch_asm.proofs.Words.{word_same, word_other, size_kept}
@@ -30,7 +31,7 @@ use Rattle.sch_select_memory.specs.Encoded.{IsWord, IsHeld, Words}
 use Rattle.sch_select_memory.specs.Heap.{HeapAt, AreNew}
 use Rattle.sch_select_memory.proofs.heap.Ranges.{BytesStay, word_stays, piece_beside}
 use Rattle.sch_select_memory.proofs.heap.Contents.{heap_kept, held_words}
-use Rattle.sch_select_memory.specs.Addresses.{max_heap_end, place_operand, table_address, literal_address, global_address}
+use Rattle.sch_select_memory.specs.Addresses.{max_heap_end, place_operand, table_address, literal_address, global_address, bytes_address}
 use Rattle.sch_select_memory.specs.Addresses.{names_address, body_label}
 use Rattle.sch_select_memory.specs.Names.{AreNamed}
 use Rattle.sch_select_memory.proofs.heap.Encodings.{fits}
@@ -57,8 +58,8 @@ pub record Plan : Type 0 where
   pub heap_low : closures ≤ heap
   pub stack_low : heap ≤ stack
   pub near : stack ≤ max_heap_end
-  pub small : 0x10000000 + size < 2 ^ 63
-  pub narrow : words ≤ 2048
+  pub small : data_address + size < 2 ^ 63
+  pub narrow : words ≤ max_words
   pub labels : (l : ℕ) → setting.place_of l < 2 ^ 64
 
 -- the heap is behind the names of symbols, and those are few
@@ -127,7 +128,7 @@ same_word back parts small Junk x y h e = tt
 -- which operands are handed over before the depth is looked at.
 pub record Room (plan : Plan) (frame left : ℕ) : Type 0 where
   pub low : plan.stack ≤ frame
-  pub high : frame + 8 * (plan.words * left) + 8 * (plan.words + plan.words) ≤ 0x10000000 + plan.size
+  pub high : frame + 8 * (plan.words * left) + 8 * (plan.words + plan.words) ≤ data_address + plan.size
   pub few : left < 2 ^ 63
 
 -- An activation: the address to which it returns, where its frame begins, the depth that is left in it, how many
@@ -140,6 +141,13 @@ pub record Activation (plan : Plan) : Type 0 where
   pub entered : Bool
   pub back_fits : back < 2 ^ 64
   pub room : Room plan frame left
+
+-- The heap ends within the data, and so it begins there.
+pub stack_within : (plan : Plan) → Activation plan → plan.stack ≤ data_address + plan.size
+stack_within plan act = let low = act.room.low in let high = act.room.high in omega (arith, low, high)
+
+pub heap_within : (plan : Plan) → Activation plan → plan.heap ≤ data_address + plan.size
+heap_within plan act = let within = stack_within plan act in let low = plan.stack_low in omega (arith, within, low)
 
 module _ (plan : Plan) where
   open plan use {
@@ -172,7 +180,7 @@ module _ (plan : Plan) where
     pub within : heap + s.store.charged ≤ stack
     pub begins : 16 * parts.first ≡ closures
     pub ends : 16 * end_of parts ≡ heap + s.store.charged
-    pub texts : take 288 (drop 512 bytes) ≡ static
+    pub texts : take 288 (drop own_size bytes) ≡ static
     pub table : word_in bytes table_address ≡ names_address literals globals
     pub literal_count : length s.store.constants.literals ≡ literals
     pub literal : (n : ℕ) (v : Value) → slice_get s.store.constants.literals n ≡ Some v
@@ -182,7 +190,7 @@ module _ (plan : Plan) where
         → IsHeld parts o (word_in bytes (global_address literals g))
     pub symbols_are : s.store.constants.symbols ≡ symbols
     pub known : parts.symbols ≡ length symbols
-    pub names_are : take (length names) (drop (names_address literals globals - 0x10000000) bytes) ≡ names
+    pub names_are : take (length names) (drop (names_address literals globals - data_address) bytes) ≡ names
     pub contents : HeapAt (code_of plan) parts s.cells s.procedures s.store.objects bytes
     pub new : AreNew parts (length s.cells) (length s.procedures)
 
@@ -193,7 +201,7 @@ module _ (plan : Plan) where
       (procedures : List Procedure) (objects : List Object) (charged : ℕ) (bytes bytes' : List ℕ) (output : List ℕ)
       (answers : List Answer) → Words parts parts' → 16 * parts'.first ≡ closures → parts'.symbols ≡ length symbols
       → length bytes' ≡ length bytes
-      → BytesStay 0x10000200 closures bytes bytes' → heap + charged ≤ stack → 16 * end_of parts' ≡ heap + charged
+      → BytesStay bytes_address closures bytes bytes' → heap + charged ≤ stack → 16 * end_of parts' ≡ heap + charged
       → HeapAt (code_of plan) parts' cells procedures objects bytes' → AreNew parts' (length cells) (length procedures)
       → StoreAt parts s bytes output answers → StoreAt parts'
       (record {
@@ -212,7 +220,7 @@ module _ (plan : Plan) where
         within = room;
         begins = first;
         ends = ends;
-        texts = stay 0x10000200 288 (omega arith) (omega (arith, cl)) ∙ g.texts;
+        texts = stay bytes_address 288 (omega arith) (omega (arith, cl)) ∙ g.texts;
         table = word_stays bytes bytes' table_address (stay table_address 8 (omega arith) (omega (arith, cl)))
             ∙ g.table;
         literal_count = g.literal_count;
@@ -307,7 +315,7 @@ module _ (plan : Plan) where
     store_kept parts s bytes output answers a v within above g =
         let hl = heap_low in let sl = stack_low in let cl = closures_low in
         let w = g.within in let b = g.begins in let e = g.ends in
-        let stay : BytesStay 0x10000000 (heap + s.store.charged) bytes (with_word bytes a v) = λ p n lo hi.
+        let stay : BytesStay data_address (heap + s.store.charged) bytes (with_word bytes a v) = λ p n lo hi.
         piece_beside bytes a v p n within lo (inl (omega (arith, hi, w, above))) in
         store_changed parts parts s s.cells s.procedures s.store.objects s.store.charged bytes (with_word bytes a v)
         output answers (λ v x h. h) g.begins g.known (size_kept bytes a v within)

@@ -1,11 +1,10 @@
 -- What compiled code uses each register for, in the names of the instructions (Intel SDM, volume 2, section 3.1.1.1).
 use Rattle.std.proofs.Common.{◌≡◌, ℕ, [], ◌∷◌, refl, ap}
 use Rattle.std.specs.Prelude.{◌||◌, ◌==◌}
-use Rattle.sch_word.specs.declared.registers.TheConstants.{CLOSURE_REGISTER, DEPTH_REGISTER, FRAME_REGISTER, HEAP_REGISTER, LINK_REGISTER, SCRATCH_REGISTERS}
+use Rattle.sch_word.specs.declared.registers.TheConstants.{CLOSURE_REGISTER, DEPTH_REGISTER, FRAME_REGISTER, HEAP_REGISTER, LINK_REGISTER, SCRATCH_REGISTERS, RAX, RCX, RDX, RBX, RBP, RSI, RDI, R8, R9, R10, R11, R12, R13, R14, R15}
 use Rattle.sch_word.specs.trees.NumberSets.{has}
 use Rattle.sch_word.specs.values.Registers.{argument_registers}
 use Rattle.sch_word.proofs.facts.Booleans.{or_right_false}
-use Rattle.sch_insn.specs.declared.register.TheConstants.{RAX, RCX, RDX, RBX, RBP, RSI, RDI, R8, R9, R10, R11, R12, R13, R14, R15}
 use Rattle.sch_asm.specs.Effects.{is_scratch}
 
 arguments_are : argument_registers ≡ RBX ∷ R8 ∷ R9 ∷ R10 ∷ RSI ∷ RDI ∷ []

@@ -4,6 +4,7 @@ use Rattle.std.specs.Int.{w32, w64}
 use Rattle.std.specs.Prelude.{ℤ, pos, negsuc, int_le, not, nat_lt, nat_le, FitsSigned}
 use Rattle.std.proofs.lemmas.Bool.{and_parts, ltb-true, leb-true, eqb-false, le-leb}
 use Rattle.sch_word.proofs.facts.Booleans.{not_true}
+use Rattle.sch_word.specs.runs.ProgramLayout.{data_address}
 use Rattle.sch_insn.specs.declared.insn.Arg.{Arg}
 use Rattle.sch_insn.specs.declared.insn.Arg.TheVariants.{Reg, Base, Base8, Base32, Rip}
 use Rattle.sch_insn.specs.declared.insn.Insn.{Insn}
@@ -19,10 +20,6 @@ use Rattle.sch_asm.specs.Items.{AreItems, IsItem, IsFree, IsPlain}
 pub in_front : (a b : Bool) → a ≡ true → (a && b) ≡ b
 in_front true b e = refl
 in_front false b e = absurd (let bad : false ≡ true = e in cc)
-
--- whatever follows from what cannot be
-pub impossible : {A : Type 0} → false ≡ true → A
-impossible e = absurd cc
 
 -- ---- a test of items that do not depend on where they stand
 
@@ -70,8 +67,8 @@ item_valid (item.Plain i) = insn_valid i
 item_valid (item.Jump l) = true
 item_valid (item.JumpIf c l) = nat_lt c 16 && (not (c == 10) && not (c == 11))
 item_valid (item.LoadLabel r l) = nat_lt r 16
-item_valid (item.LoadWord r a) = nat_lt r 16 && (nat_le 0x10000000 a && nat_le a 0x7FFFFFF8)
-item_valid (item.StoreWord a r) = nat_lt r 16 && (nat_le 0x10000000 a && nat_le a 0x7FFFFFF8)
+item_valid (item.LoadWord r a) = nat_lt r 16 && (nat_le data_address a && nat_le a 0x7FFFFFF8)
+item_valid (item.StoreWord a r) = nat_lt r 16 && (nat_le data_address a && nat_le a 0x7FFFFFF8)
 item_valid (item.Mark m) = true
 
 abbrev pub items_valid : List Item → Bool
@@ -155,13 +152,13 @@ item_says (item.JumpIf c l) e =
     (ltb-true c 16 p.0, differs c 10 q.0, differs c 11 q.1)
 item_says (item.LoadLabel r l) e = ltb-true r 16 e
 item_says (item.LoadWord r a) e =
-    let p = and_parts (nat_lt r 16) (nat_le 0x10000000 a && nat_le a 0x7FFFFFF8) e in
-    let q = and_parts (nat_le 0x10000000 a) (nat_le a 0x7FFFFFF8) p.1 in
-    (ltb-true r 16 p.0, (leb-true 0x10000000 a q.0, leb-true a 0x7FFFFFF8 q.1))
+    let p = and_parts (nat_lt r 16) (nat_le data_address a && nat_le a 0x7FFFFFF8) e in
+    let q = and_parts (nat_le data_address a) (nat_le a 0x7FFFFFF8) p.1 in
+    (ltb-true r 16 p.0, (leb-true data_address a q.0, leb-true a 0x7FFFFFF8 q.1))
 item_says (item.StoreWord a r) e =
-    let p = and_parts (nat_lt r 16) (nat_le 0x10000000 a && nat_le a 0x7FFFFFF8) e in
-    let q = and_parts (nat_le 0x10000000 a) (nat_le a 0x7FFFFFF8) p.1 in
-    (ltb-true r 16 p.0, (leb-true 0x10000000 a q.0, leb-true a 0x7FFFFFF8 q.1))
+    let p = and_parts (nat_lt r 16) (nat_le data_address a && nat_le a 0x7FFFFFF8) e in
+    let q = and_parts (nat_le data_address a) (nat_le a 0x7FFFFFF8) p.1 in
+    (ltb-true r 16 p.0, (leb-true data_address a q.0, leb-true a 0x7FFFFFF8 q.1))
 item_says (item.Mark m) e = tt
 
 pub items_say : (is : List Item) → items_valid is ≡ true → AreItems is

@@ -7,7 +7,8 @@ use Rattle.sch_word.specs.declared.answer.Answer.{Answer}
 use Rattle.sch_word.specs.values.Values.{symbol, are_bytes}
 use Rattle.sch_word.specs.runs.Computation.{State}
 use Rattle.sch_word.proofs.facts.Lists.{get_there, piece_within}
-use Rattle.sch_control.specs.Operations.{Procedure}
+use Rattle.sch_word.specs.runs.Procedures.{Procedure}
+use Rattle.sch_word.specs.runs.ProgramLayout.{data_address}
 use Rattle.sch_asm.specs.Data.{Inside, PieceAt, word_in}
 use Rattle.sch_asm.proofs.Words.{eight_count}
 use Rattle.sch_select_memory.specs.Parts.{Parts}
@@ -18,28 +19,28 @@ use Rattle.sch_select_memory.specs.Names.{word_from, IsNamed}
 use Rattle.sch_select_memory.proofs.Places.{Plan, heap_above, StoreAt}
 
 -- the bytes of names, where these stand at an address of the data
-names_piece : (bytes names : List ℕ) (first a n : ℕ) → take (length names) (drop (first - 0x10000000) bytes) ≡ names
-    → 0x10000000 ≤ first → first ≤ a → a + n ≤ first + length names
+names_piece : (bytes names : List ℕ) (first a n : ℕ) → take (length names) (drop (first - data_address) bytes) ≡ names
+    → data_address ≤ first → first ≤ a → a + n ≤ first + length names
     → piece_in bytes a n ≡ take n (drop (a - first) names)
 names_piece bytes names first a n e low le within =
     let k = a - first in
-    let at : first - 0x10000000 + k ≡ a - 0x10000000 = omega (arith, low, le) in
-    ap (λ m. take n (drop m bytes)) (sym at) ∙ ap (take n) (sym (drop-drop k (first - 0x10000000) bytes))
-    ∙ sym (piece_within (drop (first - 0x10000000) bytes) k n (length names) (omega (arith, le, within)))
+    let at : first - data_address + k ≡ a - data_address = omega (arith, low, le) in
+    ap (λ m. take n (drop m bytes)) (sym at) ∙ ap (take n) (sym (drop-drop k (first - data_address) bytes))
+    ∙ sym (piece_within (drop (first - data_address) bytes) k n (length names) (omega (arith, le, within)))
     ∙ ap (λ l. take n (drop k l)) e
 
-names_word : (bytes names : List ℕ) (first a : ℕ) → take (length names) (drop (first - 0x10000000) bytes) ≡ names
-    → 0x10000000 ≤ first → first ≤ a → a + 8 ≤ first + length names → word_in bytes a ≡ word_from names first a
-names_word bytes names first a e low le within = eight_count (drop (a - 0x10000000) bytes) (drop (a - first) names)
+names_word : (bytes names : List ℕ) (first a : ℕ) → take (length names) (drop (first - data_address) bytes) ≡ names
+    → data_address ≤ first → first ≤ a → a + 8 ≤ first + length names → word_in bytes a ≡ word_from names first a
+names_word bytes names first a e low le within = eight_count (drop (a - data_address) bytes) (drop (a - first) names)
     (names_piece bytes names first a 8 e low le within)
 
 -- bytes that are known are a piece
-pub piece_at : (bytes : List ℕ) (a : ℕ) (piece : List ℕ) → piece_in bytes a (length piece) ≡ piece → 0x10000000 ≤ a
-    → a + length piece ≤ 0x10000000 + length bytes → PieceAt bytes a piece
+pub piece_at : (bytes : List ℕ) (a : ℕ) (piece : List ℕ) → piece_in bytes a (length piece) ≡ piece → data_address ≤ a
+    → a + length piece ≤ data_address + length bytes → PieceAt bytes a piece
 piece_at bytes a piece e low high = record {
-  rest = drop (length piece) (drop (a - 0x10000000) bytes);
-  is = sym (take-append-drop (length piece) (drop (a - 0x10000000) bytes))
-      ∙ ap (λ l. l ++ drop (length piece) (drop (a - 0x10000000) bytes)) e;
+  rest = drop (length piece) (drop (a - data_address) bytes);
+  is = sym (take-append-drop (length piece) (drop (a - data_address) bytes))
+      ∙ ap (λ l. l ++ drop (length piece) (drop (a - data_address) bytes)) e;
   low = low;
   high = high;
 }
@@ -67,7 +68,7 @@ module _ (plan : Plan) where
     pub are_bytes : are_bytes name ≡ true
 
   pub symbol_at : (parts : Parts) (s : State Procedure) (bytes output : List ℕ) (answers : List Answer) (n x : ℕ)
-      → heap ≤ 0x10000000 + size → StoreAt plan parts s bytes output answers → IsWord parts (symbol n) x
+      → heap ≤ data_address + size → StoreAt plan parts s bytes output answers → IsWord parts (symbol n) x
       → SymbolAt s bytes n
   symbol_at parts s bytes output answers n x top g h =
       let k = g.known in let l = h.2 in

@@ -66,10 +66,10 @@ vector_label = label_of routine.NewVector
 abbrev pub string_label : ℕ
 string_label = label_of routine.NewString
 
--- The most labels of bodies. They are numbered from FIRST_LABEL on, and so many numbers of 32 bits are left behind them that each
+-- The most labels of bodies. They are numbered from FIRST_LABEL on, and 12 numbers of 32 bits are left behind them, so that each
 -- instruction may be given the most labels that one needs.
 abbrev pub max_labels : ℕ
-max_labels = 2 ^ 32 - 2048
+max_labels = 2 ^ 32 - 1036
 
 -- where the code of a body begins
 abbrev pub body_label : ℕ → ℕ

@@ -1,5 +1,5 @@
 -- The word of each value, with the parts of a heap.
-use Rattle.std.specs.Prelude.{◌≡◌, ℕ, ◌+◌, ◌*◌, ◌^◌, ◌<◌, Bool, true, false, Option, Some, None, ℤ, pos, ◌*ℤ◌, ◌⊎◌}
+use Rattle.std.specs.Prelude.{◌≡◌, ℕ, zero, suc, ◌+◌, ◌-◌, ◌*◌, ◌^◌, ◌<◌, Bool, true, false, Option, Some, None, ℤ, pos, neg_ℤ, ◌*ℤ◌, ◌⊎◌}
 use Rattle.sch_word.specs.declared.constant.Const.{Const}
 use Rattle.sch_word.specs.declared.constant.Const.TheVariants.{Fixnum, Character, Boolean, Nil, Unspecified, Symbol}
 use Rattle.sch_word.specs.values.Values.{Value, fixnum, character, boolean, nil, unspecified, symbol, object, procedure, cell}
@@ -62,6 +62,16 @@ byte_mask = 255
 
 abbrev pub boolean_mask : ℕ
 boolean_mask = 127
+
+-- The displacement of a word of a part from a word with a tag that names the part, by how many words of the part are before it. A
+-- tag is below 8, the bytes of a word.
+abbrev pub word_displacement : (tag index : ℕ) → ℤ
+word_displacement tag zero = neg_ℤ (pos tag)
+word_displacement tag (suc k) = pos (8 - tag + 8 * k)
+
+-- how far a number of units of 16 bytes is above the end of that of their bytes
+abbrev pub unit_shift : ℕ
+unit_shift = 4
 
 -- how far a fixnum's number and a character's byte are above the end of their words
 abbrev pub fixnum_shift : ℕ

@@ -3,7 +3,7 @@ use Rattle.std.specs.Prelude.{◌≡◌, ℕ, suc, ◌+◌, ◌-◌, ◌*◌, �
 use Rattle.sch_word.specs.values.Values.{Value, are_bytes, Object, pair, vector, string}
 use Rattle.sch_word.specs.values.PrimitiveRows.{is_pair, is_vector, is_string}
 use Rattle.sch_word.specs.runs.ProgramLayout.{data_address}
-use Rattle.sch_control.specs.Operations.{Procedure}
+use Rattle.sch_word.specs.runs.Procedures.{Procedure}
 use Rattle.sch_asm.specs.Data.{word_in}
 use Rattle.sch_select_memory.specs.Parts.{Owner, a_procedure, a_cell, a_pair, a_vector, a_string, Parts, Spot, spot}
 use Rattle.sch_select_memory.specs.Encoded.{IsWord, IsHeld}

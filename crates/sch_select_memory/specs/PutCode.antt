@@ -1,10 +1,10 @@
 -- The put of any value (R5RS 6.6.3): RAX has its word, and R11 where to return.
-use Rattle.std.specs.Prelude.{ℕ, ◌+◌, List, [], ◌∷◌, pos, negsuc}
+use Rattle.std.specs.Prelude.{ℕ, ◌+◌, ◌-◌, List, [], ◌∷◌, pos}
 use Rattle.sch_word.specs.declared.stop.Stop.TheVariants.{WrongType}
 use Rattle.sch_insn.specs.declared.condition.TheConstants.{E, NE}
-use Rattle.sch_insn.specs.declared.insn.Arg.TheVariants.{Reg, Base32}
+use Rattle.sch_insn.specs.declared.insn.Arg.TheVariants.{Reg}
 use Rattle.sch_insn.specs.declared.insn.Insn.TheVariants.{MovFrom, MovNumber, AddTo, AddNumber, CmpNumber, Shr}
-use Rattle.sch_insn.specs.declared.register.TheConstants.{RAX, RDX}
+use Rattle.sch_word.specs.declared.registers.TheConstants.{RAX, RDX}
 use Rattle.sch_asm.specs.declared.item.Item.{Item}
 use Rattle.sch_asm.specs.declared.item.Item.TheVariants as item
 use Rattle.sch_asm.specs.declared.routine.Routine.TheVariants as routine
@@ -12,7 +12,7 @@ use Rattle.sch_asm.specs.Routines.{label_of}
 use Rattle.sch_select_memory.specs.Encoded.{byte_mask, cell_tag, character_shift, character_tag, false_word, fixnum_shift, nil_word}
 use Rattle.sch_select_memory.specs.Encoded.{pair_tag, procedure_tag, string_tag, symbol_tag, tag_mask, true_word, vector_tag}
 use Rattle.sch_select_memory.specs.Addresses.{stop_label, bytes_address, texts_address, table_address}
-use Rattle.sch_select_memory.specs.Checks.{low_bits, string_length}
+use Rattle.sch_select_memory.specs.Checks.{low_bits, name_entry, name_length, string_length}
 
 -- ## Labels inside the routine
 
@@ -63,15 +63,15 @@ bytes_put offset rest =
     ∷ (item.Plain (AddNumber (Reg RAX) (pos offset)) ∷ (item.Jump (label_of routine.Put) ∷ rest))
 
 abbrev pub string_put : List Item → List Item
-string_put rest = item.Plain (MovFrom RDX string_length) ∷ bytes_put 5 rest
+string_put rest = item.Plain (MovFrom RDX string_length) ∷ bytes_put (8 - string_tag) rest
 
 -- the address of a symbol's name, and then its length and its bytes
 abbrev pub symbol_put : List Item → List Item
 symbol_put rest =
     item.LoadWord RDX table_address
     ∷ (item.Plain (AddTo (Reg RAX) RDX)
-    ∷ (item.Plain (MovFrom RAX (Base32 RAX (negsuc 4)))
-    ∷ (item.Plain (MovFrom RDX (Base32 RAX (pos 0))) ∷ bytes_put 8 rest)))
+    ∷ (item.Plain (MovFrom RAX name_entry)
+    ∷ (item.Plain (MovFrom RDX name_length) ∷ bytes_put 8 rest)))
 
 abbrev pub objects_put : List Item
 objects_put = string_put (item.Label symbol_bytes_label ∷ symbol_put [])

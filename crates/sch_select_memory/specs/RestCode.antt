@@ -1,22 +1,22 @@
 -- The items of a procedure with a rest variable (R5RS 4.1.4) before its body, and the routine that makes the list of the
 -- operands that are left over. A pair begins where the heap's register has it, and the pairs stand one behind the other.
 use Rattle.std.specs.Prelude.{ℕ, suc, ◌+◌, ◌-◌, ◌*◌, Bool, true, false, nat_lt, List, [], ◌∷◌, drop, length, pos}
+use Rattle.sch_word.specs.runs.Charges.{pair_bytes}
 use Rattle.sch_word.specs.runs.ProgramLayout.{data_address}
 use Rattle.sch_word.specs.values.Registers.{argument_registers}
 use Rattle.sch_word.specs.declared.stop.Stop.TheVariants.{WrongCount, HeapLimit}
-use Rattle.sch_word.specs.declared.registers.TheConstants.{FRAME_REGISTER, HEAP_REGISTER}
+use Rattle.sch_word.specs.declared.registers.TheConstants.{FRAME_REGISTER, HEAP_REGISTER, RAX, RCX, RDX, R11}
 use Rattle.sch_insn.specs.declared.condition.TheConstants.{B, E, NE, A}
 use Rattle.sch_insn.specs.declared.insn.Arg.{Arg}
 use Rattle.sch_insn.specs.declared.insn.Arg.TheVariants.{Reg, Base32}
 use Rattle.sch_insn.specs.declared.insn.Insn.TheVariants.{MovTo, MovFrom, MovNumber, AddTo, AddNumber, SubNumber}
 use Rattle.sch_insn.specs.declared.insn.Insn.TheVariants.{CmpNumber, Shl, JumpTo}
-use Rattle.sch_insn.specs.declared.register.TheConstants.{RAX, RCX, RDX, R11}
 use Rattle.sch_asm.specs.declared.item.Item.{Item}
 use Rattle.sch_asm.specs.declared.item.Item.TheVariants.{Label, Plain, Jump, JumpIf, LoadLabel}
 use Rattle.sch_asm.specs.declared.routine.LeftOver.TheVariants.{FromFirst}
 use Rattle.sch_asm.specs.declared.routine.Routine.TheVariants.{NewList}
 use Rattle.sch_asm.specs.Routines.{label_of}
-use Rattle.sch_select_memory.specs.Encoded.{nil_word, pair_tag}
+use Rattle.sch_select_memory.specs.Encoded.{nil_word, pair_tag, unit_shift}
 use Rattle.sch_select_memory.specs.Addresses.{heap_offset, stop_label, part_operand}
 
 -- ## Labels of the routine
@@ -60,7 +60,7 @@ slot_address rest = Plain (AddTo (Reg RCX) FRAME_REGISTER) ∷ rest
 -- the heap has a pair for each of them, or stop 71
 abbrev pub check_pairs : (heap_end : ℕ) → List Item → List Item
 check_pairs heap_end rest =
-    Plain (MovTo (Reg RDX) RAX) ∷ (Plain (Shl (Reg RDX) 4) ∷ (Plain (AddTo (Reg RDX) HEAP_REGISTER) ∷
+    Plain (MovTo (Reg RDX) RAX) ∷ (Plain (Shl (Reg RDX) unit_shift) ∷ (Plain (AddTo (Reg RDX) HEAP_REGISTER) ∷
     (Plain (SubNumber (Reg RDX) (pos data_address))
     ∷ (Plain (CmpNumber (Reg RDX) (pos (heap_offset heap_end))) ∷ (JumpIf A (stop_label HeapLimit) ∷ rest)))))
 
@@ -71,13 +71,13 @@ one_less rest = Plain (SubNumber (Reg RAX) (pos 1)) ∷ (JumpIf E done_label ∷
 -- the rest of a pair is the next one, where the heap's register goes on
 abbrev pub next_pair : List Item → List Item
 next_pair rest =
-    Plain (MovTo (Reg RDX) HEAP_REGISTER) ∷ (Plain (AddNumber (Reg RDX) (pos (16 + pair_tag))) ∷ (Plain (MovTo (part_operand 8) RDX) ∷
-    (Plain (AddNumber (Reg HEAP_REGISTER) (pos 16)) ∷ rest)))
+    Plain (MovTo (Reg RDX) HEAP_REGISTER) ∷ (Plain (AddNumber (Reg RDX) (pos (pair_bytes + pair_tag))) ∷ (Plain (MovTo (part_operand 8) RDX) ∷
+    (Plain (AddNumber (Reg HEAP_REGISTER) (pos pair_bytes)) ∷ rest)))
 
 -- the rest of the last pair is the empty list
 abbrev pub done_code : List Item → List Item
 done_code rest =
-    Label done_label ∷ (Plain (MovNumber (part_operand 8) (pos nil_word)) ∷ (Plain (AddNumber (Reg HEAP_REGISTER) (pos 16)) ∷
+    Label done_label ∷ (Plain (MovNumber (part_operand 8) (pos nil_word)) ∷ (Plain (AddNumber (Reg HEAP_REGISTER) (pos pair_bytes)) ∷
     (Plain (JumpTo (Reg R11)) ∷ rest)))
 
 -- the operand in a slot, and then the next one

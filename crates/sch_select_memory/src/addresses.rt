@@ -6,18 +6,38 @@ ghost use Rattle.sch_select_memory.specs.Addresses.{stop_label};
 ghost use Rattle.sch_select_memory.specs.Reach.{is_reached_place, max_slots};
 ghost use Rattle.sch_select_memory.specs.RestCode.{first_in_slot, list_label};
 
-use sch_asm::{FIRST_LABEL, LeftOver, Routine};
+use crate::word::{STRING, SYMBOL};
+use sch_asm::{FIRST_LABEL, LeftOver, OWN_WORDS, Routine};
 use sch_insn::Arg;
+use sch_word::registers::RAX;
 use sch_word::{ARGUMENT_REGISTERS, DATA_ADDRESS, FRAME_REGISTER, HEAP_REGISTER, Place, Stop};
 
-/// Where the address of the names of symbols stands in the data.
-pub const TABLE_ADDRESS: u64 = DATA_ADDRESS + 0x320;
+/// Where all bytes stand in the data, in their order: behind the routines' own words.
+pub const BYTES_ADDRESS: u64 = DATA_ADDRESS + 8 * OWN_WORDS as u64;
+
+/// Where the texts of constants stand: behind the 256 bytes.
+pub const TEXTS_ADDRESS: u64 = BYTES_ADDRESS + 256;
+
+/// Where the address of the names of symbols stands: behind the texts, which have 32 bytes.
+pub const TABLE_ADDRESS: u64 = TEXTS_ADDRESS + 32;
 
 /// Where the words of literals stand in the data. Those of globals follow.
 pub const LITERALS_ADDRESS: u64 = TABLE_ADDRESS + 8;
 
 /// Where the data begin, as an immediate.
 pub const DATA_OFFSET: i32 = DATA_ADDRESS as i32;
+
+/// The word of the length of the string in RAX.
+pub const STRING_LENGTH: Arg = Arg::Base32(RAX, -STRING);
+
+/// How many bytes the first byte of a string is behind the string's word.
+pub const STRING_BYTES: i32 = 8 - STRING;
+
+/// The address of a symbol's name, from the symbol's word and the address of those of all symbols, whose sum is in RAX.
+pub const NAME_ENTRY: Arg = Arg::Base32(RAX, -SYMBOL);
+
+/// The word of the length of the name whose address is in RAX.
+pub const NAME_LENGTH: Arg = Arg::Base32(RAX, 0);
 
 /// How many operands are in registers: the first with as many in front is in a slot.
 pub const FIRST_IN_SLOT: u32 = ARGUMENT_REGISTERS.len() as u32;

@@ -8,8 +8,8 @@ ghost use Rattle.sch_select_memory.specs.RestCode.{check_enough, first_in_slot, 
 use crate::addresses::{FIRST_IN_SLOT, immediate, list_label, slot_bytes, stop};
 use sch_asm::Item;
 use sch_insn::condition::B;
-use sch_insn::register::{R11, RAX, RCX};
 use sch_insn::{Arg, Insn};
+use sch_word::registers::{R11, RAX, RCX};
 use sch_word::{List, Mem, Stop};
 
 /// Enough operands, or stop 68; then RAX has the number of those that are left over.

@@ -22,6 +22,16 @@ pub mod word {
     /// How far a character's byte is above the end of its word.
     pub const CHARACTER_SHIFT: u8 = 8;
 
+    /// How far a number of units of 16 bytes is above the end of that of their bytes.
+    pub const UNIT_SHIFT: u8 = 4;
+
+    /// The bytes of a pair.
+    pub const PAIR_BYTES: i32 = 16;
+
+    /// What is added to the bytes of an object's elements before they are cut down to whole units: those of the word of its length,
+    /// and one less than a unit has.
+    pub const ROUNDING: i32 = 8 + 15;
+
     /// The low three bits of a fixnum's word.
     pub const FIXNUM: i32 = 0;
 

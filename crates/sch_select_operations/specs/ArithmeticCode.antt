@@ -4,7 +4,7 @@ use Rattle.sch_word.specs.declared.stop.Stop.TheVariants.{DivideByZero}
 use Rattle.sch_insn.specs.declared.condition.TheConstants.{E, L, GE}
 use Rattle.sch_insn.specs.declared.insn.Arg.TheVariants.{Reg}
 use Rattle.sch_insn.specs.declared.insn.Insn.TheVariants.{AddTo, CmpTo, CmpNumber, Idiv, Cqo}
-use Rattle.sch_insn.specs.declared.register.TheConstants.{RAX, RCX}
+use Rattle.sch_word.specs.declared.registers.TheConstants.{RAX, RCX}
 use Rattle.sch_asm.specs.declared.item.Item.{Item}
 use Rattle.sch_asm.specs.declared.item.Item.TheVariants.{Label, Plain, Jump, JumpIf}
 use Rattle.sch_select_memory.specs.Addresses.{stop_label}

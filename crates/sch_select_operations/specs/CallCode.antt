@@ -1,15 +1,14 @@
 -- Calls: the register of the closure has the operator, that of the depth how many calls may still be pending, and that of the
 -- link where to return.
-use Rattle.std.specs.Prelude.{ℕ, ◌*◌, List, ◌∷◌, pos, negsuc}
+use Rattle.std.specs.Prelude.{ℕ, ◌*◌, List, ◌∷◌, pos}
 use Rattle.sch_word.specs.declared.stop.Stop.TheVariants.{NotProcedure, WrongCount, DepthLimit}
-use Rattle.sch_word.specs.declared.registers.TheConstants.{CLOSURE_REGISTER, DEPTH_REGISTER, FRAME_REGISTER, LINK_REGISTER}
+use Rattle.sch_word.specs.declared.registers.TheConstants.{CLOSURE_REGISTER, DEPTH_REGISTER, FRAME_REGISTER, LINK_REGISTER, RAX, RCX, RDX}
 use Rattle.sch_insn.specs.declared.condition.TheConstants.{E, NE}
 use Rattle.sch_insn.specs.declared.insn.Arg.TheVariants.{Reg, Base32}
 use Rattle.sch_insn.specs.declared.insn.Insn.TheVariants.{MovFrom, MovNumber, AddNumber, SubNumber, CmpNumber, JumpTo}
-use Rattle.sch_insn.specs.declared.register.TheConstants.{RAX, RCX, RDX}
 use Rattle.sch_asm.specs.declared.item.Item.{Item}
 use Rattle.sch_asm.specs.declared.item.Item.TheVariants.{Label, Plain, JumpIf, LoadLabel}
-use Rattle.sch_select_memory.specs.Encoded.{procedure_tag, tag_mask}
+use Rattle.sch_select_memory.specs.Encoded.{procedure_tag, tag_mask, word_displacement}
 use Rattle.sch_select_memory.specs.Addresses.{stop_label}
 use Rattle.sch_select_memory.specs.Checks.{low_bits}
 
@@ -26,7 +25,7 @@ check_depth rest = Plain (CmpNumber (Reg DEPTH_REGISTER) (pos 0)) ∷ (JumpIf E 
 abbrev pub enter_code : (count : ℕ) → List Item → List Item
 enter_code count rest =
     Plain (MovNumber (Reg RAX) (pos count))
-    ∷ (Plain (MovFrom RCX (Base32 CLOSURE_REGISTER (negsuc 3))) ∷ (Plain (JumpTo (Reg RCX)) ∷ rest))
+    ∷ (Plain (MovFrom RCX (Base32 CLOSURE_REGISTER (word_displacement procedure_tag 0))) ∷ (Plain (JumpTo (Reg RCX)) ∷ rest))
 
 -- a frame is opened behind the own one, and closed where the procedure returns
 abbrev pub open_code : (words n : ℕ) → List Item → List Item

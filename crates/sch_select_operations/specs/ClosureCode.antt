@@ -4,13 +4,12 @@ use Rattle.sch_word.specs.declared.mark.MarkKind.TheVariants.{Spill}
 use Rattle.sch_word.specs.declared.place.Place.{Place}
 use Rattle.sch_word.specs.declared.place.Place.TheVariants as place
 use Rattle.sch_word.specs.runs.Charges.{procedure_bytes}
-use Rattle.sch_word.specs.declared.registers.TheConstants.{HEAP_REGISTER}
+use Rattle.sch_word.specs.declared.registers.TheConstants.{HEAP_REGISTER, RCX}
 use Rattle.sch_control.specs.declared.operation.Source.{Source}
 use Rattle.sch_control.specs.declared.operation.Closure.{Closure}
 use Rattle.sch_control.specs.declared.operation.Member.{Member}
 use Rattle.sch_insn.specs.declared.insn.Arg.TheVariants.{Reg}
 use Rattle.sch_insn.specs.declared.insn.Insn.TheVariants.{MovTo, AddNumber}
-use Rattle.sch_insn.specs.declared.register.TheConstants.{RCX}
 use Rattle.sch_asm.specs.declared.item.Item.{Item}
 use Rattle.sch_asm.specs.declared.item.Item.TheVariants.{Plain, LoadLabel, Mark}
 use Rattle.sch_select_memory.specs.Encoded.{procedure_tag}

@@ -1,19 +1,19 @@
 -- Objects (R5RS 6.3): the word of an object is its address and the tag of its kind.
-use Rattle.std.specs.Prelude.{ℕ, ◌-◌, List, ◌∷◌, length, pos, negsuc}
+use Rattle.std.specs.Prelude.{ℕ, ◌-◌, List, ◌∷◌, length, pos}
 use Rattle.sch_word.specs.declared.stop.Stop.TheVariants.{WrongType, OutOfRange, HeapLimit}
+use Rattle.sch_word.specs.runs.Charges.{pair_bytes}
 use Rattle.sch_word.specs.runs.ProgramLayout.{data_address}
-use Rattle.sch_word.specs.declared.registers.TheConstants.{HEAP_REGISTER}
+use Rattle.sch_word.specs.declared.registers.TheConstants.{HEAP_REGISTER, RAX, RCX, RDX, R11}
 use Rattle.sch_insn.specs.declared.condition.TheConstants.{AE, NE, A}
 use Rattle.sch_insn.specs.declared.insn.Arg.{Arg}
 use Rattle.sch_insn.specs.declared.insn.Arg.TheVariants.{Reg, Base32}
 use Rattle.sch_insn.specs.declared.insn.Insn.TheVariants.{MovTo, MovFrom, MovNumber, StoreByte, LoadByte, AddTo}
 use Rattle.sch_insn.specs.declared.insn.Insn.TheVariants.{AddNumber, SubNumber, CmpNumber, CmpFrom, Shl, Shr}
-use Rattle.sch_insn.specs.declared.register.TheConstants.{RAX, RCX, RDX, R11}
 use Rattle.sch_asm.specs.declared.item.Item.{Item}
 use Rattle.sch_asm.specs.declared.item.Item.TheVariants.{Label, Plain, Jump, JumpIf, LoadLabel, LoadWord}
-use Rattle.sch_select_memory.specs.Encoded.{byte_mask, character_shift, character_tag, fixnum_shift, pair_tag, string_tag, symbol_tag, tag_mask, unspecified_word, vector_tag}
+use Rattle.sch_select_memory.specs.Encoded.{byte_mask, character_shift, character_tag, fixnum_shift, pair_tag, string_tag, symbol_tag, tag_mask, unspecified_word, vector_tag, word_displacement}
 use Rattle.sch_select_memory.specs.Addresses.{heap_offset, stop_label, table_address, vector_label, string_label, part_operand}
-use Rattle.sch_select_memory.specs.Checks.{low_bits, check_fixnum, round_code, string_length}
+use Rattle.sch_select_memory.specs.Checks.{low_bits, check_fixnum, name_entry, name_length, round_code, string_length}
 
 -- ## The heap: its register has the address of the next part
 
@@ -45,16 +45,16 @@ set_part_of_pair to rest =
     check_tag RAX pair_tag (Plain (MovTo to RCX) ∷ (Plain (MovNumber (Reg RAX) (pos unspecified_word)) ∷ rest))
 
 abbrev pub first_of_pair : Arg
-first_of_pair = Base32 RAX (negsuc 0)
+first_of_pair = Base32 RAX (word_displacement pair_tag 0)
 
 abbrev pub rest_of_pair : Arg
-rest_of_pair = Base32 RAX (pos 7)
+rest_of_pair = Base32 RAX (word_displacement pair_tag 1)
 
 -- a new pair of RAX and RCX
 abbrev pub pair_code : (heap_end : ℕ) → List Item → List Item
 pair_code heap_end rest =
-    check_heap heap_end 16 (Plain (MovTo (part_operand 0) RAX) ∷ (Plain (MovTo (part_operand 8) RCX) ∷ part_code
-    pair_tag 16 rest))
+    check_heap heap_end pair_bytes (Plain (MovTo (part_operand 0) RAX) ∷ (Plain (MovTo (part_operand 8) RCX) ∷ part_code
+    pair_tag pair_bytes rest))
 
 -- ## Vectors and strings
 
@@ -63,7 +63,7 @@ abbrev pub length_code : (tag : ℕ) → Arg → List Item → List Item
 length_code tag from rest = check_tag RAX tag (Plain (MovFrom RAX from) ∷ rest)
 
 abbrev pub vector_length : Arg
-vector_length = Base32 RAX (negsuc 1)
+vector_length = Base32 RAX (word_displacement vector_tag 0)
 
 -- RCX has the word of a number below a length whose word is at an address, or stop 66. Of numbers without a sign a
 -- negative one is none.
@@ -72,10 +72,14 @@ check_index length rest = Plain (CmpFrom RCX length) ∷ (JumpIf AE (stop_label 
 
 -- an element of the vector in RAX, and a byte of the string in RAX, at the index in RCX
 abbrev pub vector_element : Arg
-vector_element = Base32 RAX (pos 6)
+vector_element = Base32 RAX (word_displacement vector_tag 1)
 
 abbrev pub string_byte : Arg
-string_byte = Base32 RAX (pos 5)
+string_byte = Base32 RAX (word_displacement string_tag 1)
+
+-- and a byte of the name whose address is in RAX
+abbrev pub name_byte : Arg
+name_byte = Base32 RAX (pos 8)
 
 abbrev pub vector_ref_code : List Item → List Item
 vector_ref_code rest =
@@ -112,15 +116,15 @@ string_set_code rest =
 abbrev pub name_code : List Item → List Item
 name_code rest =
     check_tag RAX symbol_tag (LoadWord RDX table_address ∷ (Plain (AddTo (Reg RAX) RDX)
-    ∷ (Plain (MovFrom RAX (Base32 RAX (negsuc 4))) ∷ rest)))
+    ∷ (Plain (MovFrom RAX name_entry) ∷ rest)))
 
 abbrev pub symbol_length_code : List Item → List Item
-symbol_length_code rest = name_code (Plain (MovFrom RAX (Base32 RAX (pos 0))) ∷ rest)
+symbol_length_code rest = name_code (Plain (MovFrom RAX name_length) ∷ rest)
 
 abbrev pub symbol_ref_code : List Item → List Item
 symbol_ref_code rest =
-    name_code (check_fixnum RCX (check_index (Base32 RAX (pos 0))
-    (Plain (Shr (Reg RCX) fixnum_shift) ∷ (Plain (AddTo (Reg RAX) RCX) ∷ (Plain (LoadByte RAX (Base32 RAX (pos 8))) ∷
+    name_code (check_fixnum RCX (check_index name_length
+    (Plain (Shr (Reg RCX) fixnum_shift) ∷ (Plain (AddTo (Reg RAX) RCX) ∷ (Plain (LoadByte RAX name_byte) ∷
     character_code rest)))))
 
 -- ## New vectors and strings

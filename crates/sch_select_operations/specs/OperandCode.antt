@@ -1,6 +1,6 @@
--- Atoms, operands and the primitives over registers. RAX is the accumulator, RCX has a second operand, RDX and R11 are
--- free, and RBP has the address of the frame.
-use Rattle.std.specs.Prelude.{ℕ, ◌-◌, List, [], ◌∷◌, pos}
+-- Atoms, operands and the primitives over registers. RAX is the accumulator, RCX has a second operand, and RDX and R11 are
+-- free.
+use Rattle.std.specs.Prelude.{ℕ, ◌-◌, ◌*◌, List, [], ◌∷◌, pos}
 use Rattle.sch_word.specs.declared.place.Place.{Place}
 use Rattle.sch_word.specs.declared.primitive.Primitive.{Primitive}
 use Rattle.sch_word.specs.declared.primitive.Primitive.TheVariants.{Eq, Eqv, IsBoolean, IsPair, IsNull, IsSymbol}
@@ -20,7 +20,7 @@ use Rattle.sch_insn.specs.declared.condition.TheConstants.{E, A, L, GE, LE, G}
 use Rattle.sch_insn.specs.declared.insn.Arg.TheVariants.{Reg}
 use Rattle.sch_insn.specs.declared.insn.Insn.TheVariants.{MovTo, MovFrom, MovNumber, MovWord, AddTo, SubTo, AddNumber}
 use Rattle.sch_insn.specs.declared.insn.Insn.TheVariants.{CmpNumber, Imul, Shl, Shr, Sar}
-use Rattle.sch_insn.specs.declared.register.TheConstants.{RAX, RCX, RDX, R11}
+use Rattle.sch_word.specs.declared.registers.TheConstants.{RAX, RCX, RDX, R11}
 use Rattle.sch_asm.specs.declared.item.Item.{Item}
 use Rattle.sch_asm.specs.declared.item.Item.TheVariants.{Label, Plain, Jump, JumpIf, LoadLabel, LoadWord}
 use Rattle.sch_select_memory.specs.Encoded.{boolean_mask, byte_mask, character_shift, character_tag, constant_number, false_word, fixnum_shift, fixnum_tag, nil_word, pair_tag, procedure_tag, string_tag, symbol_tag, tag_mask, unspecified_word, vector_tag}
@@ -43,6 +43,10 @@ put_code n rest = LoadLabel R11 n ∷ (Jump put_label ∷
 
 -- ## One operand, and two
 
+-- the word of 255, the greatest number that is a character's
+abbrev pub max_byte_word : ℕ
+max_byte_word = 8 * 255
+
 abbrev pub unary_code : (n : ℕ) → Primitive → List Item → List Item
 unary_code n IsBoolean rest = test_code n boolean_mask false_word rest
 unary_code n IsPair rest = test_code n tag_mask pair_tag rest
@@ -55,7 +59,7 @@ unary_code n IsVector rest = test_code n tag_mask vector_tag rest
 unary_code n IsProcedure rest = test_code n tag_mask procedure_tag rest
 unary_code n CharToInteger rest = check_character (Plain (Shr (Reg RAX) character_shift) ∷ (Plain (Shl (Reg RAX) fixnum_shift) ∷ rest))
 unary_code n IntegerToChar rest =
-    check_fixnum RAX (Plain (CmpNumber (Reg RAX) (pos 2040)) ∷ (JumpIf A (stop_label OutOfRange)
+    check_fixnum RAX (Plain (CmpNumber (Reg RAX) (pos max_byte_word)) ∷ (JumpIf A (stop_label OutOfRange)
     ∷ (Plain (Shl (Reg RAX) (character_shift - fixnum_shift)) ∷ (Plain (AddNumber (Reg RAX) (pos character_tag)) ∷ rest))))
 unary_code n Put rest = put_code n rest
 unary_code n Car rest = part_of_pair first_of_pair rest

@@ -4,7 +4,7 @@ use Rattle.sch_word.specs.declared.place.Place.{Place}
 use Rattle.sch_control.specs.declared.operation.Source.TheVariants as source
 use Rattle.sch_control.specs.declared.operation.Operation.{Operation}
 use Rattle.sch_control.specs.declared.operation.Operation.TheVariants as operation
-use Rattle.sch_insn.specs.declared.register.TheConstants.{RAX, RCX}
+use Rattle.sch_word.specs.declared.registers.TheConstants.{RAX, RCX}
 use Rattle.sch_asm.specs.declared.item.Item.{Item}
 use Rattle.sch_select_operations.specs.OperandCode.{operand_code}
 use Rattle.sch_select_operations.specs.PrimitiveCode.{primitive_code, global_code, set_global_code}

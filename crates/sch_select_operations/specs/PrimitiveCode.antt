@@ -9,7 +9,7 @@ use Rattle.sch_control.specs.declared.operation.Operand.TheVariants as operand
 use Rattle.sch_insn.specs.declared.condition.TheConstants.{E}
 use Rattle.sch_insn.specs.declared.insn.Arg.TheVariants.{Reg}
 use Rattle.sch_insn.specs.declared.insn.Insn.TheVariants.{MovTo, MovNumber, CmpNumber}
-use Rattle.sch_insn.specs.declared.register.TheConstants.{RAX, RCX, R11}
+use Rattle.sch_word.specs.declared.registers.TheConstants.{RAX, RCX, R11}
 use Rattle.sch_asm.specs.declared.item.Item.{Item}
 use Rattle.sch_asm.specs.declared.item.Item.TheVariants.{Plain, Jump, JumpIf, LoadWord, StoreWord}
 use Rattle.sch_select_memory.specs.Encoded.{unspecified_word, unset_word}

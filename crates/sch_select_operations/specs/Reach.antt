@@ -3,6 +3,7 @@
 use Rattle.std.specs.Prelude.{ℕ, ◌*◌, Bool, true, ◌&&◌, nat_le, nat_lt, length}
 use Rattle.std.specs.List.{list_all}
 use Rattle.sch_word.specs.declared.place.Place.{Place}
+use Rattle.sch_word.specs.runs.Charges.{procedure_bytes}
 use Rattle.sch_word.specs.trees.Shape.{max_free_variables, max_operands}
 use Rattle.sch_control.specs.declared.operation.Atom.{Atom}
 use Rattle.sch_control.specs.declared.operation.Atom.TheVariants.{Variable}
@@ -36,7 +37,7 @@ is_reached_member m = is_reached_place m.at && is_reached_closure m.closure
 
 -- the most bytes of a closure's record, and of those of a group
 abbrev pub max_record_bytes : ℕ
-max_record_bytes = 8016
+max_record_bytes = procedure_bytes max_free_variables
 
 abbrev pub max_group_bytes : ℕ
 max_group_bytes = max_record_bytes * max_operands

@@ -10,16 +10,16 @@ ghost use Rattle.sch_select_operations.specs.ArithmeticCode.{compare_code, compa
 
 use sch_asm::Item;
 use sch_insn::condition::{A, E, GE, L, NE, O};
-use sch_insn::register::{RAX, RCX, RDX};
 use sch_insn::{Arg, Insn};
 use sch_select_memory::addresses::stop;
 use sch_select_memory::word::{
     BYTE_MASK, CHARACTER, CHARACTER_SHIFT, FALSE, FIXNUM_SHIFT, TAG_MASK, TRUE,
 };
+use sch_word::registers::{RAX, RCX, RDX};
 use sch_word::{List, Mem, Stop};
 
-/// The word of the number 255.
-const LARGEST_BYTE: i32 = 8 * 255;
+/// The word of 255, the greatest number that is a character's.
+const MAX_BYTE_WORD: i32 = 8 * 255;
 
 /// A check that a register has a fixnum, or stop 65.
 fn check(register: u8) -> [Item; 3]
@@ -155,7 +155,7 @@ pub(crate) fn number_character(out: &mut List<Item>) -> Result<(), Mem>
 {
     out.extend_from_slice(&check(RAX))?;
     out.extend_from_slice(&[
-        Item::Plain(Insn::CmpNumber(Arg::Reg(RAX), LARGEST_BYTE)),
+        Item::Plain(Insn::CmpNumber(Arg::Reg(RAX), MAX_BYTE_WORD)),
         Item::JumpIf(A, stop(Stop::OutOfRange)),
         Item::Plain(Insn::Shl(Arg::Reg(RAX), CHARACTER_SHIFT - FIXNUM_SHIFT)),
         Item::Plain(Insn::AddNumber(Arg::Reg(RAX), CHARACTER)),

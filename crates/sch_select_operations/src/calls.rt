@@ -9,11 +9,14 @@ ghost use Rattle.sch_word.specs.trees.Shape.{max_operands};
 
 use sch_asm::Item;
 use sch_insn::condition::{E, NE};
-use sch_insn::register::{RAX, RCX, RDX};
 use sch_insn::{Arg, Insn};
 use sch_select_memory::addresses::{immediate, slot_bytes, stop};
 use sch_select_memory::word::{PROCEDURE, TAG_MASK};
+use sch_word::registers::{RAX, RCX, RDX};
 use sch_word::{CLOSURE_REGISTER, DEPTH_REGISTER, FRAME_REGISTER, LINK_REGISTER, List, Mem, Stop};
+
+/// The address of the code of the procedure in the register of the closure: the first word of its record.
+const CODE_ADDRESS: Arg = Arg::Base32(CLOSURE_REGISTER, -PROCEDURE);
 
 /// The register of the closure has a procedure, or stop 67.
 fn operator_check() -> [Item; 4]
@@ -45,7 +48,7 @@ fn enter(out: &mut List<Item>, count: u32) -> Result<(), Mem>
     let count = immediate(count);
     out.extend_from_slice(&[
         Item::Plain(Insn::MovNumber(Arg::Reg(RAX), count)),
-        Item::Plain(Insn::MovFrom(RCX, Arg::Base32(CLOSURE_REGISTER, -4))),
+        Item::Plain(Insn::MovFrom(RCX, CODE_ADDRESS)),
         Item::Plain(Insn::JumpTo(Arg::Reg(RCX))),
     ])
 }

@@ -1,11 +1,10 @@
 //! The items of what closures capture, and of cells.
 
-ghost use Rattle.std.specs.Prelude.{◌≡◌, ◌<◌, ◌≤◌, ◌+◌, ◌*◌, ◌++◌, IsTrue, OnOk, List, pos};
+ghost use Rattle.std.specs.Prelude.{◌≡◌, ◌<◌, ◌≤◌, ◌++◌, IsTrue, OnOk, List};
 ghost use Rattle.sch_word.specs.trees.Shape.{max_free_variables};
 ghost use Rattle.sch_select_memory.specs.Addresses.{max_heap_end};
 ghost use Rattle.sch_asm.specs.declared.item.Item.{Item};
-ghost use Rattle.sch_insn.specs.declared.insn.Arg.TheVariants.{Base32};
-ghost use Rattle.sch_select_operations.specs.CellCode.{cell_operand, check_cell, new_cell_code, read_cell_code, source_code, unset_cell_code};
+ghost use Rattle.sch_select_operations.specs.CellCode.{cell_operand, check_cell, field_operand, new_cell_code, read_cell_code, source_code, unset_cell_code};
 ghost use Rattle.sch_select_operations.specs.CellCode.{write_cell_code};
 ghost use Rattle.sch_select_operations.specs.Reach.{is_reached_source};
 
@@ -14,11 +13,17 @@ use crate::pairs::{check_heap, part};
 use sch_asm::Item;
 use sch_control::Source;
 use sch_insn::condition::{E, NE};
-use sch_insn::register::{RAX, RCX, RDX};
 use sch_insn::{Arg, Insn};
 use sch_select_memory::addresses::{place_operand, stop};
-use sch_select_memory::word::{CELL, TAG_MASK, UNSET, UNSPECIFIED};
+use sch_select_memory::word::{CELL, PROCEDURE, TAG_MASK, UNSET, UNSPECIFIED};
+use sch_word::registers::{RAX, RCX, RDX};
 use sch_word::{HEAP_REGISTER, List, Mem, Place, Stop};
+
+/// The displacement of the first field of a record, which the address of the code is before, from the word of its closure.
+const FIRST_FIELD: i32 = 8 - PROCEDURE;
+
+/// The displacement of the contents of a cell from the cell's word.
+const CONTENTS: i32 = -CELL;
 
 /// The low three bits of a cell's word.
 const CELL_TAG: u32 = CELL as u32;
@@ -29,9 +34,9 @@ const CELL_BYTES: u32 = 16;
 /// The operand of a field, by the word of its closure in a register.
 fn field_operand(register: u8, k: u32) -> Arg
     requires { k < max_free_variables }
-    ensures { result ≡ Base32 register (pos (4 + 8 * k)) }
+    ensures { result ≡ field_operand register k }
 {
-    Arg::Base32(register, 4 + 8 * k as i32)
+    Arg::Base32(register, FIRST_FIELD + 8 * k as i32)
 }
 
 /// What a closure captures, or a cell that is read or set, into a register.
@@ -68,7 +73,7 @@ fn cell_checked(register: u8) -> [Item; 4]
 fn cell_operand(register: u8) -> Arg
     ensures { result ≡ cell_operand register }
 {
-    Arg::Base32(register, -7)
+    Arg::Base32(register, CONTENTS)
 }
 
 /// Reads the cell that RAX has into RAX.

@@ -13,10 +13,10 @@ use crate::cells::source;
 use crate::pairs::{check_heap, part};
 use sch_asm::Item;
 use sch_control::{Closure, Member, Source};
-use sch_insn::register::RCX;
 use sch_insn::{Arg, Insn};
 use sch_select_memory::addresses::{body_label, immediate, part_operand, place_operand};
 use sch_select_memory::word::PROCEDURE;
+use sch_word::registers::RCX;
 use sch_word::{HEAP_REGISTER, List, MarkKind, Mem, Place};
 
 /// The low three bits of a procedure's word.

@@ -9,10 +9,10 @@ use crate::operands::operand;
 use sch_asm::Item;
 use sch_control::Operand;
 use sch_insn::condition::E;
-use sch_insn::register::RAX;
 use sch_insn::{Arg, Insn};
 use sch_select_memory::addresses::{global_address, stop};
 use sch_select_memory::word::{UNSET, UNSPECIFIED};
+use sch_word::registers::RAX;
 use sch_word::{List, Mem, Place, Stop};
 
 /// A global into RAX, or stop 73. Its word stands behind those of a number of literals.

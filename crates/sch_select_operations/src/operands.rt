@@ -18,7 +18,6 @@ use crate::vectors::{make_vector, vector_length, vector_ref};
 use sch_asm::{Item, Routine};
 use sch_control::{Atom, Operand};
 use sch_insn::condition::{E, G, GE, L, LE};
-use sch_insn::register::{R11, RAX, RCX};
 use sch_insn::{Arg, Insn};
 use sch_select_memory::addresses::{literal_address, place_operand};
 use sch_select_memory::constant_number;
@@ -26,6 +25,7 @@ use sch_select_memory::word::{
     BOOLEAN_MASK, BYTE_MASK, CHARACTER, FALSE, FIXNUM, NIL, PAIR, PROCEDURE, STRING, SYMBOL,
     TAG_MASK, UNSPECIFIED, VECTOR,
 };
+use sch_word::registers::{R11, RAX, RCX};
 use sch_word::{List, Mem, Place, Primitive};
 
 /// An atom into a register.

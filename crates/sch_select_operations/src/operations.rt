@@ -13,7 +13,7 @@ use crate::operands::operand;
 use crate::primitives::primitive;
 use sch_asm::Item;
 use sch_control::{Operation, Source};
-use sch_insn::register::{RAX, RCX};
+use sch_word::registers::{RAX, RCX};
 use sch_word::{List, Mem, Place};
 
 /// An operation, whose value is left in RAX. Its labels are from n on, twelve at most.

@@ -8,17 +8,17 @@ ghost use Rattle.sch_select_operations.specs.ObjectCode.{check_heap, pair_code, 
 
 use sch_asm::Item;
 use sch_insn::condition::{A, NE};
-use sch_insn::register::{RAX, RCX, RDX};
 use sch_insn::{Arg, Insn};
 use sch_select_memory::addresses::{heap_offset, immediate, stop};
-use sch_select_memory::word::{PAIR, TAG_MASK, UNSPECIFIED};
+use sch_select_memory::word::{PAIR, PAIR_BYTES, TAG_MASK, UNSPECIFIED};
+use sch_word::registers::{RAX, RCX, RDX};
 use sch_word::{DATA_ADDRESS, HEAP_REGISTER, List, Mem, Stop};
 
 /// The first word of the pair whose word is in RAX.
-pub(crate) const CAR: Arg = Arg::Base32(RAX, -1);
+pub(crate) const CAR: Arg = Arg::Base32(RAX, -PAIR);
 
 /// The second word of the pair whose word is in RAX.
-pub(crate) const CDR: Arg = Arg::Base32(RAX, 7);
+pub(crate) const CDR: Arg = Arg::Base32(RAX, 8 - PAIR);
 
 /// The heap has this number of bytes left, or stop 71.
 pub fn check_heap(out: &mut List<Item>, heap_end: u32, bytes: u32) -> Result<(), Mem>
@@ -83,12 +83,12 @@ pub(crate) fn pair(out: &mut List<Item>, heap_end: u32) -> Result<(), Mem>
     requires { heap_end ≤ max_heap_end }
     ensures { OnOk result ((rest : List Item) → out.new ++ rest ≡ out.old ++ pair_code heap_end rest) }
 {
-    check_heap(out, heap_end, 16)?;
+    check_heap(out, heap_end, PAIR_BYTES as u32)?;
     out.extend_from_slice(&[
         Item::Plain(Insn::MovTo(Arg::Base32(HEAP_REGISTER, 0), RAX)),
         Item::Plain(Insn::MovTo(Arg::Base32(HEAP_REGISTER, 8), RCX)),
         Item::Plain(Insn::MovTo(Arg::Reg(RAX), HEAP_REGISTER)),
         Item::Plain(Insn::AddNumber(Arg::Reg(RAX), PAIR)),
-        Item::Plain(Insn::AddNumber(Arg::Reg(HEAP_REGISTER), 16)),
+        Item::Plain(Insn::AddNumber(Arg::Reg(HEAP_REGISTER), PAIR_BYTES)),
     ])
 }

@@ -13,9 +13,9 @@ use crate::strings::set_string;
 use crate::vectors::set_vector;
 use sch_asm::Item;
 use sch_control::{Atom, Operand};
-use sch_insn::register::{R11, RAX, RCX};
 use sch_insn::{Arg, Insn};
 use sch_select_memory::addresses::stop;
+use sch_word::registers::{R11, RAX, RCX};
 use sch_word::{List, Mem, Place, Primitive, Stop};
 
 /// An index into RCX. What a primitive reads is no number: stop 65.

@@ -9,13 +9,22 @@ ghost use Rattle.sch_select_memory.specs.Checks.{string_length};
 
 use sch_asm::{Item, Routine};
 use sch_insn::condition::{AE, NE};
-use sch_insn::register::{R11, RAX, RCX, RDX};
 use sch_insn::{Arg, Insn};
-use sch_select_memory::addresses::{TABLE_ADDRESS, stop};
-use sch_select_memory::word::{
-    BYTE_MASK, CHARACTER, CHARACTER_SHIFT, FIXNUM_SHIFT, STRING, SYMBOL, TAG_MASK, UNSPECIFIED,
+use sch_select_memory::addresses::{
+    NAME_ENTRY, NAME_LENGTH, STRING_BYTES, STRING_LENGTH, TABLE_ADDRESS, stop,
 };
+use sch_select_memory::word::{
+    BYTE_MASK, CHARACTER, CHARACTER_SHIFT, FIXNUM_SHIFT, ROUNDING, STRING, SYMBOL, TAG_MASK,
+    UNIT_SHIFT, UNSPECIFIED,
+};
+use sch_word::registers::{R11, RAX, RCX, RDX};
 use sch_word::{HEAP_REGISTER, List, Mem, Stop};
+
+/// A byte of the string in RAX, at the index that is added to RAX.
+const STRING_BYTE: Arg = Arg::Base32(RAX, STRING_BYTES);
+
+/// A byte of the name whose address is in RAX, at the index that is added to RAX.
+const NAME_BYTE: Arg = Arg::Base32(RAX, 8);
 
 /// The length of the string in RAX.
 pub(crate) fn string_length(out: &mut List<Item>) -> Result<(), Mem>
@@ -26,7 +35,7 @@ pub(crate) fn string_length(out: &mut List<Item>) -> Result<(), Mem>
         Item::Plain(Insn::AndNumber(Arg::Reg(RDX), TAG_MASK)),
         Item::Plain(Insn::CmpNumber(Arg::Reg(RDX), STRING)),
         Item::JumpIf(NE, stop(Stop::WrongType)),
-        Item::Plain(Insn::MovFrom(RAX, Arg::Base32(RAX, -3))),
+        Item::Plain(Insn::MovFrom(RAX, STRING_LENGTH)),
     ])
 }
 
@@ -42,11 +51,11 @@ pub(crate) fn string_ref(out: &mut List<Item>) -> Result<(), Mem>
         Item::Plain(Insn::MovTo(Arg::Reg(RDX), RCX)),
         Item::Plain(Insn::AndNumber(Arg::Reg(RDX), TAG_MASK)),
         Item::JumpIf(NE, stop(Stop::WrongType)),
-        Item::Plain(Insn::CmpFrom(RCX, Arg::Base32(RAX, -3))),
+        Item::Plain(Insn::CmpFrom(RCX, STRING_LENGTH)),
         Item::JumpIf(AE, stop(Stop::OutOfRange)),
         Item::Plain(Insn::Shr(Arg::Reg(RCX), FIXNUM_SHIFT)),
         Item::Plain(Insn::AddTo(Arg::Reg(RAX), RCX)),
-        Item::Plain(Insn::LoadByte(RAX, Arg::Base32(RAX, 5))),
+        Item::Plain(Insn::LoadByte(RAX, STRING_BYTE)),
         Item::Plain(Insn::Shl(Arg::Reg(RAX), CHARACTER_SHIFT)),
         Item::Plain(Insn::AddNumber(Arg::Reg(RAX), CHARACTER)),
     ])
@@ -68,12 +77,12 @@ pub(crate) fn set_string(out: &mut List<Item>) -> Result<(), Mem>
         Item::Plain(Insn::AndNumber(Arg::Reg(RDX), BYTE_MASK)),
         Item::Plain(Insn::CmpNumber(Arg::Reg(RDX), CHARACTER)),
         Item::JumpIf(NE, stop(Stop::WrongType)),
-        Item::Plain(Insn::CmpFrom(RCX, Arg::Base32(RAX, -3))),
+        Item::Plain(Insn::CmpFrom(RCX, STRING_LENGTH)),
         Item::JumpIf(AE, stop(Stop::OutOfRange)),
         Item::Plain(Insn::Shr(Arg::Reg(RCX), FIXNUM_SHIFT)),
         Item::Plain(Insn::AddTo(Arg::Reg(RAX), RCX)),
         Item::Plain(Insn::Shr(Arg::Reg(R11), CHARACTER_SHIFT)),
-        Item::Plain(Insn::StoreByte(Arg::Base32(RAX, 5), R11)),
+        Item::Plain(Insn::StoreByte(STRING_BYTE, R11)),
         Item::Plain(Insn::MovNumber(Arg::Reg(RAX), UNSPECIFIED)),
     ])
 }
@@ -89,8 +98,8 @@ pub(crate) fn symbol_length(out: &mut List<Item>) -> Result<(), Mem>
         Item::JumpIf(NE, stop(Stop::WrongType)),
         Item::LoadWord(RDX, TABLE_ADDRESS),
         Item::Plain(Insn::AddTo(Arg::Reg(RAX), RDX)),
-        Item::Plain(Insn::MovFrom(RAX, Arg::Base32(RAX, -5))),
-        Item::Plain(Insn::MovFrom(RAX, Arg::Base32(RAX, 0))),
+        Item::Plain(Insn::MovFrom(RAX, NAME_ENTRY)),
+        Item::Plain(Insn::MovFrom(RAX, NAME_LENGTH)),
     ])
 }
 
@@ -105,15 +114,15 @@ pub(crate) fn symbol_ref(out: &mut List<Item>) -> Result<(), Mem>
         Item::JumpIf(NE, stop(Stop::WrongType)),
         Item::LoadWord(RDX, TABLE_ADDRESS),
         Item::Plain(Insn::AddTo(Arg::Reg(RAX), RDX)),
-        Item::Plain(Insn::MovFrom(RAX, Arg::Base32(RAX, -5))),
+        Item::Plain(Insn::MovFrom(RAX, NAME_ENTRY)),
         Item::Plain(Insn::MovTo(Arg::Reg(RDX), RCX)),
         Item::Plain(Insn::AndNumber(Arg::Reg(RDX), TAG_MASK)),
         Item::JumpIf(NE, stop(Stop::WrongType)),
-        Item::Plain(Insn::CmpFrom(RCX, Arg::Base32(RAX, 0))),
+        Item::Plain(Insn::CmpFrom(RCX, NAME_LENGTH)),
         Item::JumpIf(AE, stop(Stop::OutOfRange)),
         Item::Plain(Insn::Shr(Arg::Reg(RCX), FIXNUM_SHIFT)),
         Item::Plain(Insn::AddTo(Arg::Reg(RAX), RCX)),
-        Item::Plain(Insn::LoadByte(RAX, Arg::Base32(RAX, 8))),
+        Item::Plain(Insn::LoadByte(RAX, NAME_BYTE)),
         Item::Plain(Insn::Shl(Arg::Reg(RAX), CHARACTER_SHIFT)),
         Item::Plain(Insn::AddNumber(Arg::Reg(RAX), CHARACTER)),
     ])
@@ -129,9 +138,9 @@ pub(crate) fn make_string(out: &mut List<Item>, n: u32) -> Result<(), Mem>
         Item::Label(n),
         Item::Plain(Insn::MovFrom(RDX, Arg::Base32(HEAP_REGISTER, 0))),
         Item::Plain(Insn::Shr(Arg::Reg(RDX), FIXNUM_SHIFT)),
-        Item::Plain(Insn::AddNumber(Arg::Reg(RDX), 23)),
-        Item::Plain(Insn::Shr(Arg::Reg(RDX), 4)),
-        Item::Plain(Insn::Shl(Arg::Reg(RDX), 4)),
+        Item::Plain(Insn::AddNumber(Arg::Reg(RDX), ROUNDING)),
+        Item::Plain(Insn::Shr(Arg::Reg(RDX), UNIT_SHIFT)),
+        Item::Plain(Insn::Shl(Arg::Reg(RDX), UNIT_SHIFT)),
         Item::Plain(Insn::MovTo(Arg::Reg(RAX), HEAP_REGISTER)),
         Item::Plain(Insn::AddNumber(Arg::Reg(RAX), STRING)),
         Item::Plain(Insn::AddTo(Arg::Reg(HEAP_REGISTER), RDX)),

@@ -7,11 +7,17 @@ ghost use Rattle.sch_select_operations.specs.ObjectCode.{length_code, vector_cod
 
 use sch_asm::{Item, Routine};
 use sch_insn::condition::{AE, NE};
-use sch_insn::register::{R11, RAX, RCX, RDX};
 use sch_insn::{Arg, Insn};
 use sch_select_memory::addresses::stop;
-use sch_select_memory::word::{TAG_MASK, UNSPECIFIED, VECTOR};
+use sch_select_memory::word::{ROUNDING, TAG_MASK, UNIT_SHIFT, UNSPECIFIED, VECTOR};
+use sch_word::registers::{R11, RAX, RCX, RDX};
 use sch_word::{HEAP_REGISTER, List, Mem, Stop};
+
+/// The word of the length of the vector in RAX.
+const LENGTH: Arg = Arg::Base32(RAX, -VECTOR);
+
+/// An element of the vector in RAX, whose index's word is added to RAX.
+const ELEMENT: Arg = Arg::Base32(RAX, 8 - VECTOR);
 
 /// The length of the vector in RAX.
 pub(crate) fn vector_length(out: &mut List<Item>) -> Result<(), Mem>
@@ -22,7 +28,7 @@ pub(crate) fn vector_length(out: &mut List<Item>) -> Result<(), Mem>
         Item::Plain(Insn::AndNumber(Arg::Reg(RDX), TAG_MASK)),
         Item::Plain(Insn::CmpNumber(Arg::Reg(RDX), VECTOR)),
         Item::JumpIf(NE, stop(Stop::WrongType)),
-        Item::Plain(Insn::MovFrom(RAX, Arg::Base32(RAX, -2))),
+        Item::Plain(Insn::MovFrom(RAX, LENGTH)),
     ])
 }
 
@@ -38,10 +44,10 @@ pub(crate) fn vector_ref(out: &mut List<Item>) -> Result<(), Mem>
         Item::Plain(Insn::MovTo(Arg::Reg(RDX), RCX)),
         Item::Plain(Insn::AndNumber(Arg::Reg(RDX), TAG_MASK)),
         Item::JumpIf(NE, stop(Stop::WrongType)),
-        Item::Plain(Insn::CmpFrom(RCX, Arg::Base32(RAX, -2))),
+        Item::Plain(Insn::CmpFrom(RCX, LENGTH)),
         Item::JumpIf(AE, stop(Stop::OutOfRange)),
         Item::Plain(Insn::AddTo(Arg::Reg(RAX), RCX)),
-        Item::Plain(Insn::MovFrom(RAX, Arg::Base32(RAX, 6))),
+        Item::Plain(Insn::MovFrom(RAX, ELEMENT)),
     ])
 }
 
@@ -57,10 +63,10 @@ pub(crate) fn set_vector(out: &mut List<Item>) -> Result<(), Mem>
         Item::Plain(Insn::MovTo(Arg::Reg(RDX), RCX)),
         Item::Plain(Insn::AndNumber(Arg::Reg(RDX), TAG_MASK)),
         Item::JumpIf(NE, stop(Stop::WrongType)),
-        Item::Plain(Insn::CmpFrom(RCX, Arg::Base32(RAX, -2))),
+        Item::Plain(Insn::CmpFrom(RCX, LENGTH)),
         Item::JumpIf(AE, stop(Stop::OutOfRange)),
         Item::Plain(Insn::AddTo(Arg::Reg(RAX), RCX)),
-        Item::Plain(Insn::MovTo(Arg::Base32(RAX, 6), R11)),
+        Item::Plain(Insn::MovTo(ELEMENT, R11)),
         Item::Plain(Insn::MovNumber(Arg::Reg(RAX), UNSPECIFIED)),
     ])
 }
@@ -74,9 +80,9 @@ pub(crate) fn make_vector(out: &mut List<Item>, n: u32) -> Result<(), Mem>
         Item::Jump(Routine::NewVector.label()),
         Item::Label(n),
         Item::Plain(Insn::MovFrom(RDX, Arg::Base32(HEAP_REGISTER, 0))),
-        Item::Plain(Insn::AddNumber(Arg::Reg(RDX), 23)),
-        Item::Plain(Insn::Shr(Arg::Reg(RDX), 4)),
-        Item::Plain(Insn::Shl(Arg::Reg(RDX), 4)),
+        Item::Plain(Insn::AddNumber(Arg::Reg(RDX), ROUNDING)),
+        Item::Plain(Insn::Shr(Arg::Reg(RDX), UNIT_SHIFT)),
+        Item::Plain(Insn::Shl(Arg::Reg(RDX), UNIT_SHIFT)),
         Item::Plain(Insn::MovTo(Arg::Reg(RAX), HEAP_REGISTER)),
         Item::Plain(Insn::AddNumber(Arg::Reg(RAX), VECTOR)),
         Item::Plain(Insn::AddTo(Arg::Reg(HEAP_REGISTER), RDX)),

@@ -12,10 +12,10 @@ use Rattle.sch_shuffle.specs.declared.choice.Choice.{Choice}
 use Rattle.sch_shuffle.specs.Tree.{Tree, place, fixed, literal, read, uses}
 use Rattle.sch_shuffle.specs.Assignment.{operand_at, place_at, AreDistinct, temps}
 use Rattle.sch_shuffle.specs.Plans.{AreAtoms, IsAtom}
-use Rattle.sch_shuffle.specs.Greedy.{uses_target, needed, next_of, without, chosen, choices, all_choices, acts, made}
+use Rattle.sch_shuffle.specs.Greedy.{uses_target, needed, next_of, remove_first, chosen, choices, all_choices, acts, made}
 use Rattle.sch_shuffle.specs.GreedySteps.{IsMostUsed}
 use Rattle.sch_shuffle.specs.CycleSearch.{successor, ring, is_ring, all_rings}
-use Rattle.sch_shuffle.proofs.WaitingArguments.{Rising, AllBelow, Once, members, has_later, in_first, in_rest, below_in, length_without, rising_numbers, below_numbers, next_of_in, choice_once, choice_members, rising_without, below_without, not_above, rising_rest}
+use Rattle.sch_shuffle.proofs.WaitingArguments.{Rising, AllBelow, Once, members, has_later, in_first, in_rest, below_in, length_remove_first, rising_numbers, below_numbers, next_of_in, choice_once, choice_members, rising_remove_first, below_remove_first, not_above, rising_rest}
 use Rattle.sch_word.proofs.facts.Places.{places_same}
 use Rattle.sch_shuffle.proofs.Paths.{walk, ring_walk}
 use Rattle.sch_shuffle.proofs.GreedyMoves.{chosen_most}
@@ -220,10 +220,10 @@ module _ (args : List Tree) (targets free : List Place) (l : length targets ≡ 
   aside_starts_ring (suc c) ws e rising below =
       let k : ℕ = next_of (needed W ws) ws in
       let inside : has k ws ≡ true = next_of_in (needed W ws) ws (omega (arith, e)) in
-      let less = length_without k ws inside in
-      aside_starts_ring_once k (needed W ws k) (choices W c (without k ws))
+      let less = length_remove_first k ws inside in
+      aside_starts_ring_once k (needed W ws k) (choices W c (remove_first k ws))
       (λ r f. stuck_ring ws k rising below (chosen_most W ws r rising (omega (arith, e)) f))
-      (aside_starts_ring c (without k ws) (omega (arith, less, e)) (rising_without k ws rising) (below_without n k ws below))
+      (aside_starts_ring c (remove_first k ws) (omega (arith, less, e)) (rising_remove_first k ws rising) (below_remove_first n k ws below))
 
   pub at_most : temps (made args targets free) ≤ length (all_rings args targets)
   at_most =

@@ -12,10 +12,10 @@ use Rattle.sch_word.proofs.facts.NumberSets.{in_here, in_more, numbers_length}
 use Rattle.sch_shuffle.specs.Tree.{Tree, place, fixed, literal, read}
 use Rattle.sch_word.specs.values.Places.{same_place}
 use Rattle.sch_shuffle.specs.Assignment.{operand_at, place_at, AreDistinct}
-use Rattle.sch_shuffle.specs.Greedy.{without}
+use Rattle.sch_shuffle.specs.Greedy.{remove_first}
 use Rattle.sch_shuffle.specs.Cycles.{IsRing, AreTheCycles}
 use Rattle.sch_shuffle.specs.CycleSearch.{stands_in, first, successor, iter, path, ring, is_ring, rings, all_rings, places_at, cycles}
-use Rattle.sch_shuffle.proofs.WaitingArguments.{Rising, Once, in_rest, is_above, below_in, length_without, without_other, in_numbers, rising_numbers, below_numbers, rising_rest}
+use Rattle.sch_shuffle.proofs.WaitingArguments.{Rising, Once, in_rest, is_above, below_in, length_remove_first, remove_first_other, in_numbers, rising_numbers, below_numbers, rising_rest}
 use Rattle.sch_word.proofs.facts.Places.{place_same, places_same}
 use Rattle.sch_shuffle.proofs.Paths.{first_found, Back, length_path, path_at, iter_suc, walks_back, all_differ, ring_walk, ring_cases}
 
@@ -25,10 +25,10 @@ pub length_le : (xs ys : List ℕ) → Once xs → ((j : ℕ) → has j xs ≡ t
 length_le [] ys o h = omega arith
 length_le (x ∷ xs) ys o h =
     let inside : has x ys ≡ true = h x (in_here x xs) in
-    let less = length_without x ys inside in
-    let rest = length_le xs (without x ys) o.1 (λ j e.
+    let less = length_remove_first x ys inside in
+    let rest = length_le xs (remove_first x ys) o.1 (λ j e.
     let ne : j ≢ x = λ same. absurd (let bad : has x xs ≡ true = ap (λ i. has i xs) (sym same) ∙ e in let both : true ≡ false = sym bad ∙ o.0 in cc) in
-    without_other j x ys ne ∙ h j (in_more j x xs e)) in
+    remove_first_other j x ys ne ∙ h j (in_more j x xs e)) in
     omega (arith, less, rest)
 
 pub few : (n : ℕ) (xs : List ℕ) → Once xs → ((j : ℕ) → has j xs ≡ true → j < n) → length xs ≤ n

@@ -12,9 +12,9 @@ use Rattle.sch_shuffle.specs.declared.choice.Choice.TheVariants.{Direct, Aside}
 use Rattle.sch_shuffle.specs.Tree.{Tree}
 use Rattle.sch_shuffle.specs.Assignment.{place_at, Transfer, temps}
 use Rattle.sch_shuffle.specs.Plans.{transfer, transfers}
-use Rattle.sch_shuffle.specs.Greedy.{uses_target, needed, goes_before, next, next_of, without, chosen, choices, all_choices, evaluations, onwards, made}
+use Rattle.sch_shuffle.specs.Greedy.{uses_target, needed, goes_before, next, next_of, remove_first, chosen, choices, all_choices, evaluations, onwards, made}
 use Rattle.sch_shuffle.specs.GreedySteps.{waiting, IsFirstClear, IsMostUsed, IsGreedyStep, IsGreedy}
-use Rattle.sch_shuffle.proofs.WaitingArguments.{Above, Rising, above_lower, in_rest, rising_without, next_of_in, length_without, rising_numbers}
+use Rattle.sch_shuffle.proofs.WaitingArguments.{Above, Rising, above_lower, in_rest, rising_remove_first, next_of_in, length_remove_first, rising_numbers}
 
 before_true : (a b : ℕ) → goes_before a b ≡ true → (0 < b) × ((a ≡ 0) ⊎ (b < a))
 before_true a zero h = absurd (cc)
@@ -95,7 +95,7 @@ best f (w ∷ ws) r j e =
 abbrev Steps : (ℕ → ℕ → Bool) → List Place → List ℕ → ℕ → List Transfer → Type 0
 Steps W free ws u [] = Unit {0}
 Steps W free ws u (t ∷ ts) =
-    IsGreedyStep W ws t.argument t.temp × (t.temp ≡ true → t.to ≡ place_at free u) × Steps W free (without t.argument ws) (cond t.temp (suc u) u) ts
+    IsGreedyStep W ws t.argument t.temp × (t.temp ≡ true → t.to ≡ place_at free u) × Steps W free (remove_first t.argument ws) (cond t.temp (suc u) u) ts
 
 chosen_clear : (W : ℕ → ℕ → Bool) (ws : List ℕ) → Rising ws → 0 < length ws → needed W ws (next_of (needed W ws) ws) ≡ 0 → IsFirstClear W ws (next_of (needed W ws) ws)
 chosen_clear W ws r some none =
@@ -119,7 +119,7 @@ module _ (args : List Tree) (targets free : List Place) where
   W = uses_target args targets
 
   one : (ws : List ℕ) (k : ℕ) (cs : List Choice) (tail : List Transfer) (u : ℕ) → Rising ws → 0 < length ws → k ≡ next_of (needed W ws) ws
-      → ((u' : ℕ) → Steps W free (without k ws) u' (transfers args targets (evaluations free u' cs) ++ tail))
+      → ((u' : ℕ) → Steps W free (remove_first k ws) u' (transfers args targets (evaluations free u' cs) ++ tail))
       → (r : ℕ) → needed W ws k ≡ r → Steps W free ws u (transfers args targets (evaluations free u (chosen r k ∷ cs)) ++ tail)
   one ws k cs tail u rising some is ih zero e = (λ _. rw is (chosen_clear W ws rising some (rw is at e)), λ h. absurd (cc), ih u)
   one ws k cs tail u rising some is ih (suc r) e = (rw is (chosen_most W ws r rising some (rw is at e)), λ _. refl, ih (suc u))
@@ -130,9 +130,9 @@ module _ (args : List Tree) (targets free : List Place) where
   all_steps zero (w ∷ ws) u tail e rising end = absurd (omega (arith, e))
   all_steps (suc c) ws u tail e rising end =
       let k : ℕ = next_of (needed W ws) ws in
-      let less = length_without k ws (next_of_in (needed W ws) ws (omega (arith, e))) in
-      one ws k (choices W c (without k ws)) tail u rising (omega (arith, e)) refl
-      (λ u'. all_steps c (without k ws) u' tail (omega (arith, less, e)) (rising_without k ws rising) end) (needed W ws k) refl
+      let less = length_remove_first k ws (next_of_in (needed W ws) ws (omega (arith, e))) in
+      one ws k (choices W c (remove_first k ws)) tail u rising (omega (arith, e)) refl
+      (λ u'. all_steps c (remove_first k ws) u' tail (omega (arith, less, e)) (rising_remove_first k ws rising) end) (needed W ws k) refl
 
   end_steps : (cs : List Choice) (u v : ℕ) → Steps W free [] v (transfers args targets (onwards free u cs))
   end_steps [] u v = tt
@@ -143,7 +143,7 @@ module _ (args : List Tree) (targets free : List Place) where
       → IsGreedyStep W (waiting ws before) t.argument t.temp × (t.temp ≡ true → t.to ≡ place_at free (u + temps before))
   at_step [] later t ws u s = (s.0, λ e. s.1 e ∙ ap (place_at free) (omega arith))
   at_step (b ∷ before) later t ws u s =
-      let rest = at_step before later t (without b.argument ws) (cond b.temp (suc u) u) s.2 in
+      let rest = at_step before later t (remove_first b.argument ws) (cond b.temp (suc u) u) s.2 in
       (rest.0, λ e. rest.1 e ∙ ap (place_at free) (sum b.temp (temps before)))
     where
       sum : (x : Bool) (n : ℕ) → cond x (suc u) u + n ≡ u + cond x (suc n) n

@@ -14,8 +14,8 @@ use Rattle.sch_shuffle.specs.Meaning.{Reading, given, each_given}
 use Rattle.sch_shuffle.specs.Assignment.{operand_at, place_at, Transfer, moved, after, Assigns, Carries, AreDistinct, AreSpare}
 use Rattle.sch_shuffle.specs.Plans.{Act, direct, aside, across, onward, transfer, transfers}
 use Rattle.sch_shuffle.specs.ActValues.{Depends, EachBrings, acted, after_acts, brings, goes_to}
-use Rattle.sch_shuffle.specs.Greedy.{uses_target, needed, next_of, without, chosen, choices, all_choices, evaluations, onwards, acts, made}
-use Rattle.sch_shuffle.proofs.WaitingArguments.{Rising, AllBelow, below_in, in_rest, without_other, without_gone, rising_without, below_without, length_without, next_of_in, in_numbers, rising_numbers, below_numbers, length_choices, members, Once, not_in, choice_members, choice_once, clear, all_below}
+use Rattle.sch_shuffle.specs.Greedy.{uses_target, needed, next_of, remove_first, chosen, choices, all_choices, evaluations, onwards, acts, made}
+use Rattle.sch_shuffle.proofs.WaitingArguments.{Rising, AllBelow, below_in, in_rest, remove_first_other, remove_first_gone, rising_remove_first, below_remove_first, length_remove_first, next_of_in, in_numbers, rising_numbers, below_numbers, length_choices, members, Once, not_in, choice_members, choice_once, clear, all_below}
 
 -- ## What operands give
 
@@ -111,8 +111,8 @@ module _ {V : Type 0} (value : ℕ → (Place → V) → V) (args : List Tree) (
   Ready ws t = (j : ℕ) → has j ws ≡ true → (p : Place) → uses (operand_at args j) p ≡ true → t p ≡ s p
 
   good_step : (ws : List ℕ) (k : ℕ) (rest : List Choice) (c u : ℕ) (t : Place → V) → k < n → AllBelow n ws → has k ws ≡ true
-      → ((j : ℕ) → has j (without k ws) ≡ true → j ≢ k) → ((j : ℕ) → has j (members rest) ≡ true → (has j ws ≡ true) × (j ≢ k)) → length rest ≡ c → u + suc c ≤ n → Ready ws t
-      → ((u' : ℕ) (t' : Place → V) → u' + c ≤ n → Ready (without k ws) t' → Good rest u' (run (evaluations free u' rest) t') × Taken (evaluations free u' rest) t')
+      → ((j : ℕ) → has j (remove_first k ws) ≡ true → j ≢ k) → ((j : ℕ) → has j (members rest) ≡ true → (has j ws ≡ true) × (j ≢ k)) → length rest ≡ c → u + suc c ≤ n → Ready ws t
+      → ((u' : ℕ) (t' : Place → V) → u' + c ≤ n → Ready (remove_first k ws) t' → Good rest u' (run (evaluations free u' rest) t') × Taken (evaluations free u' rest) t')
       → (r : ℕ) → needed W ws k ≡ r
       → Good (chosen r k ∷ rest) u (run (evaluations free u (chosen r k ∷ rest)) t) × Taken (evaluations free u (chosen r k ∷ rest)) t
   good_step ws k rest c u t kn below inside gone later len room ready ih zero none =
@@ -125,7 +125,7 @@ module _ {V : Type 0} (value : ℕ → (Place → V) → V) (args : List Tree) (
       ∙ takes in
       let more = ih u t1 (omega (arith, room)) (λ j e p uses_p.
       let ne : j ≢ k = gone j e in
-      let old : has j ws ≡ true = sym (without_other j k ws ne) ∙ e in
+      let old : has j ws ≡ true = sym (remove_first_other j k ws ne) ∙ e in
       elim (cases_place p (place_at targets k)) [
         | inl same ↦ absurd (let no_ = clear W ws k none j old ne in let yes_ : W j k ≡ true = rw (← same) uses_p in cc)
         | inr other ↦ acted_else targets value (direct k) t p other ∙ ready j old p uses_p
@@ -141,7 +141,7 @@ module _ {V : Type 0} (value : ℕ → (Place → V) → V) (args : List Tree) (
       ∙ takes in
       let more = ih (suc u) t1 (omega (arith, room)) (λ j e p uses_p.
       let ne : j ≢ k = gone j e in
-      let old : has j ws ≡ true = sym (without_other j k ws ne) ∙ e in
+      let old : has j ws ≡ true = sym (remove_first_other j k ws ne) ∙ e in
       elim (cases_place p (place_at free u)) [
         | inl same ↦ absurd (let no_ = unused u j (omega (arith, room)) (below_in n ws below j old) in let yes_ = rw same at uses_p in cc)
         | inr other ↦ acted_else targets value (aside k (place_at free u)) t p other ∙ ready j old p uses_p
@@ -154,14 +154,14 @@ module _ {V : Type 0} (value : ℕ → (Place → V) → V) (args : List Tree) (
   good_all (suc c) ws u t len rising below room ready =
       let k : ℕ = next_of (needed W ws) ws in
       let inside : has k ws ≡ true = next_of_in (needed W ws) ws (omega (arith, len)) in
-      let less = length_without k ws inside in
-      let l : length (without k ws) ≡ c = omega (arith, less, len) in
-      let gone : (j : ℕ) → has j (without k ws) ≡ true → j ≢ k =
-      λ j e same. absurd (let g = without_gone k ws rising in let here : has k (without k ws) ≡ true = ap (λ x. has x (without k ws)) (sym same) ∙ e in cc) in
-      let later : (j : ℕ) → has j (members (choices W c (without k ws))) ≡ true → (has j ws ≡ true) × (j ≢ k) =
-      λ j e. let there : has j (without k ws) ≡ true = sym (choice_members W c (without k ws) l j) ∙ e in (sym (without_other j k ws (gone j there)) ∙ there, gone j there) in
-      good_step ws k (choices W c (without k ws)) c u t (below_in n ws below k inside) below inside gone later (length_choices W c (without k ws)) room ready
-      (λ u' t' room' ready'. good_all c (without k ws) u' t' l (rising_without k ws rising) (below_without n k ws below) room' ready')
+      let less = length_remove_first k ws inside in
+      let l : length (remove_first k ws) ≡ c = omega (arith, less, len) in
+      let gone : (j : ℕ) → has j (remove_first k ws) ≡ true → j ≢ k =
+      λ j e same. absurd (let g = remove_first_gone k ws rising in let here : has k (remove_first k ws) ≡ true = ap (λ x. has x (remove_first k ws)) (sym same) ∙ e in cc) in
+      let later : (j : ℕ) → has j (members (choices W c (remove_first k ws))) ≡ true → (has j ws ≡ true) × (j ≢ k) =
+      λ j e. let there : has j (remove_first k ws) ≡ true = sym (choice_members W c (remove_first k ws) l j) ∙ e in (sym (remove_first_other j k ws (gone j there)) ∙ there, gone j there) in
+      good_step ws k (choices W c (remove_first k ws)) c u t (below_in n ws below k inside) below inside gone later (length_choices W c (remove_first k ws)) room ready
+      (λ u' t' room' ready'. good_all c (remove_first k ws) u' t' l (rising_remove_first k ws rising) (below_remove_first n k ws below) room' ready')
       (needed W ws k) refl
 
   -- ## What was set aside goes on

@@ -13,8 +13,8 @@ use Rattle.sch_shuffle.specs.Tree.{Tree}
 use Rattle.sch_shuffle.specs.Assignment.{place_at}
 use Rattle.sch_shuffle.specs.Plans.{Act, IsAct}
 use Rattle.sch_shuffle.specs.ActValues.{FewSetAside}
-use Rattle.sch_shuffle.specs.Greedy.{uses_target, needed, next_of, without, chosen, choices, all_choices, evaluations, onwards, acts}
-use Rattle.sch_shuffle.proofs.WaitingArguments.{AllBelow, Once, all_below, in_first, in_rest, members, below_in, below_numbers, below_without, choice_members, choice_once, length_without, next_of_in, number_chosen, rising_numbers}
+use Rattle.sch_shuffle.specs.Greedy.{uses_target, needed, next_of, remove_first, chosen, choices, all_choices, evaluations, onwards, acts}
+use Rattle.sch_shuffle.proofs.WaitingArguments.{AllBelow, Once, all_below, in_first, in_rest, members, below_in, below_numbers, below_remove_first, choice_members, choice_once, length_remove_first, next_of_in, number_chosen, rising_numbers}
 use Rattle.sch_shuffle.proofs.ExactCycles.{few}
 use Rattle.sch_shuffle.proofs.AtLeastRings.{asides, temps_asides}
 
@@ -84,8 +84,8 @@ module _ (W : ℕ → ℕ → Bool) where
   asides_less zero (w ∷ x ∷ ws) e = absurd (omega (arith, e))
   asides_less (suc c) ws e =
       let k : ℕ = next_of (needed W ws) ws in
-      let less = length_without k ws (next_of_in (needed W ws) ws (omega (arith, e))) in
-      asides_more (needed W ws k) k c (choices W (suc c) (without k ws)) (asides_less c (without k ws) (omega (arith, less, e)))
+      let less = length_remove_first k ws (next_of_in (needed W ws) ws (omega (arith, e))) in
+      asides_more (needed W ws k) k c (choices W (suc c) (remove_first k ws)) (asides_less c (remove_first k ws) (omega (arith, less, e)))
 
   module _ (n m : ℕ) (below_m : (i j : ℕ) → i < n → j < n → W i j ≡ true → j < m) where
     aside_used : (ws : List ℕ) (k : ℕ) (cs : List Choice) → AllBelow n ws → has k ws ≡ true → ((j : ℕ) → has j (asides_in cs) ≡ true → j < m)
@@ -106,8 +106,8 @@ module _ (W : ℕ → ℕ → Bool) where
     asides_used (suc c) ws e below =
         let k : ℕ = next_of (needed W ws) ws in
         let inside : has k ws ≡ true = next_of_in (needed W ws) ws (omega (arith, e)) in
-        let less = length_without k ws inside in
-        aside_used ws k (choices W c (without k ws)) below inside (asides_used c (without k ws) (omega (arith, less, e)) (below_without n k ws below)) (needed W ws k) refl
+        let less = length_remove_first k ws inside in
+        aside_used ws k (choices W c (remove_first k ws)) below inside (asides_used c (remove_first k ws) (omega (arith, less, e)) (below_remove_first n k ws below)) (needed W ws k) refl
 
   -- ## What the arguments have in all
 
@@ -115,10 +115,10 @@ module _ (W : ℕ → ℕ → Bool) where
   sum_of f [] = 0
   sum_of f (j ∷ js) = f j + sum_of f js
 
-  sum_without : (f : ℕ → ℕ) (k : ℕ) (ws : List ℕ) → has k ws ≡ true → f k + sum_of f (without k ws) ≡ sum_of f ws
-  sum_without f k [] h = absurd (cc)
-  sum_without f k (w ∷ ws) h = by (cases_eq w k) (sum_without f k ws) where
-    by : (w ≡ k) ⊎ (w ≢ k) → (has k ws ≡ true → f k + sum_of f (without k ws) ≡ sum_of f ws) → f k + sum_of f (without k (w ∷ ws)) ≡ sum_of f (w ∷ ws)
+  sum_remove_first : (f : ℕ → ℕ) (k : ℕ) (ws : List ℕ) → has k ws ≡ true → f k + sum_of f (remove_first k ws) ≡ sum_of f ws
+  sum_remove_first f k [] h = absurd (cc)
+  sum_remove_first f k (w ∷ ws) h = by (cases_eq w k) (sum_remove_first f k ws) where
+    by : (w ≡ k) ⊎ (w ≢ k) → (has k ws ≡ true → f k + sum_of f (remove_first k ws) ≡ sum_of f ws) → f k + sum_of f (remove_first k (w ∷ ws)) ≡ sum_of f (w ∷ ws)
     by (inl same) more = let yes_ = eq-eqb w k same in rw yes_ (ap (λ z. f z + sum_of f ws) (sym same))
     by (inr other) more = let no_ = ne_eqb w k other in let rest = more (in_rest w k ws other h) in rw no_ (omega (arith, rest))
 
@@ -129,9 +129,9 @@ module _ (W : ℕ → ℕ → Bool) where
   sum_chosen f (suc c) ws e =
       let k : ℕ = next_of (needed W ws) ws in
       let inside : has k ws ≡ true = next_of_in (needed W ws) ws (omega (arith, e)) in
-      let less = length_without k ws inside in
-      let rest = sum_chosen f c (without k ws) (omega (arith, less, e)) in
-      let all = sum_without f k ws inside in
+      let less = length_remove_first k ws inside in
+      let rest = sum_chosen f c (remove_first k ws) (omega (arith, less, e)) in
+      let all = sum_remove_first f k ws inside in
       rw number_chosen (omega (arith, rest, all))
 
 -- ## The moves

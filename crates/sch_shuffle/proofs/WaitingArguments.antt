@@ -8,7 +8,7 @@ use Rattle.sch_word.specs.trees.Bindings.{numbers}
 use Rattle.sch_word.specs.trees.NumberSets.{has}
 use Rattle.sch_shuffle.specs.declared.choice.Choice.{Choice}
 use Rattle.sch_shuffle.specs.Tree.{Tree}
-use Rattle.sch_shuffle.specs.Greedy.{needed, goes_before, next, next_of, without, chosen, choices, number_of, AreBelow, uses_target, all_choices}
+use Rattle.sch_shuffle.specs.Greedy.{needed, goes_before, next, next_of, remove_first, chosen, choices, number_of, AreBelow, uses_target, all_choices}
 use Rattle.sch_word.specs.declared.place.Place.{Place}
 use Rattle.sch_word.proofs.facts.Booleans.{false_true, not_right}
 use Rattle.sch_word.proofs.facts.NumberSets.{in_here, in_more, numbers_length}
@@ -68,32 +68,32 @@ below_in n (i ∷ js) h j e =
       | inr other ↦ below_in n js h.1 j (in_rest i j js other e)
     ]
 
-above_without : (b k : ℕ) (js : List ℕ) → Above b js → Above b (without k js)
-above_without b k [] h = tt
-above_without b k (j ∷ js) h =
+above_remove_first : (b k : ℕ) (js : List ℕ) → Above b js → Above b (remove_first k js)
+above_remove_first b k [] h = tt
+above_remove_first b k (j ∷ js) h =
     elim (cases_eq j k) [
       | inl same ↦ let yes_ = eq-eqb j k same in rw yes_ (above_lower b j js h.0 h.1)
-      | inr other ↦ let no_ = ne_eqb j k other in rw no_ (h.0, above_without j k js h.1)
+      | inr other ↦ let no_ = ne_eqb j k other in rw no_ (h.0, above_remove_first j k js h.1)
     ]
 
 pub rising_rest : (j : ℕ) (js : List ℕ) → Above j js → Rising js
 rising_rest j [] h = tt
 rising_rest j (i ∷ js) h = h.1
 
-pub rising_without : (k : ℕ) (js : List ℕ) → Rising js → Rising (without k js)
-rising_without k [] h = tt
-rising_without k (j ∷ js) h =
+pub rising_remove_first : (k : ℕ) (js : List ℕ) → Rising js → Rising (remove_first k js)
+rising_remove_first k [] h = tt
+rising_remove_first k (j ∷ js) h =
     elim (cases_eq j k) [
       | inl same ↦ let yes_ = eq-eqb j k same in rw yes_ (rising_rest j js h)
-      | inr other ↦ let no_ = ne_eqb j k other in rw no_ (above_without j k js h)
+      | inr other ↦ let no_ = ne_eqb j k other in rw no_ (above_remove_first j k js h)
     ]
 
-pub below_without : (n k : ℕ) (js : List ℕ) → AllBelow n js → AllBelow n (without k js)
-below_without n k [] h = tt
-below_without n k (j ∷ js) h =
+pub below_remove_first : (n k : ℕ) (js : List ℕ) → AllBelow n js → AllBelow n (remove_first k js)
+below_remove_first n k [] h = tt
+below_remove_first n k (j ∷ js) h =
     elim (cases_eq j k) [
       | inl same ↦ let yes_ = eq-eqb j k same in rw yes_ h.1
-      | inr other ↦ let no_ = ne_eqb j k other in rw no_ (h.0, below_without n k js h.1)
+      | inr other ↦ let no_ = ne_eqb j k other in rw no_ (h.0, below_remove_first n k js h.1)
     ]
 
 above_at : (b : ℕ) (ws : List ℕ) (at : ℕ) → Above b ws → at < length ws → b < get_or ws at 0
@@ -106,38 +106,38 @@ in_at [] at lt = absurd (omega (arith, lt))
 in_at (w ∷ ws) zero lt = in_here w ws
 in_at (w ∷ ws) (suc at) lt = in_more (get_or ws at 0) w ws (in_at ws at (omega (arith, lt)))
 
-pub remove_without : (ws : List ℕ) (at : ℕ) → Rising ws → at < length ws → remove ws at ≡ without (get_or ws at 0) ws
-remove_without [] at h lt = absurd (omega (arith, lt))
-remove_without (w ∷ ws) zero h lt = let yes_ = eq-eqb w w refl in rw yes_ refl
-remove_without (w ∷ ws) (suc at) h lt =
+pub remove_is_first : (ws : List ℕ) (at : ℕ) → Rising ws → at < length ws → remove ws at ≡ remove_first (get_or ws at 0) ws
+remove_is_first [] at h lt = absurd (omega (arith, lt))
+remove_is_first (w ∷ ws) zero h lt = let yes_ = eq-eqb w w refl in rw yes_ refl
+remove_is_first (w ∷ ws) (suc at) h lt =
     let lower = above_at w ws at h (omega (arith, lt)) in
     let no_ = ne_eqb w (get_or ws at 0) (λ e. omega (arith, lower, e)) in
-    rw no_ (ap (λ xs. w ∷ xs) (remove_without ws at (rising_rest w ws h) (omega (arith, lt))))
+    rw no_ (ap (λ xs. w ∷ xs) (remove_is_first ws at (rising_rest w ws h) (omega (arith, lt))))
 
-pub length_without : (k : ℕ) (ws : List ℕ) → has k ws ≡ true → length (without k ws) + 1 ≡ length ws
-length_without k [] e = absurd (cc)
-length_without k (w ∷ ws) e =
+pub length_remove_first : (k : ℕ) (ws : List ℕ) → has k ws ≡ true → length (remove_first k ws) + 1 ≡ length ws
+length_remove_first k [] e = absurd (cc)
+length_remove_first k (w ∷ ws) e =
     elim (cases_eq w k) [
       | inl same ↦ let yes_ = eq-eqb w k same in rw yes_ (omega arith)
       | inr other ↦
           let no_ = ne_eqb w k other in
-          let h = length_without k ws (in_rest w k ws other e) in rw no_ (omega (arith, h))
+          let h = length_remove_first k ws (in_rest w k ws other e) in rw no_ (omega (arith, h))
     ]
 
-pub without_other : (j k : ℕ) (ws : List ℕ) → j ≢ k → has j (without k ws) ≡ has j ws
-without_other j k [] h = refl
-without_other j k (w ∷ ws) h =
+pub remove_first_other : (j k : ℕ) (ws : List ℕ) → j ≢ k → has j (remove_first k ws) ≡ has j ws
+remove_first_other j k [] h = refl
+remove_first_other j k (w ∷ ws) h =
     elim (cases_eq w k) [
       | inl same ↦ let yes_ = eq-eqb w k same in rw yes_ (sym (has_later w j ws (λ e. h (sym e ∙ same))))
-      | inr other ↦ let no_ = ne_eqb w k other in rw no_ (ap (λ b. nat_eq j w || b) (without_other j k ws h))
+      | inr other ↦ let no_ = ne_eqb w k other in rw no_ (ap (λ b. nat_eq j w || b) (remove_first_other j k ws h))
     ]
 
-pub without_gone : (k : ℕ) (ws : List ℕ) → Rising ws → has k (without k ws) ≡ false
-without_gone k [] h = refl
-without_gone k (w ∷ ws) h =
+pub remove_first_gone : (k : ℕ) (ws : List ℕ) → Rising ws → has k (remove_first k ws) ≡ false
+remove_first_gone k [] h = refl
+remove_first_gone k (w ∷ ws) h =
     elim (cases_eq w k) [
       | inl same ↦ let yes_ = eq-eqb w k same in rw yes_ (rw (← same) (not_above w ws h))
-      | inr other ↦ let no_ = ne_eqb w k other in rw no_ (has_later w k (without k ws) other ∙ without_gone k ws (rising_rest w ws h))
+      | inr other ↦ let no_ = ne_eqb w k other in rw no_ (has_later w k (remove_first k ws) other ∙ remove_first_gone k ws (rising_rest w ws h))
     ]
 
 -- ## Numbers from one on
@@ -170,16 +170,16 @@ in_numbers (suc n) k j h l =
 
 -- ## Needs
 
-pub needed_without : (W : ℕ → ℕ → Bool) (js : List ℕ) (k t : ℕ) → has k js ≡ true
-    → needed W js t ≡ cond (not (nat_eq k t) && W k t) 1 0 + needed W (without k js) t
-needed_without W [] k t e = absurd (cc)
-needed_without W (j ∷ js) k t e =
+pub needed_remove_first : (W : ℕ → ℕ → Bool) (js : List ℕ) (k t : ℕ) → has k js ≡ true
+    → needed W js t ≡ cond (not (nat_eq k t) && W k t) 1 0 + needed W (remove_first k js) t
+needed_remove_first W [] k t e = absurd (cc)
+needed_remove_first W (j ∷ js) k t e =
     elim (cases_eq j k) [
       | inl same ↦ let yes_ = eq-eqb j k same in rw (yes_, same) (counted (not (nat_eq k t) && W k t) (needed W js t))
       | inr other ↦
           let no_ = ne_eqb j k other in
-          let h = needed_without W js k t (in_rest j k js other e) in
-          rw no_ (one_more (not (nat_eq j t) && W j t) (needed W js t) (cond (not (nat_eq k t) && W k t) 1 0) (needed W (without k js) t) h)
+          let h = needed_remove_first W js k t (in_rest j k js other e) in
+          rw no_ (one_more (not (nat_eq j t) && W j t) (needed W js t) (cond (not (nat_eq k t) && W k t) 1 0) (needed W (remove_first k js) t) h)
     ]
   where
     counted : (b : Bool) (n : ℕ) → cond b (suc n) n ≡ cond b 1 0 + n
@@ -243,13 +243,13 @@ next_of_same f g (w ∷ ws) each =
 -- one turn of the loop
 pub turn : (W : ℕ → ℕ → Bool) (n turns : ℕ) (ws : List ℕ) (users : ℕ → ℕ) (k : ℕ) (all whole : List Choice) → turns < n → 0 < length ws
     → ((j : ℕ) → has j ws ≡ true → users j ≡ needed W ws j) → k ≡ next_of users ws → all ++ choices W (n - turns) ws ≡ whole
-    → (all ++ chosen (users k) k ∷ []) ++ choices W (n - (turns + 1)) (without k ws) ≡ whole
+    → (all ++ chosen (users k) k ∷ []) ++ choices W (n - (turns + 1)) (remove_first k ws) ≡ whole
 turn W n turns ws users k all whole lt some each is before =
     let same : next_of (needed W ws) ws ≡ k = sym (next_of_same users (needed W ws) ws each) ∙ sym is in
     let inside : has k ws ≡ true = rw is (next_of_in users ws some) in
     let e : n - turns ≡ suc (n - (turns + 1)) = omega (arith, lt) in
-    let first : choices W (n - turns) ws ≡ chosen (users k) k ∷ choices W (n - (turns + 1)) (without k ws) = rw (e, same, each k inside) refl in
-    append_assoc all (chosen (users k) k ∷ []) (choices W (n - (turns + 1)) (without k ws)) ∙ ap (λ ys. all ++ ys) (sym first) ∙ before
+    let first : choices W (n - turns) ws ≡ chosen (users k) k ∷ choices W (n - (turns + 1)) (remove_first k ws) = rw (e, same, each k inside) refl in
+    append_assoc all (chosen (users k) k ∷ []) (choices W (n - (turns + 1)) (remove_first k ws)) ∙ ap (λ ys. all ++ ys) (sym first) ∙ before
 
 -- ## All choices
 
@@ -267,8 +267,8 @@ choices_below W (suc n) m ws e h zero lt =
     let b = below_in m ws h (next_of (needed W ws) ws) (next_of_in (needed W ws) ws (omega (arith, e))) in rw number_chosen b
 choices_below W (suc n) m ws e h (suc i) lt =
     let k : ℕ = next_of (needed W ws) ws in
-    let less = length_without k ws (next_of_in (needed W ws) ws (omega (arith, e))) in
-    choices_below W n m (without k ws) (omega (arith, less, e)) (below_without m k ws h) i (omega (arith, lt))
+    let less = length_remove_first k ws (next_of_in (needed W ws) ws (omega (arith, e))) in
+    choices_below W n m (remove_first k ws) (omega (arith, less, e)) (below_remove_first m k ws h) i (omega (arith, lt))
 
 pub all_choices_length : (args : List Tree) (targets : List Place) → length (all_choices args targets) ≡ length args
 all_choices_length args targets = length_choices (uses_target args targets) (length args) (numbers 0 (length args))
@@ -298,11 +298,11 @@ standing n ws at below lt = below_in n ws below (get_or ws at 0) (in_at ws at lt
 
 -- the counts after one argument less
 pub released : (W : ℕ → ℕ → Bool) (ws : List ℕ) (k j : ℕ) (old new : ℕ) → has k ws ≡ true → old ≡ needed W ws j
-    → new ≡ old - cond (not (nat_eq k j) && W k j) 1 0 → new ≡ needed W (without k ws) j
+    → new ≡ old - cond (not (nat_eq k j) && W k j) 1 0 → new ≡ needed W (remove_first k ws) j
 released W ws k j old new inside before is =
-    let h = needed_without W ws k j inside in
+    let h = needed_remove_first W ws k j inside in
     let c : ℕ = cond (not (nat_eq k j) && W k j) 1 0 in
-    less old new c (needed W (without k ws) j) (before ∙ h) is
+    less old new c (needed W (remove_first k ws) j) (before ∙ h) is
   where
     less : (old new c rest : ℕ) → old ≡ c + rest → new ≡ old - c → new ≡ rest
     less old new c rest e f = omega (arith, e, f)
@@ -327,12 +327,12 @@ pub kept : (args : List Tree) (targets : List Place) (n turns : ℕ) (ws ws' use
 kept args targets n turns ws ws' users users' all all' at k lt inv within is next removed pushed same each =
     let W = uses_target args targets in
     let rising : Rising ws = inv.1 in
-    let rest : ws' ≡ without k ws = removed ∙ remove_without ws at rising within ∙ ap (λ j. without j ws) (sym is) in
+    let rest : ws' ≡ remove_first k ws = removed ∙ remove_is_first ws at rising within ∙ ap (λ j. remove_first j ws) (sym is) in
     let inside : has k ws ≡ true = ap (λ j. has j ws) is ∙ in_at ws at within in
-    let shorter = length_without k ws inside in
-    let l : length ws' ≡ length (without k ws) = ap length rest in
-    let r : Rising ws' = rw rest (rising_without k ws rising) in
-    let b : AllBelow n ws' = rw rest (below_without n k ws inv.2) in
+    let shorter = length_remove_first k ws inside in
+    let l : length ws' ≡ length (remove_first k ws) = ap length rest in
+    let r : Rising ws' = rw rest (rising_remove_first k ws rising) in
+    let b : AllBelow n ws' = rw rest (below_remove_first n k ws inv.2) in
     let counts : (j : ℕ) → j < n → get_or users' j 0 ≡ needed W ws' j =
     λ j h. released W ws k j (get_or users j 0) (get_or users' j 0) inside (inv.4 j h) (each j (omega (arith, h, inv.3))) ∙ ap (λ xs. needed W xs j) (sym rest) in
     let t = turn W n turns ws (λ j. get_or users j 0) k all (all_choices args targets) lt (omega (arith, within)) (λ j e. inv.4 j (below_in n ws inv.2 j e)) (is ∙ next) inv.5 in
@@ -357,11 +357,11 @@ choice_members W zero (w ∷ ws) e j = absurd (omega (arith, e))
 choice_members W (suc n) ws e j =
     let k : ℕ = next_of (needed W ws) ws in
     let inside : has k ws ≡ true = next_of_in (needed W ws) ws (omega (arith, e)) in
-    let less = length_without k ws inside in
-    let rest = choice_members W n (without k ws) (omega (arith, less, e)) j in
+    let less = length_remove_first k ws inside in
+    let rest = choice_members W n (remove_first k ws) (omega (arith, less, e)) j in
     elim (cases_eq k j) [
-      | inl same ↦ let there : has j ws ≡ true = rw (← same) inside in rw number_chosen (in_first k j (members (choices W n (without k ws))) same ∙ sym there)
-      | inr other ↦ rw number_chosen (has_later k j (members (choices W n (without k ws))) other ∙ rest ∙ without_other j k ws (λ h. other (sym h)))
+      | inl same ↦ let there : has j ws ≡ true = rw (← same) inside in rw number_chosen (in_first k j (members (choices W n (remove_first k ws))) same ∙ sym there)
+      | inr other ↦ rw number_chosen (has_later k j (members (choices W n (remove_first k ws))) other ∙ rest ∙ remove_first_other j k ws (λ h. other (sym h)))
     ]
 
 pub choice_once : (W : ℕ → ℕ → Bool) (n : ℕ) (ws : List ℕ) → length ws ≡ n → Rising ws → Once (members (choices W n ws))
@@ -369,10 +369,10 @@ choice_once W zero ws e r = tt
 choice_once W (suc n) ws e r =
     let k : ℕ = next_of (needed W ws) ws in
     let inside : has k ws ≡ true = next_of_in (needed W ws) ws (omega (arith, e)) in
-    let less = length_without k ws inside in
-    let l : length (without k ws) ≡ n = omega (arith, less, e) in
-    let gone : has k (members (choices W n (without k ws))) ≡ false = choice_members W n (without k ws) l k ∙ without_gone k ws r in
-    (rw number_chosen gone, choice_once W n (without k ws) l (rising_without k ws r))
+    let less = length_remove_first k ws inside in
+    let l : length (remove_first k ws) ≡ n = omega (arith, less, e) in
+    let gone : has k (members (choices W n (remove_first k ws))) ≡ false = choice_members W n (remove_first k ws) l k ∙ remove_first_gone k ws r in
+    (rw number_chosen gone, choice_once W n (remove_first k ws) l (rising_remove_first k ws r))
 
 -- a target that no other needs is used by no other
 pub clear : (W : ℕ → ℕ → Bool) (ws : List ℕ) (k : ℕ) → needed W ws k ≡ 0 → (j : ℕ) → has j ws ≡ true → j ≢ k → W j k ≡ false

@@ -11,9 +11,9 @@ use Rattle.sch_shuffle.specs.Plans.{Act, direct, aside, onward, transfers}
 
 -- ## Numbers of arguments
 
-abbrev pub without : ℕ → List ℕ → List ℕ
-without k [] = []
-without k (j ∷ js) = cond (nat_eq j k) js (j ∷ without k js)
+abbrev pub remove_first : ℕ → List ℕ → List ℕ
+remove_first k [] = []
+remove_first k (j ∷ js) = cond (nat_eq j k) js (j ∷ remove_first k js)
 
 -- ## Which argument goes next
 
@@ -50,7 +50,7 @@ abbrev pub choices : (ℕ → ℕ → Bool) → ℕ → List ℕ → List Choice
 choices W zero waiting = []
 choices W (suc n) ws =
     let k = next_of (needed W ws) ws in
-    chosen (needed W ws k) k ∷ choices W n (without k ws)
+    chosen (needed W ws k) k ∷ choices W n (remove_first k ws)
 
 abbrev pub all_choices : List Tree → List Place → List Choice
 all_choices args targets = choices (uses_target args targets) (length args) (numbers 0 (length args))

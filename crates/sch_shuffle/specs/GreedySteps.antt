@@ -5,12 +5,12 @@ use Rattle.sch_word.specs.trees.NumberSets.{has}
 use Rattle.sch_word.specs.declared.place.Place.{Place}
 use Rattle.sch_shuffle.specs.Tree.{Tree, place}
 use Rattle.sch_shuffle.specs.Assignment.{place_at, Transfer, temps}
-use Rattle.sch_shuffle.specs.Greedy.{uses_target, needed, without}
+use Rattle.sch_shuffle.specs.Greedy.{uses_target, needed, remove_first}
 
 -- those of ws that no move has evaluated yet
 abbrev pub waiting : List ℕ → List Transfer → List ℕ
 waiting ws [] = ws
-waiting ws (t ∷ ts) = waiting (without t.argument ws) ts
+waiting ws (t ∷ ts) = waiting (remove_first t.argument ws) ts
 
 -- k waits and no other waiting argument uses its target, and it is the first such
 pub record IsFirstClear (W : ℕ → ℕ → Bool) (ws : List ℕ) (k : ℕ) : Type 0 where

@@ -15,13 +15,11 @@ mod choice;
 mod evaluations;
 mod moves;
 mod operand;
-mod place;
 mod rings;
 
 pub use evaluations::evaluation_order;
 pub use moves::{Move, Moves, make_moves};
 pub use operand::{Operand, uses};
-pub use place::is_same;
 pub use rings::cycles;
 use sch_word::{Mem, Place};
 use std::alloc::Global;

@@ -4,8 +4,7 @@ ghost use Rattle.std.specs.Prelude.{◌≡◌, IfOk};
 ghost use Rattle.sch_shuffle.specs.View.{tree, trees_of};
 ghost use Rattle.sch_shuffle.specs.Tree.{uses, uses_one};
 
-use crate::place::is_same;
-use sch_word::{List, Mem, Place, Primitive};
+use sch_word::{List, Mem, Place, Primitive, same_place};
 use std::alloc::Global;
 
 /// A value that takes no call. Whoever makes a `Read` sees to it that it does not stop: that the primitive answers for
@@ -28,7 +27,7 @@ pub fn uses(operand: &Operand, place: Place) -> bool
     ensures { result ≡ uses (tree operand.now) place }
 {
     match operand {
-        Operand::Place(p) => is_same(*p, place),
+        Operand::Place(p) => same_place(*p, place),
         Operand::Fixed(_) => false,
         Operand::Literal(_) => false,
         Operand::Read(_, operands) => one_uses(operands, place),

@@ -6,8 +6,7 @@ ghost use Rattle.sch_shuffle.specs.View.{tree, arguments};
 ghost use Rattle.sch_shuffle.specs.CycleSearch.{stands_in, successor, ring, is_ring, places_at, cycles};
 
 use crate::operand::Operand;
-use crate::place::is_same;
-use sch_word::{List, Mem, Place};
+use sch_word::{List, Mem, Place, same_place};
 use std::alloc::Global;
 
 /// Whether the operand is the place.
@@ -15,7 +14,7 @@ fn stands_in(operand: &Operand, place: Place) -> bool
     ensures { result ≡ stands_in (tree operand.now) place }
 {
     match operand {
-        Operand::Place(p) => is_same(*p, place),
+        Operand::Place(p) => same_place(*p, place),
         Operand::Fixed(_) => false,
         Operand::Literal(_) => false,
         Operand::Read(_, _) => false,

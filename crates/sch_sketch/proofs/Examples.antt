@@ -1,28 +1,21 @@
 -- Worked rows of kinds of sketches (R5RS 4.2.2 and 7.3): where a part of each stands, and what is made of the parts.
-use Rattle.std.proofs.Common.{◌≡◌, ℕ, pos, List, true, false, [], ◌∷◌, Some, None, codes, refl}
+use Rattle.std.proofs.Common.{◌≡◌, ℕ, pos, true, false, [], ◌∷◌, Some, None, refl}
 use Rattle.sch_word.specs.declared.constant.Const.TheVariants.{Fixnum}
 use Rattle.sch_word.specs.declared.primitive.Primitive.TheVariants.{Add}
 use Rattle.sch_sketch.specs.declared.sketch.Position.TheVariants.{Value, Test}
 use Rattle.sch_names.specs.Scope.{VariableNames}
 use Rattle.sch_sketch.specs.Draft.{Draft, Drafts, constant, branch, sequence, bind, letrec, lambda, call, operation, set_local, no_drafts, and_draft}
 use Rattle.sch_sketch.specs.Sketch.{choosing, sequencing, binding, recurring, abstracting, calling, operating, setting, scope_in, position_in, width, assemble}
-
-x : List ℕ
-x = codes "x"
-
-y : List ℕ
-y = codes "y"
+use Rattle.sch_sketch.proofs.WorkedData.{x, y}
 
 vs : VariableNames
 vs = Some x ∷ Some y ∷ []
 
 -- `(let ((x x) (y x)) x)` in the scope of another x: its inits stand outside, its body has y nearest
 init_row : scope_in (binding vs) true false (Some x ∷ []) ≡ Some x ∷ []
-unfolding x
 init_row = refl
 
 second_init_row : scope_in (binding vs) false false (Some x ∷ []) ≡ Some x ∷ []
-unfolding x
 second_init_row = refl
 
 let_body_row : scope_in (binding vs) false true (Some x ∷ []) ≡ Some y ∷ Some x ∷ Some x ∷ []
@@ -31,7 +24,6 @@ let_body_row = refl
 
 -- a `let` without bindings has a body alone
 empty_let_row : scope_in (binding []) true true (Some x ∷ []) ≡ Some x ∷ []
-unfolding x
 empty_let_row = refl
 
 -- the inits of a `letrec` stand inside, and so does the body of a procedure

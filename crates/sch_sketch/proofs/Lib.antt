@@ -8,4 +8,5 @@ pub mod SymbolLists
 pub mod DefinitionSteps
 pub mod GroupSteps
 pub mod GroupsOfInits
+pub mod WorkedData
 mod Examples

@@ -38,10 +38,6 @@ abbrev pub rest_symbol : Option Datum → VariableNames
 rest_symbol (Some (atom q (symbol x))) = Some x ∷ []
 rest_symbol _ = []
 
-abbrev pub takes_rest : Option Datum → Bool
-takes_rest None = false
-takes_rest (Some f) = true
-
 abbrev pub formals : Data → Option Datum → VariableNames
 formals fs f = symbols fs ++ rest_symbol f
 

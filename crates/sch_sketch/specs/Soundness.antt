@@ -1,6 +1,6 @@
 -- Sketches whose nodes have as many parts as they must, whose variables are bound, and whose procedures
 -- are such.
-use Rattle.std.specs.Prelude.{◌≡◌, ◌≤◌, ◌<◌, ◌+◌, ℕ, suc, Bool, true, false, ◌&&◌, length}
+use Rattle.std.specs.Prelude.{◌≡◌, ◌≤◌, ◌<◌, ℕ, suc, Bool, true, false, ◌&&◌, length}
 use Rattle.sch_word.specs.values.Literals.{constant_known}
 use Rattle.sch_word.specs.values.Primitives.{operands_of}
 use Rattle.sch_read.specs.Grammar.{Data}
@@ -80,7 +80,7 @@ abbrev pub IsSoundRest : Row → Data → Scope → Type 0
 IsSoundRest Cases xs s = 0 < length s
 IsSoundRest Tests xs s = 0 < length s
 IsSoundRest (Chain p) xs s = (operands_of p ≡ 2) × (how_many xs ≤ length s)
-IsSoundRest (Join p k j) xs s = (operands_of p ≡ 2) × (k + j < length s)
+IsSoundRest (Join p k far) xs s = (operands_of p ≡ 2) × (far < length s)
 IsSoundRest _ xs s = Unit {0}
 
 abbrev mutual

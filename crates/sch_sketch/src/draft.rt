@@ -14,9 +14,9 @@ pub enum Draft<'a> {
     /// The datum that is quoted: a string, a vector, or a list that is not empty.
     Literal(&'a Datum),
     /// The variable with this number of variables bound nearer.
-    Local(u32),
+    Local(usize),
     Global(&'a [u8]),
-    SetLocal(u32, Box<Draft<'a>>),
+    SetLocal(usize, Box<Draft<'a>>),
     SetGlobal(&'a [u8], Box<Draft<'a>>),
     Define(&'a [u8], Box<Draft<'a>>),
     If(Box<Draft<'a>>, Box<Draft<'a>>, Box<Draft<'a>>),

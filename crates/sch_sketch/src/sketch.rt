@@ -33,8 +33,8 @@ pub enum Row {
     /// Operands, each compared with the next: the nearest variables.
     Chain(Primitive),
     /// Operands that are joined from the left: how many come before the last, and how many variables are
-    /// bound nearer than the last.
-    Join(Primitive, u32, u32),
+    /// bound nearer than the first.
+    Join(Primitive, usize, usize),
 }
 
 /// An expression without parts.
@@ -45,7 +45,7 @@ pub enum Leaf<'a> {
     /// The datum that is quoted: a string, a vector, or a list that is not empty.
     Literal(&'a Datum),
     /// The variable with this number of variables bound nearer.
-    Local(u32),
+    Local(usize),
     Global(&'a [u8]),
 }
 
@@ -75,7 +75,7 @@ pub enum Kind<'a> {
     Call(List<Name<'a>>),
     Prim(Primitive),
     /// The variable with this number of variables bound nearer is set to the value of the last part.
-    SetLocal(u32),
+    SetLocal(usize),
     SetGlobal(&'a [u8]),
     Define(&'a [u8]),
 }

@@ -71,7 +71,7 @@ pub fn unspecified<'a>(at: u32) -> Sketch<'a>
     Sketch::Leaf(at, Leaf::Constant(Const::Unspecified))
 }
 
-pub fn local<'a>(at: u32, k: u32) -> Sketch<'a>
+pub fn local<'a>(at: u32, k: usize) -> Sketch<'a>
     ensures { sketch_of result ≡ words.leaf at (plain.local k) }
 {
     Sketch::Leaf(at, Leaf::Local(k))

@@ -6,7 +6,7 @@ use Rattle.sch_word.specs.declared.answer.Answer.{Answer}
 use Rattle.sch_insn.specs.declared.insn.Insn.{Insn}
 use Rattle.sch_insn.specs.declared.insn.Insn.TheVariants.{Syscall}
 use Rattle.sch_insn.specs.declared.state.StuckCause.{StuckCause}
-use Rattle.sch_insn.specs.declared.register.TheConstants.{RAX, RDX, RDI}
+use Rattle.sch_word.specs.declared.registers.TheConstants.{RAX, RDX, RDI}
 use Rattle.sch_insn.specs.Machine.{Core, State, with_place}
 use Rattle.sch_insn.specs.Step.{Progress, Runs, Exited, Stuck, kernel, write_row, piece_written, moved, perform, fetch, fetched, step, go_on, standing, mach}
 use Rattle.sch_step.specs.declared.ends.StepEnd.{StepEnd}

@@ -7,7 +7,7 @@ use Rattle.sch_word.specs.values.Memory as words
 use Rattle.sch_insn.specs.declared.insn.Insn.{Insn}
 use Rattle.sch_insn.specs.Decode.{decode}
 use Rattle.sch_word.specs.values.Options.{when_some}
-use Rattle.sch_word.proofs.facts.Booleans.{and_false}
+use Rattle.std.proofs.Math.Bool.{and-false}
 use Rattle.sch_insn.specs.Machine.{holds, bytes_from, put_bytes, with_bytes}
 use Rattle.sch_insn.specs.Step.{fetch}
 use Rattle.sch_insn.proofs.PutSize.{size_put}
@@ -43,7 +43,7 @@ is_fixed_by g e w = ap (λ b. b && not g.writable) e ∙ ap not w
 -- ---- what is written lies in other segments
 
 not_fixed : (g : words.Segment) → g.writable ≡ true → is_fixed g ≡ false
-not_fixed g w = ap (λ b. g.executable && not b) w ∙ and_false g.executable
+not_fixed g w = ap (λ b. g.executable && not b) w ∙ and-false g.executable
 
 bytes_stay : (gs : List words.Segment) (i : ℕ) (y : words.Segment) (a n : ℕ) → y.address ≡ (segment_at gs i).address → length y.bytes ≡ length (segment_at gs i).bytes
     → is_fixed y ≡ false → is_fixed (segment_at gs i) ≡ false → bytes_from is_fixed (set gs i y) a n ≡ bytes_from is_fixed gs a n

@@ -7,7 +7,7 @@ use Rattle.sch_word.specs.declared.answer.Answer.TheVariants.{Took, Failed}
 use Rattle.sch_word.proofs.facts.Booleans.{and_left}
 use Rattle.sch_io.specs.Answers.{AnswersNext, taken}
 use Rattle.sch_insn.specs.declared.state.StuckCause.TheVariants.{Kernel}
-use Rattle.sch_insn.specs.declared.register.TheConstants.{RAX, RCX, RDX, RSI, RDI, R11}
+use Rattle.sch_word.specs.declared.registers.TheConstants.{RAX, RCX, RDX, RSI, RDI, R11}
 use Rattle.sch_insn.specs.Machine.{Core, with_register, unknown_flags, bytes_from}
 use Rattle.sch_insn.specs.Step.{Progress, Runs, Exited, Stuck, kernel, write_row, piece_written, answered}
 use Rattle.sch_step.specs.Kernel.{rax_of, written_core}

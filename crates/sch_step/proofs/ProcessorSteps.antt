@@ -8,7 +8,7 @@ use Rattle.sch_io.specs.Answers.{AnswersNext, IsWithin, IsRefusal, taken}
 use Rattle.sch_insn.specs.declared.insn.Insn.{Insn}
 use Rattle.sch_insn.specs.declared.insn.Insn.TheVariants.{Syscall}
 use Rattle.sch_insn.specs.declared.state.StuckCause.TheVariants.{Fetch, Kernel}
-use Rattle.sch_insn.specs.declared.register.TheConstants.{RAX, RDX, RSI, RDI}
+use Rattle.sch_word.specs.declared.registers.TheConstants.{RAX, RDX, RSI, RDI}
 use Rattle.sch_insn.specs.Machine.{Core, bytes_from, with_place}
 use Rattle.sch_insn.specs.Step.{Runs, Exited, Stuck, kernel, moved, perform, fetch, fetched}
 use Rattle.sch_step.specs.declared.ends.StepEnd.{StepEnd}

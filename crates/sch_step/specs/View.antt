@@ -4,7 +4,7 @@ use Rattle.sch_insn.specs.declared.state.Flags.{Flags}
 use Rattle.sch_insn.specs.declared.state.StuckCause.{StuckCause}
 use Rattle.sch_insn.specs.declared.insn.Insn.{Insn}
 use Rattle.sch_insn.specs.declared.state.StuckCause.TheVariants.{Kernel}
-use Rattle.sch_insn.specs.declared.register.TheConstants.{RAX}
+use Rattle.sch_word.specs.declared.registers.TheConstants.{RAX}
 use Rattle.sch_insn.specs.Step.{Row, Acts, Calls, row}
 use Rattle.sch_insn.specs.Machine.{Core, registers_of, with_place, unknown_flags, sum_of, difference_of, bits_of, product_of}
 use Rattle.sch_step.specs.declared.flags.LastFlags.{LastFlags}

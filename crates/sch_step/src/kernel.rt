@@ -1,6 +1,7 @@
 //! Calls of the kernel, and a step of the machine.
 
 ghost use Rattle.std.specs.Prelude.{◌≡◌, ◌+◌, ◌==◌, ◌&&◌, true, ◌<◌, ◌≤◌, ◌^◌, ℕ, List, length, take, option_map, IfSome};
+ghost use Rattle.sch_insn.specs.declared.system_call.TheConstants.{STDOUT, SYS_WRITE};
 ghost use Rattle.sch_insn.specs.Spelling.{IsValid};
 ghost use Rattle.sch_insn.specs.Machine.{bytes_from, with_place};
 ghost use Rattle.sch_insn.specs.Step.{moved, kernel as kernel_of, perform, step as step_of, standing};
@@ -12,10 +13,11 @@ use crate::ends::{StepEnd, Stuck};
 use crate::fetched::KEPT;
 use crate::flags::LastFlags;
 use crate::processor::Processor;
-use sch_insn::register::{R11, RAX, RCX, RDI, RDX, RSI};
+use sch_insn::system_call::{STDOUT, SYS_EXIT, SYS_WRITE};
 use sch_insn::{Insn, StuckCause};
 use sch_io::Outlet;
 use sch_word::Answer;
+use sch_word::registers::{R11, RAX, RCX, RDI, RDX, RSI};
 
 impl Processor {
     ghost use Rattle.sch_step.specs.View.{core_of, act as act_of};
@@ -53,14 +55,14 @@ impl Processor {
 
     /// The call is a write to standard output.
     fn asks_to_write(&self) -> bool
-        ensures { result ≡ (((core_of self.now).registers RAX == 1) && ((core_of self.now).registers RDI == 1)) }
+        ensures { result ≡ (((core_of self.now).registers RAX == SYS_WRITE) && ((core_of self.now).registers RDI == STDOUT)) }
     {
-        self.reg(RAX) == 1 && self.reg(RDI) == 1
+        self.reg(RAX) == SYS_WRITE as u64 && self.reg(RDI) == STDOUT as u64
     }
 
     /// A write of at least one byte to standard output.
     fn write<O: Outlet>(&mut self, out: &mut O, next: u64) -> StepEnd
-        requires call { (((core_of self.old).registers RAX == 1) && ((core_of self.old).registers RDI == 1)) ≡ true }
+        requires call { (((core_of self.old).registers RAX == SYS_WRITE) && ((core_of self.old).registers RDI == STDOUT)) ≡ true }
         requires some { 0 < (core_of self.old).registers RDX }
         ensures at { IsAt result (core_of self.new).place }
         ensures did { Does (KernelTo next result (core_of self.old) (core_of self.new)) (O.bytes out.old) (O.bytes out.new) (O.left out.old) (O.left out.new) (O.faults out.old) (O.faults out.new) }
@@ -78,7 +80,7 @@ impl Processor {
         ensures at { IsAt result (core_of self.new).place }
         ensures did { Does (KernelTo next result (core_of self.old) (core_of self.new)) (O.bytes out.old) (O.bytes out.new) (O.left out.old) (O.left out.new) (O.faults out.old) (O.faults out.new) }
     {
-        if self.reg(RAX) == 60 {
+        if self.reg(RAX) == SYS_EXIT as u64 {
             return StepEnd::Exited((self.reg(RDI) % 256) as u8);
         }
         if !self.asks_to_write() {
@@ -154,7 +156,7 @@ impl Processor {
         ensures { (next : ℕ) (bytes : List ℕ) (answers : List Answer) → standing (state_of (core_of self.now) bytes answers) (kernel_of (state_of (core_of self.now) bytes answers) next)
             ≡ looked result (core_of self.now) bytes answers }
     {
-        if self.reg(RAX) == 60 {
+        if self.reg(RAX) == SYS_EXIT as u64 {
             return None;
         }
         if !self.asks_to_write() {

@@ -10,8 +10,8 @@ ghost use Rattle.sch_insn.specs.Step.{change, gather, compare, divide, sign_word
 use crate::division::divided;
 use crate::flags::{LastFlags, is_negative};
 use crate::processor::{Processor, word_of};
-use sch_insn::register::{RAX, RDX};
 use sch_insn::{Arg, Insn, StuckCause};
+use sch_word::registers::{RAX, RDX};
 
 /// One row for each form: the call that does it.
 macro_rules! rows {

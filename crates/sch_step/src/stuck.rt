@@ -8,8 +8,8 @@ ghost use Rattle.sch_insn.specs.Step.{change};
 
 use crate::division::divided;
 use crate::processor::Processor;
-use sch_insn::register::{RAX, RDX};
 use sch_insn::{Arg, Insn, StuckCause};
+use sch_word::registers::{RAX, RDX};
 
 impl Processor {
     ghost use Rattle.sch_step.specs.View.{core_of, act as act_of};

@@ -1,6 +1,8 @@
 //! The library's procedures, run over memory (R5RS 6).
 
-use crate::program::{RUN, check, check_printed, check_rows, check_stops};
+use crate::program::{
+    OUT_OF_RANGE, RUN, WRONG_COUNT, WRONG_TYPE, check, check_printed, check_rows, check_stops,
+};
 use std::test::Fail;
 
 const TREE: &[u8] =
@@ -103,12 +105,12 @@ fn library_procedures_print(rt: HostRuntime) -> Result<(), Fail> {
 }
 
 const STOPS: &[(&[u8], u8, &[u8])] = &[
-    (b"(expt 2 -1)", 66, b"stop 66: out of range\n"),
-    (b"(substring \"abc\" 2 1)", 66, b"stop 66: out of range\n"),
-    (b"(length 5)", 65, b"stop 65: wrong type\n"),
-    (b"(list-ref '(1) 1)", 65, b"stop 65: wrong type\n"),
-    (b"(exact? 'a)", 65, b"stop 65: wrong type\n"),
-    (b"(map car)", 68, b"stop 68: wrong argument count\n"),
+    (b"(expt 2 -1)", 66, OUT_OF_RANGE),
+    (b"(substring \"abc\" 2 1)", 66, OUT_OF_RANGE),
+    (b"(length 5)", 65, WRONG_TYPE),
+    (b"(list-ref '(1) 1)", 65, WRONG_TYPE),
+    (b"(exact? 'a)", 65, WRONG_TYPE),
+    (b"(map car)", 68, WRONG_COUNT),
 ];
 
 #[test]

@@ -1,6 +1,9 @@
 //! Pairs, vectors, strings, symbols and literals, run over memory (R5RS 6.3).
 
-use crate::program::{check, check_printed, check_rows, check_stops, perform, repeated};
+use crate::program::{
+    HEAP_LIMIT, OUT_OF_RANGE, WRONG_TYPE, check, check_printed, check_rows, check_stops, perform,
+    repeated,
+};
 use std::str;
 use std::test::Fail;
 
@@ -46,27 +49,23 @@ fn objects_print(rt: HostRuntime) -> Result<(), Fail> {
     check_rows(rt.alloc(), OBJECTS)
 }
 
-const WRONG: &[u8] = b"stop 65: wrong type\n";
-
-const RANGE: &[u8] = b"stop 66: out of range\n";
-
 const STOPS: &[(&[u8], u8, &[u8])] = &[
-    (b"(car 1)", 65, WRONG),
-    (b"(cdr '())", 65, WRONG),
-    (b"(set-car! \"a\" 1)", 65, WRONG),
-    (b"(vector-ref (make-vector 2 0) 2)", 66, RANGE),
-    (b"(vector-ref (make-vector 2 0) -1)", 66, RANGE),
-    (b"(vector-ref '(1) 0)", 65, WRONG),
-    (b"(vector-set! '#(1) #f 0)", 65, WRONG),
-    (b"(vector-set! '#(1) 1 0)", 66, RANGE),
-    (b"(make-vector -1 0)", 66, RANGE),
-    (b"(make-vector #t 0)", 65, WRONG),
-    (b"(make-string 2 0)", 65, WRONG),
-    (b"(string-set! \"ab\" 2 #\\c)", 66, RANGE),
-    (b"(string-set! \"ab\" 2 3)", 65, WRONG),
-    (b"(string-ref \"ab\" 'a)", 65, WRONG),
-    (b"(string-length 'ab)", 65, WRONG),
-    (b"(symbol->string \"ab\")", 65, WRONG),
+    (b"(car 1)", 65, WRONG_TYPE),
+    (b"(cdr '())", 65, WRONG_TYPE),
+    (b"(set-car! \"a\" 1)", 65, WRONG_TYPE),
+    (b"(vector-ref (make-vector 2 0) 2)", 66, OUT_OF_RANGE),
+    (b"(vector-ref (make-vector 2 0) -1)", 66, OUT_OF_RANGE),
+    (b"(vector-ref '(1) 0)", 65, WRONG_TYPE),
+    (b"(vector-set! '#(1) #f 0)", 65, WRONG_TYPE),
+    (b"(vector-set! '#(1) 1 0)", 66, OUT_OF_RANGE),
+    (b"(make-vector -1 0)", 66, OUT_OF_RANGE),
+    (b"(make-vector #t 0)", 65, WRONG_TYPE),
+    (b"(make-string 2 0)", 65, WRONG_TYPE),
+    (b"(string-set! \"ab\" 2 #\\c)", 66, OUT_OF_RANGE),
+    (b"(string-set! \"ab\" 2 3)", 65, WRONG_TYPE),
+    (b"(string-ref \"ab\" 'a)", 65, WRONG_TYPE),
+    (b"(string-length 'ab)", 65, WRONG_TYPE),
+    (b"(symbol->string \"ab\")", 65, WRONG_TYPE),
 ];
 
 #[test]
@@ -117,20 +116,18 @@ fn operands_are_evaluated_whole(rt: HostRuntime) -> Result<(), Fail> {
 /// A text, a form that stands behind it so many times, the status, and what is said.
 const HEAPS: &[(&[u8], &[u8], u64, u8, &[u8])] = &[
     (b"", b"(cons 1 2)", 256, 0, b""),
-    (b"", b"(cons 1 2)", 257, 71, FULL),
+    (b"", b"(cons 1 2)", 257, 71, HEAP_LIMIT),
     (b"(define (f . l) 1)", b"(f 1 2 3)", 85, 0, b""),
-    (b"(define (f . l) 1)", b"(f 1 2 3)", 86, 71, FULL),
+    (b"(define (f . l) 1)", b"(f 1 2 3)", 86, 71, HEAP_LIMIT),
     (b"", b"(make-vector 31 0)(make-string 248 #\\a)", 8, 0, b""),
     (
         b"",
         b"(make-vector 31 0)(make-string 249 #\\a)",
         8,
         71,
-        FULL,
+        HEAP_LIMIT,
     ),
 ];
-
-const FULL: &[u8] = b"stop 71: heap limit\n";
 
 // 4,096 bytes are 256 pairs, and a list of operands is charged as a whole.
 #[test]

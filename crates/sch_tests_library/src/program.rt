@@ -7,6 +7,21 @@ use std::alloc::Global;
 use std::str;
 use std::test::Fail;
 
+/// The lines of the stops.
+pub(crate) const WRONG_TYPE: &[u8] = b"stop 65: wrong type\n";
+
+pub(crate) const OUT_OF_RANGE: &[u8] = b"stop 66: out of range\n";
+
+pub(crate) const NOT_PROCEDURE: &[u8] = b"stop 67: not a procedure\n";
+
+pub(crate) const WRONG_COUNT: &[u8] = b"stop 68: wrong argument count\n";
+
+pub(crate) const DIVIDE_BY_ZERO: &[u8] = b"stop 69: division by zero\n";
+
+pub(crate) const HEAP_LIMIT: &[u8] = b"stop 71: heap limit\n";
+
+pub(crate) const DEPTH_LIMIT: &[u8] = b"stop 72: depth limit\n";
+
 /// With a small heap and a small depth, so that an image has few zeros to load.
 pub(crate) const RUN: [&str; 6] = ["run", "a", "--heap", "65536", "--depth", "1000"];
 

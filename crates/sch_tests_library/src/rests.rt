@@ -1,6 +1,6 @@
 //! Lists of operands, run over memory: behind many formals, and in calls of many operands (R5RS 4.1.4).
 
-use crate::program::{check_printed, check_rows, check_stops};
+use crate::program::{WRONG_COUNT, check_printed, check_rows, check_stops};
 use std::alloc::Global;
 use std::test::Fail;
 
@@ -114,15 +114,13 @@ fn in_calls_of_many_operands(rt: HostRuntime) -> Result<(), Fail> {
     Ok(())
 }
 
-const COUNT: &[u8] = b"stop 68: wrong argument count\n";
-
 /// Fewer operands than formals are a wrong count, before anything is charged.
 const STOPS: &[(&[u8], u8, &[u8])] = &[
-    (b"(define (f a . l) l)(f)", 68, COUNT),
+    (b"(define (f a . l) l)(f)", 68, WRONG_COUNT),
     (
         b"(define (f a b c d e g h i . l) l)(f 1 2 3 4 5 6 7)",
         68,
-        COUNT,
+        WRONG_COUNT,
     ),
 ];
 

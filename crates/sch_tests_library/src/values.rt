@@ -1,6 +1,9 @@
 //! Procedures of the library, run over memory: as values, under names of the text, and what depth they take.
 
-use crate::program::{RUN, check, check_rows, check_stops, repeated};
+use crate::program::{
+    DEPTH_LIMIT, DIVIDE_BY_ZERO, HEAP_LIMIT, NOT_PROCEDURE, RUN, WRONG_COUNT, check, check_rows,
+    check_stops, repeated,
+};
 use std::test::Fail;
 
 const VALUES: &[(&[u8], &[u8])] = &[
@@ -63,22 +66,12 @@ fn library_procedures_are_values(rt: HostRuntime) -> Result<(), Fail> {
     check_rows(rt.alloc(), VALUES)
 }
 
-const COUNT: &[u8] = b"stop 68: wrong argument count\n";
-
 const STOPS: &[(&[u8], u8, &[u8])] = &[
-    (b"(display)", 68, COUNT),
-    (b"(not)", 68, COUNT),
-    (b"(display (quotient 1))", 68, COUNT),
-    (
-        b"(define (f g) (g 1 0))(f quotient)",
-        69,
-        b"stop 69: division by zero\n",
-    ),
-    (
-        b"(set! newline 1)(newline)",
-        67,
-        b"stop 67: not a procedure\n",
-    ),
+    (b"(display)", 68, WRONG_COUNT),
+    (b"(not)", 68, WRONG_COUNT),
+    (b"(display (quotient 1))", 68, WRONG_COUNT),
+    (b"(define (f g) (g 1 0))(f quotient)", 69, DIVIDE_BY_ZERO),
+    (b"(set! newline 1)(newline)", 67, NOT_PROCEDURE),
 ];
 
 #[test]
@@ -88,8 +81,6 @@ fn library_procedures_stop(rt: HostRuntime) -> Result<(), Fail> {
 
 const AT_ONE: [&str; 6] = ["run", "a", "--heap", "4096", "--depth", "1"];
 
-const DEPTH: &[u8] = b"stop 72: depth limit\n";
-
 /// Sources at a depth of one call: the status, what is printed, and what is said.
 const ENDINGS: &[(&[u8], u8, &[u8], &[u8])] = &[
     // An operation takes no depth. Where its name is assigned anywhere it is a global of the text, which is called.
@@ -98,12 +89,17 @@ const ENDINGS: &[(&[u8], u8, &[u8], &[u8])] = &[
         b"(lambda (x) (if #f (set! car x)))(define (f) (begin (car '(1)) 2))(f)",
         72,
         b"",
-        DEPTH,
+        DEPTH_LIMIT,
     ),
     // A call of a procedure of the library takes depth as any other.
     (b"(display 1)(newline)", 0, b"1\n", b""),
     (b"(define (f) (display 1))(f)", 0, b"1", b""),
-    (b"(define (f) (begin (display 1) 2))(f)", 72, b"", DEPTH),
+    (
+        b"(define (f) (begin (display 1) 2))(f)",
+        72,
+        b"",
+        DEPTH_LIMIT,
+    ),
 ];
 
 #[test]
@@ -120,7 +116,7 @@ const WRONG_COUNTS: &[&[u8]] = &[b"(display 1)(display 1 2)", b"(newline (displa
 #[test]
 fn counts_are_checked_late(rt: HostRuntime) -> Result<(), Fail> {
     for source in WRONG_COUNTS {
-        check(rt.alloc(), &RUN, source, (68, b"1", COUNT))?;
+        check(rt.alloc(), &RUN, source, (68, b"1", WRONG_COUNT))?;
     }
     Ok(())
 }
@@ -133,9 +129,13 @@ const CELL: &[u8] = b"(let ((n 0)) (set! n 1))";
 #[test]
 fn library_procedures_take_no_heap(rt: HostRuntime) -> Result<(), Fail> {
     let alloc = rt.alloc();
-    let full = b"stop 71: heap limit\n";
     let mut source = repeated(alloc, b"(define p not)(display (p (p 1)))", CELL, 256)?;
     check(alloc, &AT_TWENTY, source.as_slice(), (0, b"#t", b""))?;
     source.extend_from_slice(CELL)?;
-    check(alloc, &AT_TWENTY, source.as_slice(), (71, b"#t", full))
+    check(
+        alloc,
+        &AT_TWENTY,
+        source.as_slice(),
+        (71, b"#t", HEAP_LIMIT),
+    )
 }

@@ -6,9 +6,9 @@ ghost use Rattle.sch_asm.specs.Items.{AreItems, AreKnown, AreOwn, IsEachOnce, la
 use crate::machine::{machine, runs_so};
 use crate::routines::resolved;
 use sch_asm::{Asm, Item};
-use sch_insn::register::{R11, RAX, RCX, RDX};
 use sch_insn::{Arg, Insn};
 use sch_io::MemOutlet;
+use sch_word::registers::{R11, RAX, RCX, RDX};
 use sch_word::{List, Mem};
 use std::alloc::Global;
 use std::test::Fail;

@@ -6,8 +6,8 @@ use crate::fills::program;
 use crate::routines::resolved;
 use sch_asm::{Asm, Item};
 use sch_insn::condition::L;
-use sch_insn::register::RAX;
 use sch_insn::{Arg, Insn};
+use sch_word::registers::RAX;
 use std::alloc::Global;
 use std::test::Fail;
 

@@ -1,18 +1,18 @@
 //! Moves of some calls.
 
 use sch_shuffle::{Move, Moves, Operand, shuffle};
-use sch_word::{List, Mem, Place};
+use sch_word::{List, Mem, Place, registers};
 use std::alloc::Global;
 
-const RAX: Place = Place::Reg(0);
+const RAX: Place = Place::Reg(registers::RAX);
 
-const RCX: Place = Place::Reg(1);
+const RCX: Place = Place::Reg(registers::RCX);
 
-const RBX: Place = Place::Reg(3);
+const RBX: Place = Place::Reg(registers::RBX);
 
-const R8: Place = Place::Reg(8);
+const R8: Place = Place::Reg(registers::R8);
 
-const R9: Place = Place::Reg(9);
+const R9: Place = Place::Reg(registers::R9);
 
 // What is no register.
 const OTHER: u8 = 99;

@@ -11,7 +11,7 @@ ghost use Rattle.sch_writer.specs.View.{moves_of};
 use crate::straight::is_straight;
 use sch_control::{Application, Atom, Entry, Exp, Operand, Operation};
 use sch_frames::Instruction;
-use sch_word::{Const, List, MarkKind, Mem, Place};
+use sch_word::{Const, LINK_REGISTER, List, MarkKind, Mem, Place, registers};
 use sch_writer::{Allocation, Move, Restores, VariablePlaces, write_body};
 use std::alloc::Global;
 use std::test::Fail;
@@ -265,11 +265,11 @@ fn seen(i: &Instruction) -> (u8, u32, u32) {
     }
 }
 
-const LINK: u32 = 15;
+const LINK: u32 = LINK_REGISTER as u32;
 
-const RBX: u32 = 3;
+const RBX: u32 = registers::RBX as u32;
 
-const R14: u32 = 14;
+const R14: u32 = registers::R14 as u32;
 
 const SLOT: u32 = 100;
 

@@ -1,24 +1,19 @@
 -- Worked rows: which forms a text has, which names it defines and assigns, and what an item of a library is. A
 -- form stands at its place.
 use Rattle.std.proofs.Common.{◌≡◌, ℕ, pos, List, [], ◌∷◌, Some, None, false, codes, refl}
-use Rattle.sch_read.specs.Grammar.{Datum, Data, atom, list, none, cons, symbol, integer}
+use Rattle.sch_read.specs.Grammar.{Datum, Data, atom, list, none, cons, integer}
 use Rattle.sch_names.specs.Words.{keyword_of}
 use Rattle.sch_sketch.specs.declared.fault.Fault.TheVariants.{BadForm, KeywordDefined}
 use Rattle.sch_sketch.specs.declared.sketch.Row.TheVariants.{Method}
 use Rattle.sch_sketch.specs.Draft.{set_global, set_local, lambda, call, global, no_drafts, and_draft}
 use Rattle.sch_sketch.specs.Sketch.{rest, wrong}
+use Rattle.sch_sketch.proofs.WorkedData.{x, named}
 use Rattle.sch_toplevel.specs.Forms.{form_places, sketches_of, defined, own_names}
 use Rattle.sch_toplevel.specs.Assigned.{assigned_in}
 use Rattle.sch_toplevel.specs.Items.{name_in, names_by, procedure_in}
 
-abbrev x : List ℕ
-x = codes "x"
-
 abbrev f : List ℕ
 f = codes "f"
-
-abbrev named : ℕ → List ℕ → Datum
-named at v = atom at (symbol v)
 
 abbrev number : ℕ → Datum
 number at = atom at (integer (pos 1))

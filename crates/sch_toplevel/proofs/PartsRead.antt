@@ -23,10 +23,10 @@ module _ (globals : Globals) where
   PartsOf first ks a b es = PartsRead globals sequencing first 1 [] Value ks a b es
 
   -- one form more
-  one_more : (first : Bool) (p : Sketch) (ps : Sketches) (a m b : Option Fault) (e : Draft) (es : Drafts) →
+  reads_more : (first : Bool) (p : Sketch) (ps : Sketches) (a m b : Option Fault) (e : Draft) (es : Drafts) →
       Reads globals 1 [] Value p a m e → PartsOf false ps m b es → PartsOf first (and_sketch p ps) a b (and_draft e es)
-  one_more first p no_sketch a m b e es x y = re.reads_part sequencing first 1 [] Value p no_sketch a m b e es x y
-  one_more first p (and_sketch q qs) a m b e es x y = re.reads_part sequencing first 1 [] Value p (and_sketch q qs) a m b e es x y
+  reads_more first p no_sketch a m b e es x y = re.reads_part sequencing first 1 [] Value p no_sketch a m b e es x y
+  reads_more first p (and_sketch q qs) a m b e es x y = re.reads_part sequencing first 1 [] Value p (and_sketch q qs) a m b e es x y
 
   none_is : {first : Bool} {a b : Option Fault} {es : Drafts} → PartsOf first no_sketch a b es → (a ≡ b) × (es ≡ no_drafts)
   none_is (re.reads_none _ _ _ _ _ a) = (refl, refl)
@@ -56,7 +56,7 @@ module _ (globals : Globals) where
       subst (λ o. PartsOf g no_sketch a o es) i.0 (subst (λ l. PartsOf g no_sketch a a l) (sym i.1) (re.reads_none sequencing g 1 [] Value a))
   any_first f g (and_sketch p ps) a b es r =
       let s = split ps r in
-      subst (λ l. PartsOf g (and_sketch p ps) a b l) (sym s.whole) (one_more g p ps a s.between b s.draft s.more s.here s.others)
+      subst (λ l. PartsOf g (and_sketch p ps) a b l) (sym s.whole) (reads_more g p ps a s.between b s.draft s.more s.here s.others)
 
   -- one form, and then the others
   pub next_form : (fs : List Form) (i : ℕ) (f : Form) (k : Sketch) (e : code.Draft) (a m b : Option Fault) (es : Drafts) → i < length fs → f ≡ get_or fs i f →
@@ -65,4 +65,4 @@ module _ (globals : Globals) where
   next_form fs i f k e a m b es l is h x r =
       let n = next_left fs i f l is in
       let r' = rw add-one at r in
-      rw n (one_more false (sketch_at f) _ a m b (draft_of e) es (subst (λ j. Reads globals 1 [] Value j a m (draft_of e)) h x) r')
+      rw n (reads_more false (sketch_at f) _ a m b (draft_of e) es (subst (λ j. Reads globals 1 [] Value j a m (draft_of e)) h x) r')

@@ -1,8 +1,9 @@
 -- How what is counted over a tree goes together with what is counted over another: a relation between
 -- counts, as equality, implication or a bound, that the joining of counts keeps. A pass that relates its
 -- answer's nodes to its argument's, one by one, has so related every count over the whole trees.
-use Rattle.std.proofs.Common.{◌≡◌, ℕ, ◌+◌, ◌≤◌, Bool, true, false, refl, ◌∙◌, arith}
+use Rattle.std.proofs.Common.{◌≡◌, ℕ, ◌+◌, ◌≤◌, Bool, true, refl, ◌∙◌, arith}
 use Rattle.std.specs.Prelude.{IsTrue, ◌&&◌}
+use Rattle.sch_word.proofs.facts.Booleans.{and_of, and_parts}
 
 pub record Joins {A : Type 0} (Related : A → A → Type 0) (nothing : A) (join : A → A → A) : Type 0 where
   pub empty : Related nothing nothing
@@ -15,20 +16,12 @@ Equal a b = b ≡ a
 pub equal_joins : {A : Type 0} (nothing : A) (join : A → A → A) → Joins Equal nothing join
 equal_joins nothing join = record { empty = refl; joined = λ a a' b b' p q. rw (p, q) refl }
 
-pub parts : (a b : Bool) → IsTrue (a && b) → IsTrue a × IsTrue b
-parts true b h = (refl, h)
-parts false b h = absurd (cc)
-
-pub both_true : {a b : Bool} → IsTrue a → IsTrue b → IsTrue (a && b)
-both_true {a = true} p q = q
-both_true {a = false} p q = p
-
 -- what holds of one holds of the other
 abbrev pub Implies : Bool → Bool → Type 0
 Implies a b = IsTrue a → IsTrue b
 
 pub implies_joins : Joins Implies true (λ a b. a && b)
-implies_joins = record { empty = λ h. h; joined = λ a a' b b' p q h. let k = parts a b h in both_true (p k.0) (q k.1) }
+implies_joins = record { empty = λ h. h; joined = λ a a' b b' p q h. let k = and_parts a b h in and_of a' b' (p k.0) (q k.1) }
 
 pub same_implies : {a b : Bool} → Equal a b → Implies a b
 same_implies e h = e ∙ h
@@ -38,7 +31,7 @@ abbrev pub Holds : Bool → Bool → Type 0
 Holds a b = IsTrue b
 
 pub holds_joins : Joins Holds true (λ a b. a && b)
-holds_joins = record { empty = refl; joined = λ a a' b b' p q. both_true p q }
+holds_joins = record { empty = refl; joined = λ a a' b b' p q. and_of a' b' p q }
 
 -- the second is at most the first
 abbrev pub AtMost : ℕ → ℕ → Type 0

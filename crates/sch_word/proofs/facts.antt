@@ -7,3 +7,4 @@ pub mod Places
 pub mod TreesInOrder
 pub mod AssignedMarks
 pub mod Occurrences
+pub mod AfterMarks

@@ -10,3 +10,4 @@ pub mod Stops
 pub mod Store
 pub mod WorkedRuns
 pub mod Activations
+pub mod Procedures

@@ -19,7 +19,7 @@ mod numbers;
 mod place;
 mod primitive;
 mod program_layout;
-mod registers;
+pub mod registers;
 mod statics;
 mod stop;
 mod to_visit;
@@ -36,7 +36,7 @@ pub use made_literals::MadeLiterals;
 pub use mark::MarkKind;
 pub use mem::Mem;
 pub use numbers::{insert_number, insert_numbers, is_in, larger};
-pub use place::Place;
+pub use place::{Place, same_place};
 pub use primitive::Primitive;
 pub use program_layout::{DATA_ADDRESS, MAX_TEXT_SIZE, TEXT_ADDRESS};
 pub use registers::{

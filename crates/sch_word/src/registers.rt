@@ -1,23 +1,55 @@
-//! What compiled code uses each register for, the project's own choice. Registers have the numbers of the Intel SDM, volume 2,
-//! section 3.1.1.1. RSP, number 4, is not used.
+//! The sixteen registers by their numbers (Intel SDM, volume 2, section 3.1.1.1), and what compiled code uses each for, the project's
+//! own choice. RSP is not used.
 
-/// Where variables live, and where the first operands of a call arrive, in this order: RBX, R8, R9, R10, RSI and RDI.
-pub const ARGUMENT_REGISTERS: [u8; 6] = [3, 8, 9, 10, 6, 7];
+pub const RAX: u8 = 0;
 
-/// The address of the frame: RBP.
-pub const FRAME_REGISTER: u8 = 5;
+pub const RCX: u8 = 1;
 
-/// The next free place of the heap: R12.
-pub const HEAP_REGISTER: u8 = 12;
+pub const RDX: u8 = 2;
 
-/// How many calls may still be pending: R13.
-pub const DEPTH_REGISTER: u8 = 13;
+pub const RBX: u8 = 3;
 
-/// The closure of the activation: R14.
-pub const CLOSURE_REGISTER: u8 = 14;
+pub const RSP: u8 = 4;
 
-/// Where the activation returns: R15.
-pub const LINK_REGISTER: u8 = 15;
+pub const RBP: u8 = 5;
 
-/// What an instruction of a body may overwrite: RAX, RCX, RDX and R11.
-pub const SCRATCH_REGISTERS: [u8; 4] = [0, 1, 2, 11];
+pub const RSI: u8 = 6;
+
+pub const RDI: u8 = 7;
+
+pub const R8: u8 = 8;
+
+pub const R9: u8 = 9;
+
+pub const R10: u8 = 10;
+
+pub const R11: u8 = 11;
+
+pub const R12: u8 = 12;
+
+pub const R13: u8 = 13;
+
+pub const R14: u8 = 14;
+
+pub const R15: u8 = 15;
+
+/// Where variables live, and where the first operands of a call arrive, in this order.
+pub const ARGUMENT_REGISTERS: [u8; 6] = [RBX, R8, R9, R10, RSI, RDI];
+
+/// The address of the frame.
+pub const FRAME_REGISTER: u8 = RBP;
+
+/// The next free place of the heap.
+pub const HEAP_REGISTER: u8 = R12;
+
+/// How many calls may still be pending.
+pub const DEPTH_REGISTER: u8 = R13;
+
+/// The closure of the activation.
+pub const CLOSURE_REGISTER: u8 = R14;
+
+/// Where the activation returns.
+pub const LINK_REGISTER: u8 = R15;
+
+/// What an instruction of a body may overwrite.
+pub const SCRATCH_REGISTERS: [u8; 4] = [RAX, RCX, RDX, R11];

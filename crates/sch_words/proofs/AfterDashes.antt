@@ -4,7 +4,7 @@ use Rattle.std.specs.Prelude.{option_and_then, ◌&&◌}
 use Rattle.std.specs.Str.{bytes_eq}
 use Rattle.clap.specs.Words.{Row}
 use Rattle.clap.specs.Walk.{Walk, arg_by_id, idle, walked}
-use Rattle.sch_word.proofs.facts.Booleans.{and_false}
+use Rattle.std.proofs.Math.Bool.{and-false}
 use Rattle.sch_words.specs.GivenTexts.{Text}
 use Rattle.sch_words.specs.PlainReading.{Given, positionals_in}
 use Rattle.sch_words.proofs.GivenInTurn.{take_all, take_all_first, take_one}
@@ -44,11 +44,11 @@ pub trailing_settles : (position : ℕ) (free : List Text) → Free position fre
     → run top words (behind true position name text (map row_of taken)) ≡ option_and_then (λ all. run top words (between true position (map row_of all))) (take_one name text taken)
 unfolding run walked
 trailing_settles position free left [] taken name text long index found = pending_takes top.rules name text long index taken (λ rows. Some rows) found
-trailing_settles _ _ three (word ∷ rest) taken name text long index found = rw (and_false (bytes_eq name (codes "verb")))
+trailing_settles _ _ three (word ∷ rest) taken name text long index found = rw (and-false (bytes_eq name (codes "verb")))
     (pending_takes top.rules name text long index taken (λ rows. run top rest (behind true 2 (codes "verb") word rows)) found)
-trailing_settles _ _ two (word ∷ rest) taken name text long index found = rw (and_false (bytes_eq name (codes "name")))
+trailing_settles _ _ two (word ∷ rest) taken name text long index found = rw (and-false (bytes_eq name (codes "name")))
     (pending_takes top.rules name text long index taken (λ rows. run top rest (behind true 3 (codes "name") word rows)) found)
-trailing_settles _ _ one (word ∷ rest) taken name text long index found = rw (and_false (bytes_eq name (codes "second")))
+trailing_settles _ _ one (word ∷ rest) taken name text long index found = rw (and-false (bytes_eq name (codes "second")))
     (pending_takes top.rules name text long index taken (λ rows. run top rest (behind true 4 (codes "second") word rows)) found)
 trailing_settles _ _ none (word ∷ rest) taken name text long index found = never (take_one name text taken) None refl
 

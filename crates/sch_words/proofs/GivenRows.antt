@@ -1,9 +1,10 @@
 -- The rows that clap keeps of the texts that are given.
-use Rattle.std.proofs.Common.{ap, refl, sym, codes, true, false, Bool, List, ℕ, [], ◌∷◌, ◌++◌, Option, Some, None, ◌≡◌, ◌∙◌, map, option_map, subst}
+use Rattle.std.proofs.Common.{ap, refl, sym, codes, true, false, Bool, List, ℕ, [], ◌∷◌, ◌++◌, Option, Some, None, ◌≡◌, ◌∙◌, map, option_map}
 use Rattle.std.specs.Prelude.{find, option_and_then, slice_get, if◌then◌else◌, ◌||◌, ◌&&◌}
 use Rattle.std.proofs.lemmas.List.{append-nil, map-append}
 use Rattle.std.specs.Option.{option_map_or}
 use Rattle.std.specs.Str.{bytes_eq}
+use Rattle.std.proofs.lemmas.Bool.{true≢false}
 use Rattle.clap.specs.Words.{Row, Rule, first_of}
 use Rattle.clap.specs.Kinds.{or_else}
 use Rattle.clap.specs.Values.{reading_of}
@@ -78,15 +79,8 @@ use_fault_rule {X} name text long index rows o = go (has_row name rows)
     go true = refl
     go false = refl
 
-abbrev IsTrue : Bool → Type 0
-IsTrue true = Unit {0}
-IsTrue false = ⊥
-
-true_is_false : true ≡ false → ⊥
-true_is_false e = subst IsTrue e tt
-
 at_row_other : (b any : Bool) (x : List Row) (r : Row) (rest wanted : List Row) → (b || any) ≡ false → (any ≡ false → rest ≡ wanted) → (if b then x else r ∷ rest) ≡ r ∷ wanted
-at_row_other true any x r rest wanted e ih = absurd (true_is_false e)
+at_row_other true any x r rest wanted e ih = absurd (true≢false e)
 at_row_other false any x r rest wanted e ih = ap (λ rs. r ∷ rs) (ih e)
 
 -- where no row has the name, what is missing goes to the end

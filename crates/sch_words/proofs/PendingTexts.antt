@@ -11,7 +11,7 @@ use Rattle.clap.specs.Faults.{flags_fault, use_fault}
 use Rattle.sch_words.specs.GivenTexts.{Text}
 use Rattle.sch_words.specs.PlainReading.{Given}
 use Rattle.sch_words.proofs.AfterDashes.{Free, behind, between, never, none, one, three, trailing_settles, two}
-use Rattle.sch_word.proofs.facts.Booleans.{and_false}
+use Rattle.std.proofs.Math.Bool.{and-false}
 use Rattle.sch_words.proofs.GivenInTurn.{take_one}
 use Rattle.sch_words.proofs.GivenRows.{pending_takes, row_of, rule_for}
 use Rattle.sch_words.proofs.OneWalk.{passing, passing_or_else, run, top}
@@ -40,11 +40,11 @@ dashes_settle word e rest position free left taken name text long index found = 
 plain_settles : (word : Text) → is_dashes word ≡ false → long_of word ≡ None → short_of word ≡ None
     → (rest : List Text) (position : ℕ) (free : List Text) → Free position free → Settles (word ∷ rest) position
 unfolding run walked flags_fault bundle_met
-plain_settles word e no_long short rest _ _ three taken name text long index found = rw (e, no_long, short, and_false (bytes_eq name (codes "verb")))
+plain_settles word e no_long short rest _ _ three taken name text long index found = rw (e, no_long, short, and-false (bytes_eq name (codes "verb")))
     (pending_takes top.rules name text long index taken (λ rows. run top rest (behind false 2 (codes "verb") word rows)) found)
-plain_settles word e no_long short rest _ _ two taken name text long index found = rw (e, no_long, short, and_false (bytes_eq name (codes "name")))
+plain_settles word e no_long short rest _ _ two taken name text long index found = rw (e, no_long, short, and-false (bytes_eq name (codes "name")))
     (pending_takes top.rules name text long index taken (λ rows. run top rest (behind false 3 (codes "name") word rows)) found)
-plain_settles word e no_long short rest _ _ one taken name text long index found = rw (e, no_long, short, and_false (bytes_eq name (codes "second")))
+plain_settles word e no_long short rest _ _ one taken name text long index found = rw (e, no_long, short, and-false (bytes_eq name (codes "second")))
     (pending_takes top.rules name text long index taken (λ rows. run top rest (behind false 4 (codes "second") word rows)) found)
 plain_settles word e no_long short rest _ _ none taken name text long index found = rw (e, no_long, short) (never (take_one name text taken) None refl)
 

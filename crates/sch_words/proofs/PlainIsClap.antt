@@ -9,7 +9,7 @@ use Rattle.sch_words.specs.GivenTexts.{Text}
 use Rattle.sch_words.specs.PlainReading.{Given, are_once, given_in, look_of, option, plain, plain_reading, texts_given}
 use Rattle.sch_words.specs.SimpleCommand.{clap_reading, texts_of_rows}
 use Rattle.sch_words.proofs.AfterDashes.{Free, between, none, one, three, trailing_agrees, two}
-use Rattle.sch_word.proofs.facts.Booleans.{and_false}
+use Rattle.std.proofs.Math.Bool.{and-false}
 use Rattle.sch_words.proofs.GivenInTurn.{take_all, take_all_first, take_each_from_none}
 use Rattle.sch_words.proofs.GivenRows.{row_of, rule_for, texts_in_rows, used_takes}
 use Rattle.sch_words.proofs.OneWalk.{clap_reading_run, run, top}
@@ -65,9 +65,9 @@ waits_in_vain : (rest : List Text) (position : ℕ) (free : List Text) → Free 
     → run top rest (record (waiting_for position known (map row_of taken)) { is_trailing = true }) ≡ None
 unfolding run walked
 waits_in_vain [] position free left taken known is = rw is.found refl
-waits_in_vain (word ∷ rest) _ _ three taken known is = rw (and_false (bytes_eq known (codes "verb")), is.found) refl
-waits_in_vain (word ∷ rest) _ _ two taken known is = rw (and_false (bytes_eq known (codes "name")), is.found) refl
-waits_in_vain (word ∷ rest) _ _ one taken known is = rw (and_false (bytes_eq known (codes "second")), is.found) refl
+waits_in_vain (word ∷ rest) _ _ three taken known is = rw (and-false (bytes_eq known (codes "verb")), is.found) refl
+waits_in_vain (word ∷ rest) _ _ two taken known is = rw (and-false (bytes_eq known (codes "name")), is.found) refl
+waits_in_vain (word ∷ rest) _ _ one taken known is = rw (and-false (bytes_eq known (codes "second")), is.found) refl
 waits_in_vain (word ∷ rest) _ _ none taken known is = refl
 
 kind_agrees_waiting : (word : Text) → Kind word → (rest : List Text) → AreUtf8 rest → Agrees rest → AgreesWaiting (word ∷ rest)

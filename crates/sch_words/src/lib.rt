@@ -2,9 +2,9 @@
 #![tactic(auto)]
 
 ghost use Rattle.std.specs.Prelude.{◌≡◌, IfOk, map, option_map, string_bytes};
-ghost use Rattle.clap.specs.Words.{app_of};
+ghost use Rattle.clap.specs.Words.{app_of, with_rule};
 ghost use Rattle.sch_words.specs.PlainReading.{plain_reading};
-ghost use Rattle.sch_words.specs.SimpleCommand.{clap_reading, schc};
+ghost use Rattle.sch_words.specs.SimpleCommand.{clap_reading, no_arguments, option, positional, schc};
 ghost use Rattle.sch_words.specs.View.{texts_of};
 
 use clap::error::ErrorKind;
@@ -58,27 +58,42 @@ pub fn read_words<'a>(alloc: Global, words: &'a [String]) -> Result<Option<Words
     }
 }
 
-// The command: three positionals and four options, each of one text, and neither `--help` nor `--version`.
+// The command: three positionals and four options, of one text each, and neither `--help` nor `--version`.
 fn command<'a>(alloc: Global) -> Result<Command<'a>, Mem>
     ensures { IfOk result (λ command. app_of command ≡ schc) }
 {
-    let verb = Arg::new(alloc, "verb");
-    let name = Arg::new(alloc, "name");
-    let second = Arg::new(alloc, "second");
-    let listing = Arg::new(alloc, "listing").long("listing");
-    let heap = Arg::new(alloc, "heap").long("heap");
-    let depth = Arg::new(alloc, "depth").long("depth");
-    let steps = Arg::new(alloc, "steps").long("steps");
-    let command = Command::new(alloc, "schc")
+    let command = without_arguments(alloc);
+    let command = with_positional(alloc, command, "verb")?;
+    let command = with_positional(alloc, command, "name")?;
+    let command = with_positional(alloc, command, "second")?;
+    let command = with_option(alloc, command, "listing")?;
+    let command = with_option(alloc, command, "heap")?;
+    let command = with_option(alloc, command, "depth")?;
+    let command = with_option(alloc, command, "steps")?;
+    Ok(command)
+}
+
+fn without_arguments<'a>(alloc: Global) -> Command<'a>
+    ensures { app_of result ≡ no_arguments }
+{
+    Command::new(alloc, "schc")
         .no_binary_name(true)
         .disable_help_flag(true)
         .disable_version_flag(true)
-        .arg(verb)?
-        .arg(name)?
-        .arg(second)?
-        .arg(listing)?
-        .arg(heap)?
-        .arg(depth)?
-        .arg(steps)?;
-    Ok(command)
+}
+
+fn with_positional<'a>(
+    alloc: Global,
+    command: Command<'a>,
+    name: &'a str,
+) -> Result<Command<'a>, Mem>
+    ensures { IfOk result (λ made. app_of made ≡ with_rule (app_of command.entry) (positional name.entry.now)) }
+{
+    Ok(command.arg(Arg::new(alloc, name))?)
+}
+
+fn with_option<'a>(alloc: Global, command: Command<'a>, name: &'a str) -> Result<Command<'a>, Mem>
+    ensures { IfOk result (λ made. app_of made ≡ with_rule (app_of command.entry) (option name.entry.now)) }
+{
+    Ok(command.arg(Arg::new(alloc, name).long(name))?)
 }

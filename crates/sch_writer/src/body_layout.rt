@@ -9,22 +9,21 @@ ghost use Rattle.sch_word.specs.declared.mark.MarkKind.TheVariants as mark;
 ghost use Rattle.sch_word.specs.trees.Shape.{max_operands};
 ghost use Rattle.sch_frames.specs.declared.instruction.Instruction.TheVariants.{Do, Store, Fix, Return, End, Jump, Label, Mark};
 ghost use Rattle.sch_word.specs.values.Places.{is_slot};
-ghost use Rattle.sch_control.specs.flow.Places.{formals_of};
-ghost use Rattle.sch_layout.specs.BodyLayout.{arrived, arrivals, entering, brought, operation_at, members_at, leave, labels, lay, spill, stored, under, Writes};
+ghost use Rattle.sch_control.specs.flow.Places.{formals_of, variable_arrival};
+ghost use Rattle.sch_layout.specs.BodyLayout.{arrivals, entering, brought, operation_at, members_at, leave, labels, lay, spill, stored, under, Writes};
 ghost use Rattle.sch_writer.specs.FewOperands.{FewOperands};
 ghost use Rattle.sch_writer.specs.Regions.{inside};
 
 use crate::allocation::{Allocation, Around, Restores};
-use crate::call_layout::{CLOSURE, LINK, arrival, write_call, write_tail_call};
+use crate::call_layout::{CLOSURE, LINK, write_call, write_tail_call};
 use crate::instructions::{Writer, leave, new_label, new_writer, put, put_under};
-use crate::moves::same_place;
 use crate::operand_places::{members_at, operation_at};
 use crate::regions::Regions;
 use crate::saves::{write_bound, write_heads, write_members};
 use crate::variable_places::VariablePlaces;
-use sch_control::{Entry, Exp, Member, Operation};
+use sch_control::{Entry, Exp, Member, Operation, arrival};
 use sch_frames::Instruction;
-use sch_word::{List, MarkKind, Mem, Place};
+use sch_word::{List, MarkKind, Mem, Place, same_place};
 use std::alloc::Global;
 
 // What is written between the parts of an expression stands in functions of its own, which are not put into the walk over
@@ -229,8 +228,8 @@ fn lay<'a, C: Drop, P: VariablePlaces, R: Restores<C>>(
 }
 
 /// Where a variable stands as a procedure is entered: the return address, the closure, and the arguments.
-fn arrived(x: u32) -> Place
-    ensures { result ≡ arrived x }
+fn variable_arrival(x: u32) -> Place
+    ensures { result ≡ variable_arrival x }
 {
     match x {
         0 => LINK,
@@ -245,7 +244,7 @@ fn bring<P: VariablePlaces>(places: &P, x: u32, out: &mut Writer) -> Result<(), 
     ensures labels { OnOk result (out.new.labels ≡ out.old.labels) }
 {
     let to = places.place(x);
-    let from = arrived(x);
+    let from = variable_arrival(x);
     if same_place(to, from) {
         return Ok(());
     }

@@ -3,8 +3,6 @@
 ghost use Rattle.std.specs.Prelude.{◌≡◌, ◌≤◌, ◌<◌, ◌+◌, ◌^◌, ◌∷◌, suc, false, length, true, IfOk, OnOk};
 ghost use Rattle.sch_word.specs.declared.mark.MarkKind.TheVariants as mark;
 ghost use Rattle.sch_word.specs.trees.Shape.{max_operands};
-ghost use Rattle.sch_control.specs.flow.Places.{arrival};
-ghost use Rattle.sch_frames.specs.Meaning.{argument_register, argument_slot};
 ghost use Rattle.sch_frames.specs.declared.instruction.Instruction.TheVariants.{Call, Mark, Tail};
 ghost use Rattle.sch_layout.specs.BodyLayout.{leave, loaded, move_all, target, Writes};
 
@@ -13,9 +11,9 @@ use crate::instructions::{Writer, leave, put};
 use crate::moves::write_moves;
 use crate::saves::write_restores;
 use crate::variable_places::VariablePlaces;
-use sch_control::Application;
+use sch_control::{Application, argument_register, argument_slot, arrival};
 use sch_frames::Instruction;
-use sch_word::{ARGUMENT_REGISTERS, CLOSURE_REGISTER, LINK_REGISTER, MarkKind, Mem, Place};
+use sch_word::{CLOSURE_REGISTER, LINK_REGISTER, MarkKind, Mem, Place};
 use std::alloc::Global;
 
 /// Where the return address of an activation is.
@@ -23,30 +21,6 @@ pub const LINK: Place = Place::Reg(LINK_REGISTER);
 
 /// Where the closure of an activation is as it is entered.
 pub(crate) const CLOSURE: Place = Place::Reg(CLOSURE_REGISTER);
-
-/// The register of an operand, by the number of those before it.
-fn argument_register(k: u32) -> Option<u8>
-    ensures { result ≡ argument_register k }
-{
-    ARGUMENT_REGISTERS.get(k as usize).copied()
-}
-
-/// The slot of an operand that has no register.
-fn argument_slot(k: u32) -> u32
-    ensures { result ≡ argument_slot k }
-{
-    k.saturating_sub(ARGUMENT_REGISTERS.len() as u32)
-}
-
-/// Where an argument arrives.
-pub(crate) fn arrival(k: u32) -> Place
-    ensures { result ≡ arrival k }
-{
-    match argument_register(k) {
-        Some(r) => Place::Reg(r),
-        None => Place::Slot(argument_slot(k)),
-    }
-}
 
 /// Where an operand of a call is wanted, by the number of those before it.
 fn operand_target(tail: bool, limit: u32, k: u32) -> Place

@@ -3,14 +3,13 @@
 ghost use Rattle.std.specs.Prelude.{◌≡◌, ◌∷◌, OnOk};
 ghost use Rattle.sch_control.specs.declared.operation.Operation.TheVariants as operation;
 ghost use Rattle.sch_frames.specs.declared.instruction.Instruction.TheVariants.{Do};
-ghost use Rattle.sch_word.specs.values.Places.{same_place};
 ghost use Rattle.sch_layout.specs.BodyLayout.{is_direct, move_all, move_into, move_mark, under, writing, Writes};
 ghost use Rattle.sch_writer.specs.View.{move_of, moves_of};
 
 use crate::instructions::{Writer, put, put_under};
 use sch_control::{Atom, Operand, Operation};
 use sch_frames::Instruction;
-use sch_word::{List, MarkKind, Mem, Place};
+use sch_word::{List, MarkKind, Mem, Place, same_place};
 
 /// What goes where: the operator of a call, argument 0, or one of its operands, the arguments from 1 on. A slot from the
 /// limit of a plan on is one of the frame that the call opens.
@@ -24,17 +23,6 @@ pub struct Move {
     pub to: Place,
     /// Whether it is set aside there, and goes on later.
     pub is_temporary: bool,
-}
-
-/// Whether two places are the same.
-pub(crate) fn same_place(a: Place, b: Place) -> bool
-    ensures { result ≡ same_place a b }
-{
-    match (a, b) {
-        (Place::Reg(a), Place::Reg(b)) => a == b,
-        (Place::Slot(a), Place::Slot(b)) => a == b,
-        _ => false,
-    }
 }
 
 /// What the accumulator holds goes to a slot, by the limit from which slots are those of the frame that a call opens.

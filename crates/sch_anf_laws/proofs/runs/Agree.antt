@@ -13,7 +13,8 @@ use Rattle.sch_word.specs.runs.Computation.{Outcome, Action, gives, State, in_st
 use Rattle.sch_word.proofs.facts.Booleans.{and_left, and_right}
 use Rattle.sch_flat.specs.Tree.{Tree, Trees, Variable, bound, free, constant, literal, variable, operation, no_trees, and_tree, count}
 use Rattle.sch_flat.specs.Meaning as from
-use Rattle.sch_flat.specs.Meaning.{Closure, value_in, and_values}
+use Rattle.sch_flat.specs.Meaning.{value_in, and_values}
+use Rattle.sch_word.specs.runs.Procedures.{Procedure}
 use Rattle.sch_flat.specs.Valid.{is_known}
 use Rattle.sch_control.specs.declared.operation.Atom.TheVariants as atom
 use Rattle.sch_control.specs.declared.operation.Operand.TheVariants as operand
@@ -81,13 +82,13 @@ filled_below (and_tree e es) n m (w ∷ ws) f g l b h =
 filled_below no_trees n m (w ∷ ws) f g l b h = absurd h
 filled_below (and_tree e es) n m [] f g l b h = absurd h
 
-module _ (a : Setting) (start : State Closure) (fields : ℕ) where
+module _ (a : Setting) (start : State Procedure) (fields : ℕ) where
   -- Each variable of a flat body is bound below n and has its value in the other environment; so has each field of
   -- the closure in variable 1, in every state that is reached.
   pub record Agrees (names : List ℕ) (scope : Scope) (n : ℕ) (h : from.Environment) (environment : to.Environment) : Type 0 where
     pub two : 2 ≤ n
     pub at : (x : ℕ) → has x names ≡ true → (number_of scope x < n) × (environment (number_of scope x) ≡ Some (value_of x h.variables))
-    pub field : (k : ℕ) → nat_lt k fields ≡ true → (s : State Closure) → Reached a start s → field (environment 1) k (images a.starts s.procedures) ≡ Some (value_or (slice_get h.fields k))
+    pub field : (k : ℕ) → nat_lt k fields ≡ true → (s : State Procedure) → Reached a start s → field (environment 1) k (images a.starts s.procedures) ≡ Some (value_or (slice_get h.fields k))
 
   pub agrees_below : (names : List ℕ) (scope : Scope) (n m : ℕ) (h : from.Environment) (f g : to.Environment) → n ≤ m → Below n f g → Agrees names scope n h f → Agrees names scope m h g
   agrees_below names scope n m h f g l b w = record {
@@ -121,14 +122,14 @@ module _ (a : Setting) (start : State Closure) (fields : ℕ) where
   -- ## Variables
 
   pub source_given : (names : List ℕ) (scope : Scope) (n : ℕ) (h : from.Environment) (environment : to.Environment) (v : Variable) → is_known names fields v ≡ true
-      → Agrees names scope n h environment → (s : State Closure) → Reached a start s
+      → Agrees names scope n h environment → (s : State Procedure) → Reached a start s
       → source_value environment (state_of a.starts s) (source_of scope v) ≡ Some (value_in h v)
   source_given names scope n h environment (bound x) f w s r = (w.at x f).1
   source_given names scope n h environment (free k) f w s r = w.field k f s r
 
   -- ## Simple parts
 
-  literal_given : (k : ℕ) (v : Value) (s : State Closure) → slice_get s.store.constants.literals k ≡ Some v → in_store (read_literal k) s ≡ gives v s
+  literal_given : (k : ℕ) (v : Value) (s : State Procedure) → slice_get s.store.constants.literals k ≡ Some v → in_store (read_literal k) s ≡ gives v s
   literal_given k v s e = rw e refl
 
   unary_given : (us : List Value) (row : Value → Action Value) (t : Store) → length us ≡ 1 → ((u : Value) → (v : Value) × (row u t ≡ gives v t)) → (v : Value) × (unary us row t ≡ gives v t)
@@ -159,13 +160,13 @@ module _ (a : Setting) (start : State Closure) (fields : ℕ) where
   read_given _ us t r l = absurd (cc)
 
   module _ (enter : from.Enter) (names : List ℕ) (scope : Scope) (h : from.Environment) (environment : to.Environment) (depth : ℕ) where
-    abbrev value : Tree → State Closure → Outcome (State Closure) Value
+    abbrev value : Tree → State Procedure → Outcome (State Procedure) Value
     value e = from.evaluate a.orders enter e h depth false
 
-    abbrev values : Trees → List (State Closure → Outcome (State Closure) Value)
+    abbrev values : Trees → List (State Procedure → Outcome (State Procedure) Value)
     values es = from.each a.orders enter es h depth
 
-    atom_given : (n : ℕ) (e : Tree) → is_atom e ≡ true → Fine a fields e names → Agrees names scope n h environment → (s : State Closure) → Reached a start s
+    atom_given : (n : ℕ) (e : Tree) → is_atom e ≡ true → Fine a fields e names → Agrees names scope n h environment → (s : State Procedure) → Reached a start s
         → (u : Value) × (value e s ≡ gives u s) × (atom_value environment s.store (atom_of scope e) ≡ Some u)
     atom_given n (constant c) i f w s r = (constant_value c, refl, refl)
     atom_given n (literal k) i f w s r =
@@ -175,7 +176,7 @@ module _ (a : Setting) (start : State Closure) (fields : ℕ) where
     atom_given n (variable (bound x)) i f w s r = (value_of x h.variables, refl, (w.at x f).1)
     atom_given n _ i f w s r = absurd (cc)
 
-    atoms_given : (n : ℕ) (es : Trees) → are_atoms es ≡ true → FineEach a fields es names → Agrees names scope n h environment → (s : State Closure) → Reached a start s
+    atoms_given : (n : ℕ) (es : Trees) → are_atoms es ≡ true → FineEach a fields es names → Agrees names scope n h environment → (s : State Procedure) → Reached a start s
         → (us : List Value) × Parts s (values es) (blanks (values es)) us (simples es) × (atom_values environment s.store (atoms_of scope es) ≡ Some us) × (length us ≡ count es)
     atoms_given n no_trees i f w s r = ([], no_parts, refl, refl)
     atoms_given n (and_tree e es) i f w s r =
@@ -189,15 +190,15 @@ module _ (a : Setting) (start : State Closure) (fields : ℕ) where
     atoms_first (and_tree e es) place last i =
         rw (atom_simple e (and_left (is_atom e) (are_atoms es) i)) (atoms_first es (suc place) last (and_right (is_atom e) (are_atoms es) i))
 
-    read_done : (which : Primitive) (us : List Value) (u : Value) (s : State Closure) → primitive which us s.store ≡ gives u s.store → in_store (primitive which us) s ≡ gives u s
+    read_done : (which : Primitive) (us : List Value) (u : Value) (s : State Procedure) → primitive which us s.store ≡ gives u s.store → in_store (primitive which us) s ≡ gives u s
     read_done which us u s e = rw e refl
 
-    pub simple_given : (n : ℕ) (e : Tree) → is_simple e ≡ true → Fine a fields e names → Agrees names scope n h environment → (s : State Closure) → Reached a start s
+    pub simple_given : (n : ℕ) (e : Tree) → is_simple e ≡ true → Fine a fields e names → Agrees names scope n h environment → (s : State Procedure) → Reached a start s
         → (u : Value) × (value e s ≡ gives u s) × (operand_value environment s.store (simple_operand scope e) ≡ Some u)
     simple_given n (operation site which es) i f w s r =
         let atoms = and_right (only_reads which) (are_atoms es) i in
         let known = atoms_given n es atoms f.2 w s r in
-        let order = operands_rest (State Closure) es (a.orders site) f.0 in
+        let order = operands_rest (State Procedure) es (a.orders site) f.0 in
         let only_rest : a.orders site ≡ order.rest = order.is ∙ atoms_first es 0 order.rest atoms in
         let done : in_order (a.orders site) (values es) (blanks (values es)) s ≡ gives known.0 s = rw only_rest (order.settles known.1) in
         let found = read_given which known.0 s.store (and_left (only_reads which) (are_atoms es) i) (known.3 ∙ f.1) in
@@ -207,15 +208,15 @@ module _ (a : Setting) (start : State Closure) (fields : ℕ) where
     -- ## Parts, once those that are not simple are bound
 
     -- the value that a part has in the end
-    pub part_given : (m n : ℕ) (e : Tree) (w : Value) (b : Bool) → is_simple e ≡ b → Fine a fields e names → Agrees names scope m h environment → (s : State Closure) → Reached a start s
+    pub part_given : (m n : ℕ) (e : Tree) (w : Value) (b : Bool) → is_simple e ≡ b → Fine a fields e names → Agrees names scope m h environment → (s : State Procedure) → Reached a start s
         → (b ≡ false → environment n ≡ Some w)
-        → (u : Value) × ((cs : List (State Closure → Outcome (State Closure) Value)) (ws us : List Value) (simple : List Bool) → Parts s cs ws us simple
+        → (u : Value) × ((cs : List (State Procedure → Outcome (State Procedure) Value)) (ws us : List Value) (simple : List Bool) → Parts s cs ws us simple
         → Parts s (value e ∷ cs) (w ∷ ws) (u ∷ us) (b ∷ simple))
         × (operand_value environment s.store (cond b (simple_operand scope e) (operand.Atom (atom.Variable n))) ≡ Some u)
     part_given m n e w true i f k s r h = let g = simple_given m e i f k s r in (g.0, λ cs ws us simple parts. and_simple g.1 parts, g.2)
     part_given m n e w false i f k s r h = (w, λ cs ws us simple parts. and_bound parts, h refl)
 
-    pub parts_given : (m n : ℕ) (es : Trees) (ws : List Value) → FineEach a fields es names → Agrees names scope m h environment → (s : State Closure) → Reached a start s → Filled es n ws environment
+    pub parts_given : (m n : ℕ) (es : Trees) (ws : List Value) → FineEach a fields es names → Agrees names scope m h environment → (s : State Procedure) → Reached a start s → Filled es n ws environment
         → (us : List Value) × Parts s (values es) ws us (simples es) × (operand_values environment s.store (operands_at scope es n) ≡ Some us)
     parts_given m n no_trees [] f k s r l = ([], no_parts, refl)
     parts_given m n (and_tree e es) (w ∷ ws) f k s r l =

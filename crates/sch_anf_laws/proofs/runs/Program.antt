@@ -17,7 +17,7 @@ use Rattle.sch_word.proofs.facts.Booleans.{and_left, and_right}
 use Rattle.sch_word.proofs.facts.Lists.{each_at, get_there}
 use Rattle.sch_flat.specs.Tree.{Tree, Body, Source, count}
 use Rattle.sch_flat.specs.Measures.{over, over_each, over_bodies, over_source, sites_of}
-use Rattle.sch_flat.specs.Meaning.{Closure}
+use Rattle.sch_word.specs.runs.Procedures.{Procedure, library_procedures}
 use Rattle.sch_flat.specs.Valid.{has_fields, body_scoped, scoped_each, is_closed, is_formed, in_order, sited, ascending, body_fits, forms_fit}
 use Rattle.sch_flat.specs.Run as flat
 use Rattle.sch_control.specs.Meaning.{Result}
@@ -29,7 +29,7 @@ use Rattle.sch_anf_laws.specs.SameRun.{SameRun}
 use Rattle.sch_anf_laws.proofs.runs.Worlds.{Setting, Reached, Same, images, is_procedure_of}
 use Rattle.sch_anf_laws.proofs.runs.Fine.{Fine, FineEach}
 use Rattle.sch_anf_laws.proofs.runs.Bodies.{stands_at}
-use Rattle.sch_anf_laws.proofs.runs.Ready.{Every, every_left, every_right, sites_in, sites_in_each, Ordered, ordered, ordered_each, fine, fine_each}
+use Rattle.sch_anf_laws.proofs.runs.Ready.{Every, every_left, every_right, Ordered, ordered, ordered_each, fine, fine_each, all_sites, all_sites_each}
 use Rattle.sch_anf_laws.proofs.runs.Sites.{widths, rows_found, ordered_at}
 use Rattle.sch_anf_laws.proofs.runs.Runs.{forms_same}
 
@@ -88,13 +88,13 @@ module _ (p : Source) (closed : is_closed p ≡ true) (formed : is_formed p ≡ 
   ordered_bodies (x ∷ bodies) zero b s r e =
       let m : x ≡ b = cc in
       subst (λ (z : Body). Ordered (order_at table) z.code) m
-      (ordered (order_at table) Width Found (λ site width parts w f. ordered_at p table fitting site width parts w f) x.code (every_left Width (sites_in x.code) (sites_bodies bodies) s)
+      (ordered (order_at table) Width Found (λ site width parts w f. ordered_at p table fitting site width parts w f) x.code (every_left Width (all_sites x.code) (sites_bodies bodies) s)
       (every_left Found (bound_rows x.code) (bound_rows_bodies bodies) r))
   ordered_bodies (x ∷ bodies) (suc label) b s r e =
-      ordered_bodies bodies label b (every_right Width (sites_in x.code) (sites_bodies bodies) s) (every_right Found (bound_rows x.code) (bound_rows_bodies bodies) r) e
+      ordered_bodies bodies label b (every_right Width (all_sites x.code) (sites_bodies bodies) s) (every_right Found (bound_rows x.code) (bound_rows_bodies bodies) r) e
 
-  all_sites : Every Width (sites_of p)
-  all_sites = widths p.sites (sites_of p) once
+  sites_wide : Every Width (sites_of p)
+  sites_wide = widths p.sites (sites_of p) once
 
   all_rows : Every Found (bound_rows_source p)
   all_rows = rows_found p once
@@ -112,7 +112,7 @@ module _ (p : Source) (closed : is_closed p ≡ true) (formed : is_formed p ≡ 
       (at_body (names_known (length p.statics.symbols) (count_literals p.statics.literals) (length p.statics.globals)) p.bodies label b
       (and_left _ (over_each true (λ x y. x && y) (names_known (length p.statics.symbols) (count_literals p.statics.literals) (length p.statics.globals)) p.forms) names_good) e)
       (at_body well_formed p.bodies label b (and_left _ (over_each true (λ x y. x && y) well_formed p.forms) well_good) e)
-      (ordered_bodies p.bodies label b (every_left Width (sites_bodies p.bodies) (sites_in_each p.forms) all_sites)
+      (ordered_bodies p.bodies label b (every_left Width (sites_bodies p.bodies) (all_sites_each p.forms) sites_wide)
       (every_left Found (bound_rows_bodies p.bodies) (bound_rows_each p.forms) all_rows) e)
 
   forms_fine : FineEach a 0 p.forms []
@@ -122,23 +122,23 @@ module _ (p : Source) (closed : is_closed p ≡ true) (formed : is_formed p ≡ 
       (and_right (over_bodies true (λ x y. x && y) (names_known (length p.statics.symbols) (count_literals p.statics.literals) (length p.statics.globals)) p.bodies) _ names_good)
       (and_right (over_bodies true (λ x y. x && y) well_formed p.bodies) _ well_good)
       (ordered_each (order_at table) Width Found (λ site width parts w f. ordered_at p table fitting site width parts w f) p.forms
-      (every_right Width (sites_bodies p.bodies) (sites_in_each p.forms) all_sites) (every_right Found (bound_rows_bodies p.bodies) (bound_rows_each p.forms) all_rows))
+      (every_right Width (sites_bodies p.bodies) (all_sites_each p.forms) sites_wide) (every_right Found (bound_rows_bodies p.bodies) (bound_rows_each p.forms) all_rows))
 
   places : length p.starts ≡ count p.forms
   places = eqb-true (length p.starts) (count p.forms) (and_left (nat_eq (length p.starts) (count p.forms)) (ascending 0 (length p.bodies) p.starts) ascends)
 
-  library_known : (labels : List ℕ) → list_all (λ label. has_fields (slice_get p.bodies label) 0) labels ≡ true → list_all (is_procedure_of p.bodies) (flat.library_closures labels) ≡ true
+  library_known : (labels : List ℕ) → list_all (λ label. has_fields (slice_get p.bodies label) 0) labels ≡ true → list_all (is_procedure_of p.bodies) (library_procedures labels) ≡ true
   library_known [] h = refl
   library_known (l ∷ labels) h =
       rw (and_left (has_fields (slice_get p.bodies l) 0) (list_all (λ label. has_fields (slice_get p.bodies label) 0) labels) h)
       (library_known labels (and_right (has_fields (slice_get p.bodies l) 0) (list_all (λ label. has_fields (slice_get p.bodies label) 0) labels) h))
 
-  library_same : (labels : List ℕ) → images p.starts (flat.library_closures labels) ≡ control.library_procedures (map (new_label p.starts) labels)
+  library_same : (labels : List ℕ) → images p.starts (library_procedures labels) ≡ library_procedures (map (new_label p.starts) labels)
   library_same [] = refl
   library_same (l ∷ labels) = ap (λ ps. record { label = new_label p.starts l; fields = [] } ∷ ps) (library_same labels)
 
-  abbrev first_state : List Answer → ℕ → State Closure
-  first_state answers entries = starting_state (starting_store p.statics heap answers entries) (flat.library_closures p.library)
+  abbrev first_state : List Answer → ℕ → State Procedure
+  first_state answers entries = starting_state (starting_store p.statics heap answers entries) (library_procedures p.library)
 
   started : (answers : List Answer) (entries : ℕ) → Reached a (first_state answers entries) (first_state answers entries)
   started answers entries = record {
@@ -147,7 +147,7 @@ module _ (p : Source) (closed : is_closed p ≡ true) (formed : is_formed p ≡ 
     known = library_known p.library (and_right forms_scoped library_scoped (and_right (list_all (body_scoped p.bodies) p.bodies) (forms_scoped && library_scoped) closed));
   }
 
-  same_seen : (answers : List Answer) (entries : ℕ) (s : State Closure) (o : Outcome (State Closure) Value) (r : Result) → Same a s (on_value o (λ v t. gives unspecified t)) r
+  same_seen : (answers : List Answer) (entries : ℕ) (s : State Procedure) (o : Outcome (State Procedure) Value) (r : Result) → Same a s (on_value o (λ v t. gives unspecified t)) r
       → control.seen_of answers entries r ≡ Some (seen answers entries o)
   same_seen answers entries s (gives v t) r h = ap (λ r. control.seen_of answers entries r) h.1
   same_seen answers entries s (stops why t) r h = ap (λ r. control.seen_of answers entries r) h.1 ∙ rw h.2 refl

@@ -33,11 +33,11 @@ pub every_of : {A : Type 0} (f : A → Bool) (xs : List A) → list_all f xs ≡
 every_of f [] h = tt
 every_of f (x ∷ xs) h = (and_left (f x) (list_all f xs) h, every_of f xs (and_right (f x) (list_all f xs) h))
 
-abbrev pub sites_in : Tree → List (ℕ × ℕ)
-sites_in = over [] (λ x y. x ++ y) shapes.site_of
+abbrev pub all_sites : Tree → List (ℕ × ℕ)
+all_sites = over [] (λ x y. x ++ y) shapes.site_of
 
-abbrev pub sites_in_each : Trees → List (ℕ × ℕ)
-sites_in_each = over_each [] (λ x y. x ++ y) shapes.site_of
+abbrev pub all_sites_each : Trees → List (ℕ × ℕ)
+all_sites_each = over_each [] (λ x y. x ++ y) shapes.site_of
 
 -- each site of a tree has its order
 module _ (orders : ℕ → List ℕ) where
@@ -67,7 +67,7 @@ module _ (orders : ℕ → List ℕ) where
   module _ (Width : ℕ × ℕ → Type 0) (Found : ℕ × List ℕ → Type 0)
       (ordered_at : (site width : ℕ) (parts : List ℕ) → Width (site, width) → Found (site, parts) → FitsSite width parts (orders site)) where
     mutual
-      pub ordered : (e : Tree) → Every Width (sites_in e) → Every Found (bound_rows e) → Ordered e
+      pub ordered : (e : Tree) → Every Width (all_sites e) → Every Found (bound_rows e) → Ordered e
       ordered (constant c) s r = tt
       ordered (literal k) s r = tt
       ordered (variable v) s r = tt
@@ -75,35 +75,35 @@ module _ (orders : ℕ → List ℕ) where
       ordered (set_global g e) s r = ordered e s r
       ordered (define g e) s r = ordered e s r
       ordered (branch x y z) s r = (
-        ordered x (every_left Width (sites_in x) (sites_in y ++ sites_in z) s) (every_left Found (bound_rows x) (bound_rows y ++ bound_rows z) r),
-        ordered y (every_left Width (sites_in y) (sites_in z) (every_right Width (sites_in x) (sites_in y ++ sites_in z) s))
+        ordered x (every_left Width (all_sites x) (all_sites y ++ all_sites z) s) (every_left Found (bound_rows x) (bound_rows y ++ bound_rows z) r),
+        ordered y (every_left Width (all_sites y) (all_sites z) (every_right Width (all_sites x) (all_sites y ++ all_sites z) s))
             (every_left Found (bound_rows y) (bound_rows z) (every_right Found (bound_rows x) (bound_rows y ++ bound_rows z) r)),
-        ordered z (every_right Width (sites_in y) (sites_in z) (every_right Width (sites_in x) (sites_in y ++ sites_in z) s))
+        ordered z (every_right Width (all_sites y) (all_sites z) (every_right Width (all_sites x) (all_sites y ++ all_sites z) s))
             (every_right Found (bound_rows y) (bound_rows z) (every_right Found (bound_rows x) (bound_rows y ++ bound_rows z) r)),
       )
       ordered (sequence es) s r = ordered_each es s r
       ordered (bind site first es e) s r = (
         ordered_at site (count es) (numbers 0 (count es)) s.0 r.0,
-        ordered_each es (every_left Width (sites_in_each es) (sites_in e) s.1) (every_left Found (bound_rows_each es) (bound_rows e) r.1),
-        ordered e (every_right Width (sites_in_each es) (sites_in e) s.1) (every_right Found (bound_rows_each es) (bound_rows e) r.1),
+        ordered_each es (every_left Width (all_sites_each es) (all_sites e) s.1) (every_left Found (bound_rows_each es) (bound_rows e) r.1),
+        ordered e (every_right Width (all_sites_each es) (all_sites e) s.1) (every_right Found (bound_rows_each es) (bound_rows e) r.1),
       )
       ordered (make_closure m) s r = tt
       ordered (fix_closures first ms e) s r = ordered e s r
       ordered (call site spread f es) s r = (
         ordered_at site (suc (count es)) (bound_places 1 es (operator_place f)) s.0 r.0,
-        ordered f (every_left Width (sites_in f) (sites_in_each es) s.1) (every_left Found (bound_rows f) (bound_rows_each es) r.1),
-        ordered_each es (every_right Width (sites_in f) (sites_in_each es) s.1) (every_right Found (bound_rows f) (bound_rows_each es) r.1),
+        ordered f (every_left Width (all_sites f) (all_sites_each es) s.1) (every_left Found (bound_rows f) (bound_rows_each es) r.1),
+        ordered_each es (every_right Width (all_sites f) (all_sites_each es) s.1) (every_right Found (bound_rows f) (bound_rows_each es) r.1),
       )
       ordered (operation site which es) s r = (ordered_at site (count es) (bound_places 0 es []) s.0 r.0, ordered_each es s.1 r.1)
       ordered (new_cells cs e) s r = ordered e s r
       ordered (cell_get v) s r = tt
       ordered (cell_set v e) s r = ordered e s r
 
-      pub ordered_each : (es : Trees) → Every Width (sites_in_each es) → Every Found (bound_rows_each es) → OrderedEach es
+      pub ordered_each : (es : Trees) → Every Width (all_sites_each es) → Every Found (bound_rows_each es) → OrderedEach es
       ordered_each no_trees s r = tt
       ordered_each (and_tree e es) s r = (
-        ordered e (every_left Width (sites_in e) (sites_in_each es) s) (every_left Found (bound_rows e) (bound_rows_each es) r),
-        ordered_each es (every_right Width (sites_in e) (sites_in_each es) s) (every_right Found (bound_rows e) (bound_rows_each es) r),
+        ordered e (every_left Width (all_sites e) (all_sites_each es) s) (every_left Found (bound_rows e) (bound_rows_each es) r),
+        ordered_each es (every_right Width (all_sites e) (all_sites_each es) s) (every_right Found (bound_rows e) (bound_rows_each es) r),
       )
 
 -- ## What a run rests on

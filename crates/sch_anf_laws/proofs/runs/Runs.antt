@@ -5,6 +5,7 @@ use Rattle.std.specs.List.{list_all}
 use Rattle.std.proofs.lemmas.Bool.{eqb-true, ltb-true}
 use Rattle.std.proofs.lemmas.List.{length-map}
 use Rattle.std.proofs.lemmas.Option.{slice_get-map}
+use Rattle.sch_anf_laws.proofs.valid.Parts.{entry_for}
 use Rattle.sch_word.specs.values.Values.{Value, unspecified, procedure}
 use Rattle.sch_word.specs.runs.Store.{Store}
 use Rattle.sch_word.specs.trees.Bindings.{numbers, scope_with, with_variables, value_or}
@@ -18,7 +19,7 @@ use Rattle.sch_word.proofs.facts.NumberSets.{numbers_length}
 use Rattle.sch_word.proofs.facts.Lists.{get_seam}
 use Rattle.sch_flat.specs.Tree.{Tree, Trees, Body, no_trees, and_tree, count}
 use Rattle.sch_flat.specs.Meaning as from
-use Rattle.sch_flat.specs.Meaning.{Closure}
+use Rattle.sch_word.specs.runs.Procedures.{Procedure}
 use Rattle.sch_flat.specs.Valid.{has_fields}
 use Rattle.sch_flat.specs.Run as flat
 use Rattle.sch_word.specs.declared.mark.MarkKind.{MarkKind}
@@ -57,11 +58,11 @@ field_there (v ∷ vs) zero l = refl
 field_there (v ∷ vs) (suc k) l = field_there vs k (omega (arith, l))
 
 -- the closure that was entered has its fields in every state that is reached
-fields_given : (a : Setting) (start s : State Closure) (i k : ℕ) (c : Closure) → Reached a start s → slice_get start.procedures i ≡ Some c → k < length c.fields
+fields_given : (a : Setting) (start s : State Procedure) (i k : ℕ) (c : Procedure) → Reached a start s → slice_get start.procedures i ≡ Some c → k < length c.fields
     → field (Some (procedure i)) k (images a.starts s.procedures) ≡ Some (value_or (slice_get c.fields k))
 fields_given a start s i k c r e l = rw (slice_get-map (image a.starts) s.procedures i, r.kept i c e) (field_there c.fields k l)
 
-begins_agreeing : (a : Setting) (start : State Closure) (b : Body) (c : Closure) (i : ℕ) (ws : List Value) → slice_get start.procedures i ≡ Some c → length c.fields ≡ b.fields → length ws ≡ b.formals
+begins_agreeing : (a : Setting) (start : State Procedure) (b : Body) (c : Procedure) (i : ℕ) (ws : List Value) → slice_get start.procedures i ≡ Some c → length c.fields ≡ b.fields → length ws ≡ b.formals
     → Agrees a start b.fields (scope_with b.first b.formals []) (with_variables b.first (numbers 2 b.formals) []) (2 + b.formals) (from.entered b ws c.fields) (entry_environment (procedure i) ws)
 begins_agreeing a start b c i ws e f l =
     agrees_with a start b.fields [] [] (2 + b.formals) (record { variables = []; fields = c.fields }) (entry_environment (procedure i) ws) b.first b.formals (numbers 2 b.formals) ws
@@ -78,7 +79,7 @@ taken_grows (suc n) t e = quiet t (record t { entries = n }) refl refl refl (ome
 
 -- ## Entering
 
-ends_there : (o : Outcome (State Closure) Value) → on_value o (λ v s. gives v s) ≡ o
+ends_there : (o : Outcome (State Procedure) Value) → on_value o (λ v s. gives v s) ≡ o
 ends_there (gives v s) = refl
 ends_there (stops why s) = refl
 ends_there (spent s) = refl
@@ -100,7 +101,7 @@ module _ (a : Setting) (codes : List Code)
       go (y ∷ cs) zero e = let m : y ≡ x = cc in ap (λ (z : Code). z.entry) m
       go (y ∷ cs) (suc label) e = go cs label e
 
-  body_same : (n : ℕ) → SameEnter a (from_enter n) (to_enter n) → (start s : State Closure) (marks : List MarkKind) (i : ℕ) (c : Closure) (b : Body) (ws : List Value) (left : ℕ)
+  body_same : (n : ℕ) → SameEnter a (from_enter n) (to_enter n) → (start s : State Procedure) (marks : List MarkKind) (i : ℕ) (c : Procedure) (b : Body) (ws : List Value) (left : ℕ)
       → Reached a start s → slice_get start.procedures i ≡ Some c
       → slice_get a.bodies c.label ≡ Some b → length c.fields ≡ b.fields → length ws ≡ b.formals
       → Same a start (from.evaluate a.orders (from_enter n) b.code (from.entered b ws c.fields) left true s)
@@ -118,14 +119,11 @@ module _ (a : Setting) (codes : List Code)
         link = λ h. (unspecified, refl);
       }))
 
-  abbrev entry_of : Body → Entry
-  entry_of b = record { formals = b.formals; rest = b.rest; fields = b.fields }
-
-  entered_same : (n : ℕ) → SameEnter a (from_enter n) (to_enter n) → (s : State Closure) (marks : List MarkKind) (i : ℕ) (c : Closure) (b : Body) (vs : List Value) (left : ℕ) → Reached a s s
+  entered_same : (n : ℕ) → SameEnter a (from_enter n) (to_enter n) → (s : State Procedure) (marks : List MarkKind) (i : ℕ) (c : Procedure) (b : Body) (vs : List Value) (left : ℕ) → Reached a s s
       → slice_get s.procedures i ≡ Some c → slice_get a.bodies c.label ≡ Some b → length c.fields ≡ b.fields
       → Same a s (from.with_body (Some b) (λ b. computation.after (in_store (fit b.formals b.rest vs))
       (λ ws. computation.after (in_store take_entry) (λ _. from.evaluate a.orders (from_enter n) b.code (from.entered b ws c.fields) left true))) s)
-      (control.enter_body (bodies_of codes) (to_enter n) (Some (entry_of b)) (procedure i) (image a.starts c) vs left (world_of a.starts s marks))
+      (control.enter_body (bodies_of codes) (to_enter n) (Some (entry_for b)) (procedure i) (image a.starts c) vs left (world_of a.starts s marks))
   entered_same n entering s marks i c b vs left r e body f =
       same_promised a (λ ws. length ws ≡ b.formals) s s (fit b.formals b.rest vs s.store) marks
       (λ ws. computation.after (in_store take_entry) (λ _. from.evaluate a.orders (from_enter n) b.code (from.entered b ws c.fields) left true))
@@ -144,11 +142,11 @@ module _ (a : Setting) (codes : List Code)
       (reached_store a s s s.cells t' r q') e body f l)))
 
   -- the body of a procedure that a state has
-  procedure_known : (s : State Closure) (i : ℕ) (c : Closure) → list_all (is_procedure_of a.bodies) s.procedures ≡ true → slice_get s.procedures i ≡ Some c
+  procedure_known : (s : State Procedure) (i : ℕ) (c : Procedure) → list_all (is_procedure_of a.bodies) s.procedures ≡ true → slice_get s.procedures i ≡ Some c
       → (b : Body) × (slice_get a.bodies c.label ≡ Some b) × (length c.fields ≡ b.fields)
   procedure_known s i c k e = found (slice_get a.bodies c.label) refl (each s.procedures i c k e)
     where
-      each : (cs : List Closure) (i : ℕ) (c : Closure) → list_all (is_procedure_of a.bodies) cs ≡ true → slice_get cs i ≡ Some c → is_procedure_of a.bodies c ≡ true
+      each : (cs : List Procedure) (i : ℕ) (c : Procedure) → list_all (is_procedure_of a.bodies) cs ≡ true → slice_get cs i ≡ Some c → is_procedure_of a.bodies c ≡ true
       each [] i c k e = absurd (cc)
       each (d ∷ cs) zero c k e = let m : d ≡ c = cc in subst (λ x. is_procedure_of a.bodies x ≡ true) m (and_left (is_procedure_of a.bodies d) (list_all (is_procedure_of a.bodies) cs) k)
       each (d ∷ cs) (suc i) c k e = each cs i c (and_right (is_procedure_of a.bodies d) (list_all (is_procedure_of a.bodies) cs) k) e
@@ -174,7 +172,7 @@ module _ (a : Setting) (codes : List Code)
   -- ## Forms
 
   -- a top-level form, for what it does
-  form_same : (n depth : ℕ) (e : Tree) (s : State Closure) (marks : List MarkKind) → Fine a 0 e [] → Reached a s s
+  form_same : (n depth : ℕ) (e : Tree) (s : State Procedure) (marks : List MarkKind) → Fine a 0 e [] → Reached a s s
       → Same a s (on_value (from.evaluate a.orders (from_enter n) e flat.top_level depth false s) (λ v t. gives unspecified t))
       (do_body plain (to_enter n) depth (form_code a.starts e).expression nothing (world_of a.starts s marks))
   form_same n depth e s marks f r =
@@ -183,13 +181,13 @@ module _ (a : Setting) (codes : List Code)
       (record { two = omega arith; at = λ x h. absurd (cc); field = λ k h t q. let m = ltb-true k 0 h in absurd (omega (arith, m)) }) r
       (record { follows = λ v t after m q b. (m, refl, q); whole = λ h. absurd (cc); link = λ h. absurd (cc) })
 
-  abbrev pub dropping : Outcome (State Closure) Value → Outcome (State Closure) Value
+  abbrev pub dropping : Outcome (State Procedure) Value → Outcome (State Procedure) Value
   dropping o = on_value o (λ v t. gives unspecified t)
 
   -- after a form comes the next one
-  next_form : (s : State Closure) (o : Outcome (State Closure) Value) (r : Result) (k : Value → State Closure → Outcome (State Closure) Value) (next : World → Result) → Reached a s s
+  next_form : (s : State Procedure) (o : Outcome (State Procedure) Value) (r : Result) (k : Value → State Procedure → Outcome (State Procedure) Value) (next : World → Result) → Reached a s s
       → Same a s (dropping o) r
-      → ((v : Value) (t : State Closure) (marks : List MarkKind) → Reached a t t → Same a t (dropping (k v t)) (next (world_of a.starts t marks)))
+      → ((v : Value) (t : State Procedure) (marks : List MarkKind) → Reached a t t → Same a t (dropping (k v t)) (next (world_of a.starts t marks)))
       → Same a s (dropping (on_value o k)) (on_return r (λ v w. next w))
   next_form s (gives v t) r k next q h g =
       subst (λ r. Same a s (dropping (k v t)) (on_return r (λ v w. next w))) (sym h.1) (same_from a s t (dropping (k v t)) (next (world_of a.starts t h.0)) h.2 (g v t h.0 (reached_self a s t h.2)))
@@ -207,7 +205,7 @@ module _ (a : Setting) (codes : List Code)
   passed_over (b ∷ bodies) more label n depth w = passed_over bodies more (suc label) n depth w ∙ ap (λ l. do_forms (entries_of more) l (bodies_of codes) (to_enter n) depth w) (omega arith)
 
   abbrev pub FormsClaim : Trees → List ℕ → List Body → ℕ → Type 0
-  FormsClaim es places bodies before = (n depth label : ℕ) (done : List Code) (v : Value) (s : State Closure) (marks : List MarkKind) → FineEach a 0 es []
+  FormsClaim es places bodies before = (n depth label : ℕ) (done : List Code) (v : Value) (s : State Procedure) (marks : List MarkKind) → FineEach a 0 es []
       → codes ≡ done ++ normal_bodies a.starts before bodies es places → label ≡ length done → Reached a s s
       → Same a s (dropping (in_turn (from.each a.orders (from_enter n) es flat.top_level depth) v s))
       (do_forms (entries_of (normal_bodies a.starts before bodies es places)) label (bodies_of codes) (to_enter n) depth (world_of a.starts s marks))

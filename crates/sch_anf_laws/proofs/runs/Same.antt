@@ -21,7 +21,7 @@ use Rattle.sch_word.proofs.facts.Booleans.{and_left, and_right}
 use Rattle.sch_word.proofs.facts.Lists.{get_seam, get_grown}
 use Rattle.sch_flat.specs.Tree.{Tree, Trees, Variable, bound, free, Made, NewCell, constant, literal, variable, global, set_global, define, branch, sequence, bind, make_closure, fix_closures, call, operation, new_cells, cell_get, cell_set, no_trees, and_tree, count}
 use Rattle.sch_flat.specs.Meaning as from
-use Rattle.sch_flat.specs.Meaning.{Closure, value_in, values_in, and_values, closure, closures, closures_bytes}
+use Rattle.sch_flat.specs.Meaning.{value_in, values_in, and_values, closure, closures, closures_bytes}
 use Rattle.sch_flat.specs.Valid.{is_known, is_content, is_made, has_fields, cells_scope}
 use Rattle.sch_word.specs.declared.mark.MarkKind.{MarkKind}
 use Rattle.sch_word.specs.declared.mark.MarkKind.TheVariants.{Call, Return, Tail}
@@ -34,7 +34,8 @@ use Rattle.sch_control.specs.declared.operation.Operation.TheVariants as does
 use Rattle.sch_control.specs.declared.operation.Application.{Application}
 use Rattle.sch_control.specs.Tree.{Expression}
 use Rattle.sch_control.specs.Tree as tree
-use Rattle.sch_control.specs.Operations.{Procedure, operand_value, part_values, source_values, operate, members_made, member_bytes, with_procedures}
+use Rattle.sch_control.specs.Operations.{operand_value, part_values, source_values, operate, members_made, member_bytes, with_procedures}
+use Rattle.sch_word.specs.runs.Procedures.{Procedure}
 use Rattle.sch_control.specs.Operations as operations
 use Rattle.sch_control.specs.Sizes.{is_bare_atom}
 use Rattle.sch_control.specs.Meaning as to
@@ -67,21 +68,21 @@ rest_after cells ps (gives v t) f = refl
 rest_after cells ps (stops why t) f = refl
 rest_after cells ps (spent t) f = refl
 
-module _ (a : Setting) (start : State Closure) (fields : ℕ) (enter : from.Enter) (callee : Callee) (same_enter : SameEnter a enter callee) (depth : ℕ) where
-  abbrev pub value : Tree → from.Environment → Bool → State Closure → Outcome (State Closure) Value
+module _ (a : Setting) (start : State Procedure) (fields : ℕ) (enter : from.Enter) (callee : Callee) (same_enter : SameEnter a enter callee) (depth : ℕ) where
+  abbrev pub value : Tree → from.Environment → Bool → State Procedure → Outcome (State Procedure) Value
   value e h tail s = from.evaluate a.orders enter e h depth tail s
 
-  abbrev values : Trees → from.Environment → List (State Closure → Outcome (State Closure) Value)
+  abbrev values : Trees → from.Environment → List (State Procedure → Outcome (State Procedure) Value)
   values es h = from.each a.orders enter es h depth
 
   abbrev pub result : Expression → to.Environment → (saved : to.Environment) → World → Then → Result
   result x environment saved w next = to.evaluate plain callee depth x no_region environment saved w next
 
-  abbrev pub world : State Closure → List MarkKind → World
+  abbrev pub world : State Procedure → List MarkKind → World
   world s marks = world_of a.starts s marks
 
   abbrev pub Next : Type 0 → Type 0
-  Next V = V → State Closure → Outcome (State Closure) Value
+  Next V = V → State Procedure → Outcome (State Procedure) Value
 
   -- what a value is followed by: the return of the procedure, or what comes next
   abbrev pub ends : (tail : Bool) → Then → Then
@@ -91,9 +92,9 @@ module _ (a : Setting) (start : State Closure) (fields : ℕ) (enter : from.Ente
   -- What follows on both sides does the same, at each value, each state that is reached, and each environment in
   -- which what is below n stays. In a tail context nothing follows but the return.
   pub record Goes (tail : Bool) (n : ℕ) (environment saved : to.Environment) (k : Next Value) (next : Then) : Type 0 where
-    pub follows : (v : Value) (s : State Closure) (after : to.Environment) (marks : List MarkKind) → Reached a start s → Below n environment after
+    pub follows : (v : Value) (s : State Procedure) (after : to.Environment) (marks : List MarkKind) → Reached a start s → Below n environment after
         → Same a start (k v s) (ends tail next v after saved (world s marks))
-    pub whole : tail ≡ true → (v : Value) (s : State Closure) → k v s ≡ gives v s
+    pub whole : tail ≡ true → (v : Value) (s : State Procedure) → k v s ≡ gives v s
     pub link : tail ≡ true → (l : Value) × (environment 0 ≡ Some l)
 
   goes_on : (tail : Bool) (n m : ℕ) (environment after saved : to.Environment) (k : Next Value) (next : Then) → 2 ≤ n → n ≤ m → Below n environment after → Goes tail n environment saved k next
@@ -104,10 +105,10 @@ module _ (a : Setting) (start : State Closure) (fields : ℕ) (enter : from.Ente
     link = λ e. let h = g.link e in (h.0, b.at 0 (omega (arith, t)) ∙ h.1);
   }
 
-  same_by : (o : Outcome (State Closure) Value) (r r' : Result) → r ≡ r' → Same a start o r' → Same a start o r
+  same_by : (o : Outcome (State Procedure) Value) (r r' : Result) → r ≡ r' → Same a start o r' → Same a start o r
   same_by o r r' e h = subst (λ x. Same a start o x) (sym e) h
 
-  same_of : (o o' : Outcome (State Closure) Value) (r : Result) → o ≡ o' → Same a start o' r → Same a start o r
+  same_of : (o o' : Outcome (State Procedure) Value) (r : Result) → o ≡ o' → Same a start o' r → Same a start o r
   same_of o o' r e h = subst (λ x. Same a start x r) (sym e) h
 
   -- ## Operations that end a tree
@@ -117,13 +118,13 @@ module _ (a : Setting) (start : State Closure) (fields : ℕ) (enter : from.Ente
   finishes true o environment saved w next out e = rw e refl
   finishes false o environment saved w next out e = rw e refl
 
-  done_value : (tail : Bool) (o : Operation ℕ) (n : ℕ) (environment saved : to.Environment) (s : State Closure) (marks : List MarkKind) (k : Next Value) (next : Then) (v : Value)
+  done_value : (tail : Bool) (o : Operation ℕ) (n : ℕ) (environment saved : to.Environment) (s : State Procedure) (marks : List MarkKind) (k : Next Value) (next : Then) (v : Value)
       → operate environment o (state_of a.starts s) ≡ Some (gives v (state_of a.starts s)) → Reached a start s → Goes tail n environment saved k next
       → Same a start (k v s) (result (finished tail (tree.perform o)) environment saved (world s marks) next)
   done_value tail o n environment saved s marks k next v e r g =
       same_by _ _ _ (finishes tail o environment saved (world s marks) next (gives v (state_of a.starts s)) e) (g.follows v s environment marks r (below_self n environment))
 
-  done_action : (tail : Bool) (o : Operation ℕ) (n : ℕ) (environment saved : to.Environment) (s : State Closure) (marks : List MarkKind) (k : Next Value) (next : Then) (action : Action Value)
+  done_action : (tail : Bool) (o : Operation ℕ) (n : ℕ) (environment saved : to.Environment) (s : State Procedure) (marks : List MarkKind) (k : Next Value) (next : Then) (action : Action Value)
       → operate environment o (state_of a.starts s) ≡ Some (in_store action (state_of a.starts s)) → OutcomeGrows s.store (action s.store) → Reached a start s → Goes tail n environment saved k next
       → Same a start (on_value (in_store action s) k) (result (finished tail (tree.perform o)) environment saved (world s marks) next)
   done_action tail o n environment saved s marks k next action e grows r g =
@@ -133,20 +134,20 @@ module _ (a : Setting) (start : State Closure) (fields : ℕ) (enter : from.Ente
 
   -- ## Cells
 
-  read_same : (tail : Bool) (n : ℕ) (environment saved : to.Environment) (s : State Closure) (marks : List MarkKind) (k : Next Value) (next : Then) (o : Option (Option Value)) → Reached a start s
+  read_same : (tail : Bool) (n : ℕ) (environment saved : to.Environment) (s : State Procedure) (marks : List MarkKind) (k : Next Value) (next : Then) (o : Option (Option Value)) → Reached a start s
       → Goes tail n environment saved k next
       → Same a start (on_value (set_or_stop o s) k) (on_outcome marks (set_or_stop o (state_of a.starts s)) (λ v w. ends tail next v environment saved w))
   read_same tail n environment saved s marks k next None r g = (_, refl, refl)
   read_same tail n environment saved s marks k next (Some None) r g = (_, refl, refl)
   read_same tail n environment saved s marks k next (Some (Some v)) r g = g.follows v s environment marks r (below_self n environment)
 
-  get_same : (tail : Bool) (n : ℕ) (environment saved : to.Environment) (s : State Closure) (marks : List MarkKind) (k : Next Value) (next : Then) (v : Value) → Reached a start s
+  get_same : (tail : Bool) (n : ℕ) (environment saved : to.Environment) (s : State Procedure) (marks : List MarkKind) (k : Next Value) (next : Then) (v : Value) → Reached a start s
       → Goes tail n environment saved k next
       → Same a start (on_value (from.with_cell v read_cell s) k) (on_outcome marks (operations.with_cell v read_cell (state_of a.starts s)) (λ v w. ends tail next v environment saved w))
   get_same tail n environment saved s marks k next (cell c) r g = read_same tail n environment saved s marks k next (slice_get s.cells c) r g
   get_same tail n environment saved s marks k next _ r g = (_, refl, refl)
 
-  set_same : (tail : Bool) (n : ℕ) (environment saved : to.Environment) (s : State Closure) (marks : List MarkKind) (k : Next Value) (next : Then) (v u : Value) → Reached a start s
+  set_same : (tail : Bool) (n : ℕ) (environment saved : to.Environment) (s : State Procedure) (marks : List MarkKind) (k : Next Value) (next : Then) (v u : Value) → Reached a start s
       → Goes tail n environment saved k next
       → Same a start (on_value (from.with_cell v (λ c. write_cell c u) s) k)
       (on_outcome marks (operations.with_cell v (λ c. write_cell c u) (state_of a.starts s)) (λ v w. ends tail next v environment saved w))
@@ -158,7 +159,7 @@ module _ (a : Setting) (start : State Closure) (fields : ℕ) (enter : from.Ente
   -- ## Trees
 
   abbrev pub Claim : Tree → Type 0
-  Claim e = (tail : Bool) (names : List ℕ) (scope : Scope) (n : ℕ) (h : from.Environment) (environment saved : to.Environment) (s : State Closure) (marks : List MarkKind) (k : Next Value)
+  Claim e = (tail : Bool) (names : List ℕ) (scope : Scope) (n : ℕ) (h : from.Environment) (environment saved : to.Environment) (s : State Procedure) (marks : List MarkKind) (k : Next Value)
       (next : Then)
       → Fine a fields e names → Agrees a start fields names scope n h environment → Reached a start s → Goes tail n environment saved k next
       → Same a start (on_value (value e h tail s) k) (result (normal a.starts tail e scope n) environment saved (world s marks) next)
@@ -170,10 +171,10 @@ module _ (a : Setting) (start : State Closure) (fields : ℕ) (enter : from.Ente
   -- ## Parts
 
   -- a part that is bound to variable n
-  bound_same : (e : Tree) → Claim e → (names : List ℕ) (scope : Scope) (n : ℕ) (h : from.Environment) (environment saved : to.Environment) (s : State Closure) (marks : List MarkKind)
+  bound_same : (e : Tree) → Claim e → (names : List ℕ) (scope : Scope) (n : ℕ) (h : from.Environment) (environment saved : to.Environment) (s : State Procedure) (marks : List MarkKind)
       (k : Next Value) (body : Expression) (next : Then)
       → Fine a fields e names → Agrees a start fields names scope n h environment → Reached a start s
-      → ((v : Value) (t : State Closure) (after : to.Environment) (m : List MarkKind) → Reached a start t → Below n environment after → after n ≡ Some v
+      → ((v : Value) (t : State Procedure) (after : to.Environment) (m : List MarkKind) → Reached a start t → Below n environment after → after n ≡ Some v
       → Same a start (k v t) (result body after saved (world t m) next))
       → Same a start (on_value (value e h false s) k) (result (tree.bind n (normal a.starts false e scope (suc n)) body) environment saved (world s marks) next)
   bound_same e claim names scope n h environment saved s marks k body next f w r follows =
@@ -187,10 +188,10 @@ module _ (a : Setting) (start : State Closure) (fields : ℕ) (enter : from.Ente
 
   -- a part that is bound where it is not simple
   part_same : (e : Tree) → Claim e → (b : Bool) → is_simple e ≡ b
-      → (names : List ℕ) (scope : Scope) (n : ℕ) (h : from.Environment) (environment saved : to.Environment) (s : State Closure) (marks : List MarkKind) (k : Next Value) (body : Expression)
+      → (names : List ℕ) (scope : Scope) (n : ℕ) (h : from.Environment) (environment saved : to.Environment) (s : State Procedure) (marks : List MarkKind) (k : Next Value) (body : Expression)
       (next : Then)
       → Fine a fields e names → Agrees a start fields names scope n h environment → Reached a start s
-      → ((v : Value) (t : State Closure) (after : to.Environment) (m : List MarkKind) → Reached a start t → Below n environment after
+      → ((v : Value) (t : State Procedure) (after : to.Environment) (m : List MarkKind) → Reached a start t → Below n environment after
       → operand_value after t.store (cond b (simple_operand scope e) (operand.Atom (atom.Variable n))) ≡ Some v → Same a start (k v t) (result body after saved (world t m) next))
       → Same a start (on_value (value e h false s) k) (result (bound_unless b n (normal a.starts false e scope (suc n)) body) environment saved (world s marks) next)
   part_same e claim true i names scope n h environment saved s marks k body next f w r follows =
@@ -201,22 +202,22 @@ module _ (a : Setting) (start : State Closure) (fields : ℕ) (enter : from.Ente
 
   -- the operands, from left to right
   abbrev OperandsClaim : Trees → Type 0
-  OperandsClaim es = (names : List ℕ) (scope : Scope) (n : ℕ) (h : from.Environment) (environment saved : to.Environment) (s : State Closure) (marks : List MarkKind) (k : Next (List Value))
+  OperandsClaim es = (names : List ℕ) (scope : Scope) (n : ℕ) (h : from.Environment) (environment saved : to.Environment) (s : State Procedure) (marks : List MarkKind) (k : Next (List Value))
       (body : Expression) (next : Then)
-      (place : ℕ) (cs before : List (State Closure → Outcome (State Closure) Value)) (vs done : List Value) (last : List ℕ)
+      (place : ℕ) (cs before : List (State Procedure → Outcome (State Procedure) Value)) (vs done : List Value) (last : List ℕ)
       → place ≡ length before → place ≡ length done → cs ≡ before ++ values es h → vs ≡ done ++ blanks (values es h)
       → FineEach a fields es names → Agrees a start fields names scope n h environment → Reached a start s
-      → ((ws : List Value) (t : State Closure) (after : to.Environment) (m : List MarkKind) → Reached a start t → Below n environment after → Filled es n ws after
+      → ((ws : List Value) (t : State Procedure) (after : to.Environment) (m : List MarkKind) → Reached a start t → Below n environment after → Filled es n ws after
       → Same a start (on_value (in_order last cs (done ++ ws) t) k) (result body after saved (world t m) next))
       → Same a start (on_value (in_order (bound_places place es last) cs vs s) k) (result (with_operands a.starts es scope n body) environment saved (world s marks) next)
 
   operands_step : (b : Bool) (e : Tree) (es : Trees) → Claim e → OperandsClaim es
-      → (names : List ℕ) (scope : Scope) (n : ℕ) (h : from.Environment) (environment saved : to.Environment) (s : State Closure) (marks : List MarkKind) (k : Next (List Value))
+      → (names : List ℕ) (scope : Scope) (n : ℕ) (h : from.Environment) (environment saved : to.Environment) (s : State Procedure) (marks : List MarkKind) (k : Next (List Value))
       (body : Expression) (next : Then)
-      (place : ℕ) (cs before : List (State Closure → Outcome (State Closure) Value)) (vs done : List Value) (last : List ℕ)
+      (place : ℕ) (cs before : List (State Procedure → Outcome (State Procedure) Value)) (vs done : List Value) (last : List ℕ)
       → place ≡ length before → place ≡ length done → cs ≡ before ++ value e h false ∷ values es h → vs ≡ done ++ unspecified ∷ blanks (values es h)
       → Fine a fields e names → FineEach a fields es names → Agrees a start fields names scope n h environment → Reached a start s
-      → ((w : Value) (ws : List Value) (t : State Closure) (after : to.Environment) (m : List MarkKind) → Reached a start t → Below n environment after → (b ≡ false → after n ≡ Some w)
+      → ((w : Value) (ws : List Value) (t : State Procedure) (after : to.Environment) (m : List MarkKind) → Reached a start t → Below n environment after → (b ≡ false → after n ≡ Some w)
       → Filled es (n + part_binds b (binds e)) ws after
       → Same a start (on_value (in_order last cs (done ++ w ∷ ws) t) k) (result body after saved (world t m) next))
       → Same a start (on_value (in_order (cond b (bound_places (suc place) es last) (place ∷ bound_places (suc place) es last)) cs vs s) k)
@@ -251,12 +252,12 @@ module _ (a : Setting) (start : State Closure) (fields : ℕ) (enter : from.Ente
 
   -- the inits of a binding, all of which are bound
   abbrev InitsClaim : Trees → Type 0
-  InitsClaim es = (names : List ℕ) (scope : Scope) (n last : ℕ) (h : from.Environment) (environment saved : to.Environment) (s : State Closure) (marks : List MarkKind) (k : Next (List Value))
+  InitsClaim es = (names : List ℕ) (scope : Scope) (n last : ℕ) (h : from.Environment) (environment saved : to.Environment) (s : State Procedure) (marks : List MarkKind) (k : Next (List Value))
       (body : Expression) (next : Then)
-      (place : ℕ) (cs before : List (State Closure → Outcome (State Closure) Value)) (vs done : List Value)
+      (place : ℕ) (cs before : List (State Procedure → Outcome (State Procedure) Value)) (vs done : List Value)
       → place ≡ length before → place ≡ length done → cs ≡ before ++ values es h → vs ≡ done ++ blanks (values es h) → n + inits_bind es ≤ last
       → FineEach a fields es names → Agrees a start fields names scope n h environment → Reached a start s
-      → ((ws : List Value) (t : State Closure) (after : to.Environment) (m : List MarkKind) → Reached a start t → Below n environment after → Held last after (init_numbers es n) ws
+      → ((ws : List Value) (t : State Procedure) (after : to.Environment) (m : List MarkKind) → Reached a start t → Below n environment after → Held last after (init_numbers es n) ws
       → Same a start (k (done ++ ws) t) (result body after saved (world t m) next))
       → Same a start (on_value (in_order (numbers place (count es)) cs vs s) k) (result (with_inits a.starts es scope n body) environment saved (world s marks) next)
 
@@ -279,7 +280,7 @@ module _ (a : Setting) (start : State Closure) (fields : ℕ) (enter : from.Ente
 
   -- ## Calls
 
-  returned : (n : ℕ) (environment saved : to.Environment) (s : State Closure) (k : Next Value) (next : Then) (o : Outcome (State Closure) Value) (r : Result) → Reached a start s → Same a s o r
+  returned : (n : ℕ) (environment saved : to.Environment) (s : State Procedure) (k : Next Value) (next : Then) (o : Outcome (State Procedure) Value) (r : Result) → Reached a start s → Same a s o r
       → Goes false n environment saved k next
       → Same a start (on_value o k) (on_return r (λ v w. next v environment saved w))
   returned n environment saved s k next (gives v t) r q h g =
@@ -291,13 +292,13 @@ module _ (a : Setting) (start : State Closure) (fields : ℕ) (enter : from.Ente
       let end : Same a start (spent t) (Some (spent h.0)) = (h.0, refl, h.2) in
       same_by (spent t) (on_return r (λ v w. next v environment saved w)) (Some (spent h.0)) (ap (λ r. on_return r (λ v w. next v environment saved w)) h.1) end
 
-  last_called : (s : State Closure) (k : Next Value) (o : Outcome (State Closure) Value) (r : Result) → Reached a start s → Same a s o r → ((v : Value) (t : State Closure) → k v t ≡ gives v t)
+  last_called : (s : State Procedure) (k : Next Value) (o : Outcome (State Procedure) Value) (r : Result) → Reached a start s → Same a s o r → ((v : Value) (t : State Procedure) → k v t ≡ gives v t)
       → Same a start (on_value o k) r
   last_called s k (gives v t) r q h whole = same_of _ _ _ (whole v t) (h.0, h.1, reached_on a start s t q h.2)
   last_called s k (stops why t) r q h whole = h
   last_called s k (spent t) r q h whole = h
 
-  called_same : (tail : Bool) (x : Application ℕ) (n : ℕ) (environment saved : to.Environment) (s : State Closure) (marks : List MarkKind) (us : List Value) (k : Next Value) (next : Then)
+  called_same : (tail : Bool) (x : Application ℕ) (n : ℕ) (environment saved : to.Environment) (s : State Procedure) (marks : List MarkKind) (us : List Value) (k : Next Value) (next : Then)
       → part_values environment s.store x ≡ Some us → Reached a start s → Goes tail n environment saved k next
       → Same a start (on_value (call_with enter x.spread tail depth us s) k) (result (called tail x) environment saved (world s marks) next)
   called_same false x n environment saved s marks us k next e r g =
@@ -311,8 +312,8 @@ module _ (a : Setting) (start : State Closure) (fields : ℕ) (enter : from.Ente
 
   -- a call, once its operator and its operands are bound: the parts that are left change nothing
   parts_called : (b : Bool) (f : Tree) → is_simple f ≡ b → (es : Trees) (site : ℕ) (spread tail : Bool) (names : List ℕ) (scope : Scope) (n m x : ℕ) (h : from.Environment)
-      (environment saved : to.Environment) (s : State Closure) (marks : List MarkKind) (k : Next Value) (next : Then) (w : Value) (ws : List Value) (rest : List ℕ)
-      → ((t : State Closure) (us vs : List Value) → Parts t (value f h false ∷ values es h) vs us (b ∷ simples es) → in_order rest (value f h false ∷ values es h) vs t ≡ gives us t)
+      (environment saved : to.Environment) (s : State Procedure) (marks : List MarkKind) (k : Next Value) (next : Then) (w : Value) (ws : List Value) (rest : List ℕ)
+      → ((t : State Procedure) (us vs : List Value) → Parts t (value f h false ∷ values es h) vs us (b ∷ simples es) → in_order rest (value f h false ∷ values es h) vs t ≡ gives us t)
       → Fine a fields f names → FineEach a fields es names → Filled es n ws environment → (b ≡ false → environment x ≡ Some w)
       → Agrees a start fields names scope m h environment → Reached a start s → Goes tail m environment saved k next
       → Same a start (on_value (in_order rest (value f h false ∷ values es h) (w ∷ ws) s) (λ us t. on_value (call_with enter spread tail depth us t) k))
@@ -338,9 +339,9 @@ module _ (a : Setting) (start : State Closure) (fields : ℕ) (enter : from.Ente
 
   -- a call, once its operands are bound
   operator_same : (b : Bool) (f : Tree) → is_simple f ≡ b → Claim f
-      → (es : Trees) (site : ℕ) (spread tail : Bool) (names : List ℕ) (scope : Scope) (n x : ℕ) (h : from.Environment) (environment saved : to.Environment) (s : State Closure)
+      → (es : Trees) (site : ℕ) (spread tail : Bool) (names : List ℕ) (scope : Scope) (n x : ℕ) (h : from.Environment) (environment saved : to.Environment) (s : State Procedure)
       (marks : List MarkKind) (k : Next Value) (next : Then) (ws : List Value) (rest : List ℕ)
-      → ((t : State Closure) (us vs : List Value) → Parts t (value f h false ∷ values es h) vs us (b ∷ simples es) → in_order rest (value f h false ∷ values es h) vs t ≡ gives us t)
+      → ((t : State Procedure) (us vs : List Value) → Parts t (value f h false ∷ values es h) vs us (b ∷ simples es) → in_order rest (value f h false ∷ values es h) vs t ≡ gives us t)
       → Fine a fields f names → FineEach a fields es names → n + operands_bind es ≤ x → Filled es n ws environment
       → Agrees a start fields names scope x h environment → Reached a start s → Goes tail x environment saved k next
       → Same a start (on_value (in_order (cond b [] (0 ∷ []) ++ rest) (value f h false ∷ values es h) (unspecified ∷ ws) s) (λ us t. on_value (call_with enter spread tail depth us t) k))
@@ -364,7 +365,7 @@ module _ (a : Setting) (start : State Closure) (fields : ℕ) (enter : from.Ente
 
   call_same : (f : Tree) → Claim f → (es : Trees) → EachClaim es → (site : ℕ) (spread : Bool) → Claim (call site spread f es)
   call_same f claim es claims site spread tail names scope n h environment saved s marks k next fine w r g =
-      let order = call_rest (State Closure) f es (a.orders site) fine.0 in
+      let order = call_rest (State Procedure) f es (a.orders site) fine.0 in
       same_after a start (all_values (a.orders site) (value f h false ∷ values es h) s) (call_with enter spread tail depth) k _
       (same_of _ _ _ (ap (λ o. on_value (in_order o (value f h false ∷ values es h) (unspecified ∷ blanks (values es h)) s) (λ us t. on_value (call_with enter spread tail depth us t) k)) order.is)
       (operands_same es claims names scope n h environment saved s marks (λ us t. on_value (call_with enter spread tail depth us t) k) _ next 1 (value f h false ∷ values es h)
@@ -377,7 +378,7 @@ module _ (a : Setting) (start : State Closure) (fields : ℕ) (enter : from.Ente
 
   operation_same : (es : Trees) → EachClaim es → (site : ℕ) (which : Primitive) → Claim (operation site which es)
   operation_same es claims site which tail names scope n h environment saved s marks k next fine w r g =
-      let order = operands_rest (State Closure) es (a.orders site) fine.0 in
+      let order = operands_rest (State Procedure) es (a.orders site) fine.0 in
       same_after a start (all_values (a.orders site) (values es h) s) (λ us. in_store (primitive which us)) k _
       (same_of _ _ _ (ap (λ o. on_value (in_order o (values es h) (blanks (values es h)) s) (λ us t. on_value (in_store (primitive which us) t) k)) order.is)
       (operands_same es claims names scope n h environment saved s marks (λ us t. on_value (in_store (primitive which us) t) k) _ next 0 (values es h) [] (blanks (values es h)) [] order.rest
@@ -406,7 +407,7 @@ module _ (a : Setting) (start : State Closure) (fields : ℕ) (enter : from.Ente
 
   -- ## Closures
 
-  sources_given : (vs : List Variable) (names : List ℕ) (scope : Scope) (n : ℕ) (h : from.Environment) (environment : to.Environment) (s : State Closure)
+  sources_given : (vs : List Variable) (names : List ℕ) (scope : Scope) (n : ℕ) (h : from.Environment) (environment : to.Environment) (s : State Procedure)
       → list_all (is_known names fields) vs ≡ true → Agrees a start fields names scope n h environment → Reached a start s
       → source_values environment (state_of a.starts s) (map (source_of scope) vs) ≡ Some (values_in h vs)
   sources_given [] names scope n h environment s i w r = refl
@@ -420,7 +421,7 @@ module _ (a : Setting) (start : State Closure) (fields : ℕ) (enter : from.Ente
   values_length h (v ∷ vs) = ap suc (values_length h vs)
 
   -- more procedures, each with a body
-  reached_more : (s : State Closure) (cells : List (Option Value)) (t : Store) (cs : List Closure) → Reached a start s → t.constants ≡ a.constants → list_all (is_procedure_of a.bodies) cs ≡ true
+  reached_more : (s : State Procedure) (cells : List (Option Value)) (t : Store) (cs : List Procedure) → Reached a start s → t.constants ≡ a.constants → list_all (is_procedure_of a.bodies) cs ≡ true
       → Reached a start (record { cells = cells; store = t; procedures = s.procedures ++ cs })
   reached_more s cells t cs r e k = record {
     kept = λ i c h. get_grown s.procedures cs i c (r.kept i c h);
@@ -466,7 +467,7 @@ module _ (a : Setting) (start : State Closure) (fields : ℕ) (enter : from.Ente
   group_length scope [] n = refl
   group_length scope (m ∷ ms) n = ap suc (group_length scope ms (suc n))
 
-  group_made : (ms : List Made) (names : List ℕ) (scope : Scope) (n x : ℕ) (h : from.Environment) (environment : to.Environment) (s : State Closure)
+  group_made : (ms : List Made) (names : List ℕ) (scope : Scope) (n x : ℕ) (h : from.Environment) (environment : to.Environment) (s : State Procedure)
       → list_all (is_made a.bodies names fields) ms ≡ true → Agrees a start fields names scope x h environment → Reached a start s
       → members_made environment (state_of a.starts s) (members_of a.starts scope ms n) ≡ Some (images a.starts (closures h ms))
   group_made [] names scope n x h environment s i w r = refl
@@ -575,10 +576,10 @@ module _ (a : Setting) (start : State Closure) (fields : ℕ) (enter : from.Ente
   cell_values m [] = []
   cell_values m (x ∷ xs) = cell m ∷ cell_values (suc m) xs
 
-  abbrev state_with : List (Option Value) → Store → State Closure → State Procedure
+  abbrev state_with : List (Option Value) → Store → State Procedure → State Procedure
   state_with cells t s = record { cells = cells; store = t; procedures = images a.starts s.procedures }
 
-  content_given : (o : Option Variable) (names : List ℕ) (scope : Scope) (n : ℕ) (h : from.Environment) (environment : to.Environment) (s : State Closure) (cells : List (Option Value))
+  content_given : (o : Option Variable) (names : List ℕ) (scope : Scope) (n : ℕ) (h : from.Environment) (environment : to.Environment) (s : State Procedure) (cells : List (Option Value))
       → is_content names fields o ≡ true → Agrees a start fields names scope n h environment → Reached a start s
       → operate environment (cell_operation scope o) (state_with cells s.store s) ≡ Some (operations.new_cell (from.content h o) (state_with cells s.store s))
   content_given None names scope n h environment s cells i w r = refl
@@ -586,8 +587,8 @@ module _ (a : Setting) (start : State Closure) (fields : ℕ) (enter : from.Ente
   content_given (Some (free k)) names scope n h environment s cells i w r = rw (w.field k i s r) refl
 
   abbrev CellsClaim : List NewCell → Type 0
-  CellsClaim cs = (names : List ℕ) (scope : Scope) (n m last : ℕ) (h : from.Environment) (environment saved : to.Environment) (s : State Closure) (marks : List MarkKind)
-      (added : List (Option Value)) (k : State Closure → Outcome (State Closure) Value) (body : Expression) (next : Then)
+  CellsClaim cs = (names : List ℕ) (scope : Scope) (n m last : ℕ) (h : from.Environment) (environment saved : to.Environment) (s : State Procedure) (marks : List MarkKind)
+      (added : List (Option Value)) (k : State Procedure → Outcome (State Procedure) Value) (body : Expression) (next : Then)
       → list_all (λ c. is_content names fields c.content) cs ≡ true → m ≡ length s.cells + length added → n + length cs ≤ last → Agrees a start fields names scope n h environment → Reached a start s
       → ((t : Store) (after : to.Environment) (marks : List MarkKind) → t.constants ≡ a.constants → Below n environment after → Held last after (numbers_for cs n) (cell_values m cs)
       → Same a start (k (record { cells = s.cells; store = t; procedures = s.procedures }))
@@ -687,7 +688,7 @@ module _ (a : Setting) (start : State Closure) (fields : ℕ) (enter : from.Ente
         link = λ e. absurd (cc);
       }))
     where
-      chosen : (c : Bool) (t : State Closure) (after : to.Environment) (m : List MarkKind) → Reached a start t → Below n environment after
+      chosen : (c : Bool) (t : State Procedure) (after : to.Environment) (m : List MarkKind) → Reached a start t → Below n environment after
           → Same a start (on_value (computation.either c (value y h tail) (value z h tail) t) k)
           (to.either c (result (normal a.starts tail y scope (n + binds x)) after saved (world t m) next) (result (normal a.starts tail z scope (n + binds x + binds y)) after saved (world t m) next))
       chosen true t after m q b = consequent tail names scope (n + binds x) h after saved t m k next fine.1
@@ -697,13 +698,13 @@ module _ (a : Setting) (start : State Closure) (fields : ℕ) (enter : from.Ente
           (goes_on tail n (n + binds x + binds y) environment after saved k next w.two (omega arith) b g)
 
   -- where nothing is wrong, an atom before other parts does nothing
-  never : (o : Outcome (State Closure) Value) → Same a start o None → ⊥
+  never : (o : Outcome (State Procedure) Value) → Same a start o None → ⊥
   never (gives v s) h = absurd (let e = h.1 in cc)
   never (stops why s) h = absurd (let e = h.1 in cc)
   never (spent s) h = absurd (let e = h.1 in cc)
 
-  atom_left : (first : Expression) → is_bare_atom first ≡ true → (rest : Expression) (environment saved : to.Environment) (s : State Closure) (marks : List MarkKind) (next : Then)
-      (o : Outcome (State Closure) Value)
+  atom_left : (first : Expression) → is_bare_atom first ≡ true → (rest : Expression) (environment saved : to.Environment) (s : State Procedure) (marks : List MarkKind) (next : Then)
+      (o : Outcome (State Procedure) Value)
       → Same a start o (result (tree.sequence first rest) environment saved (world s marks) next) → Same a start o (result rest environment saved (world s marks) next)
   atom_left (tree.perform (does.Operand (operand.Atom x))) i rest environment saved s marks next o h =
       read (operations.atom_value environment s.store x) h
@@ -725,9 +726,9 @@ module _ (a : Setting) (start : State Closure) (fields : ℕ) (enter : from.Ente
 
   -- a part of a sequence before the last, which is bound or not
   either_part : (bound : Bool) (e : Tree) → Claim e → (es : Trees) (e' : Tree) (tail : Bool) (names : List ℕ) (scope : Scope) (n : ℕ) (h : from.Environment) (environment saved : to.Environment)
-      (s : State Closure) (marks : List MarkKind) (k : Next Value) (next : Then)
+      (s : State Procedure) (marks : List MarkKind) (k : Next Value) (next : Then)
       → Fine a fields e names → Agrees a start fields names scope n h environment → Reached a start s
-      → ((u : Value) (t : State Closure) (after : to.Environment) (m : List MarkKind) (last : ℕ) → Reached a start t → Below n environment after → n ≤ last
+      → ((u : Value) (t : State Procedure) (after : to.Environment) (m : List MarkKind) (last : ℕ) → Reached a start t → Below n environment after → n ≤ last
       → Same a start (on_value (in_turn (from.parts a.orders enter (and_tree e' es) h depth tail) u t) k)
       (result (normal_parts a.starts tail (and_tree e' es) scope last) after saved (world t m) next))
       → Same a start (on_value (value e h false s) (λ u t. on_value (in_turn (from.parts a.orders enter (and_tree e' es) h depth tail) u t) k))
@@ -740,7 +741,7 @@ module _ (a : Setting) (start : State Closure) (fields : ℕ) (enter : from.Ente
   either_part false e claim es e' tail names scope n h environment saved s marks k next fine w r more =
       let first = normal a.starts false e scope n in
       let rest = normal_parts a.starts tail (and_tree e' es) scope (n + binds e) in
-      let goes = λ (u : Value) (t : State Closure). on_value (in_turn (from.parts a.orders enter (and_tree e' es) h depth tail) u t) k in
+      let goes = λ (u : Value) (t : State Procedure). on_value (in_turn (from.parts a.orders enter (and_tree e' es) h depth tail) u t) k in
       let done : Same a start (on_value (value e h false s) goes) (result (tree.sequence first rest) environment saved (world s marks) next) =
       claim false names scope n h environment saved s marks goes (λ u environment saved w. result rest environment saved w next) fine w r
       (record {
@@ -756,7 +757,7 @@ module _ (a : Setting) (start : State Closure) (fields : ℕ) (enter : from.Ente
   Started no_trees v = v ≡ unspecified
   Started (and_tree e es) v = Unit {0}
 
-  parts_same : (es : Trees) → EachClaim es → (tail : Bool) (names : List ℕ) (scope : Scope) (n : ℕ) (h : from.Environment) (environment saved : to.Environment) (s : State Closure)
+  parts_same : (es : Trees) → EachClaim es → (tail : Bool) (names : List ℕ) (scope : Scope) (n : ℕ) (h : from.Environment) (environment saved : to.Environment) (s : State Procedure)
       (marks : List MarkKind) (v : Value) (k : Next Value) (next : Then)
       → Started es v → FineEach a fields es names → Agrees a start fields names scope n h environment → Reached a start s → Goes tail n environment saved k next
       → Same a start (on_value (in_turn (from.parts a.orders enter es h depth tail) v s) k) (result (normal_parts a.starts tail es scope n) environment saved (world s marks) next)

@@ -21,7 +21,7 @@ use Rattle.sch_control.specs.Fits.{begins_with, fits}
 use Rattle.sch_control.proofs.NumberRows.{each_number}
 use Rattle.sch_anf_laws.specs.Normal.{bound_rows, bound_rows_each, bound_rows_bodies, bound_rows_source, bound_parts}
 use Rattle.sch_anf_laws.proofs.runs.Fine.{FitsSite}
-use Rattle.sch_anf_laws.proofs.runs.Ready.{Every, every_of, sites_in, sites_in_each}
+use Rattle.sch_anf_laws.proofs.runs.Ready.{Every, every_of, all_sites, all_sites_each}
 
 -- ## Keys
 
@@ -34,40 +34,40 @@ keys_append xs ys = map-append (λ r. r.0) xs ys
 joined : {A B : Type 0} (xs ys : List (ℕ × A)) (us vs : List (ℕ × B)) → keys xs ≡ keys us → keys ys ≡ keys vs → keys (xs ++ ys) ≡ keys (us ++ vs)
 joined xs ys us vs e f = keys_append xs ys ∙ (ap (λ l. l ++ keys ys) e ∙ (ap (λ l. keys us ++ l) f ∙ sym (keys_append us vs)))
 
-no_rows : (v : flat.Variable) → [] ≡ keys (sites_in (variable v))
+no_rows : (v : flat.Variable) → [] ≡ keys (all_sites (variable v))
 no_rows (flat.bound x) = refl
 no_rows (flat.free k) = refl
 
 mutual
-  rows_keys : (e : Tree) → keys (bound_rows e) ≡ keys (sites_in e)
+  rows_keys : (e : Tree) → keys (bound_rows e) ≡ keys (all_sites e)
   rows_keys (constant c) = refl
   rows_keys (literal k) = refl
   rows_keys (variable v) = no_rows v
   rows_keys (global g) = refl
   rows_keys (set_global g e) = rows_keys e
   rows_keys (define g e) = rows_keys e
-  rows_keys (branch x y z) = joined (bound_rows x) (bound_rows y ++ bound_rows z) (sites_in x) (sites_in y ++ sites_in z) (rows_keys x)
-      (joined (bound_rows y) (bound_rows z) (sites_in y) (sites_in z) (rows_keys y) (rows_keys z))
+  rows_keys (branch x y z) = joined (bound_rows x) (bound_rows y ++ bound_rows z) (all_sites x) (all_sites y ++ all_sites z) (rows_keys x)
+      (joined (bound_rows y) (bound_rows z) (all_sites y) (all_sites z) (rows_keys y) (rows_keys z))
   rows_keys (sequence es) = rows_keys_each es
-  rows_keys (bind site first es e) = ap (λ l. site ∷ l) (joined (bound_rows_each es) (bound_rows e) (sites_in_each es) (sites_in e) (rows_keys_each es) (rows_keys e))
+  rows_keys (bind site first es e) = ap (λ l. site ∷ l) (joined (bound_rows_each es) (bound_rows e) (all_sites_each es) (all_sites e) (rows_keys_each es) (rows_keys e))
   rows_keys (make_closure m) = refl
   rows_keys (fix_closures first ms e) = rows_keys e
-  rows_keys (call site spread f es) = ap (λ l. site ∷ l) (joined (bound_rows f) (bound_rows_each es) (sites_in f) (sites_in_each es) (rows_keys f) (rows_keys_each es))
+  rows_keys (call site spread f es) = ap (λ l. site ∷ l) (joined (bound_rows f) (bound_rows_each es) (all_sites f) (all_sites_each es) (rows_keys f) (rows_keys_each es))
   rows_keys (operation site which es) = ap (λ l. site ∷ l) (rows_keys_each es)
   rows_keys (new_cells cs e) = rows_keys e
   rows_keys (cell_get v) = refl
   rows_keys (cell_set v e) = rows_keys e
 
-  rows_keys_each : (es : Trees) → keys (bound_rows_each es) ≡ keys (sites_in_each es)
+  rows_keys_each : (es : Trees) → keys (bound_rows_each es) ≡ keys (all_sites_each es)
   rows_keys_each no_trees = refl
-  rows_keys_each (and_tree e es) = joined (bound_rows e) (bound_rows_each es) (sites_in e) (sites_in_each es) (rows_keys e) (rows_keys_each es)
+  rows_keys_each (and_tree e es) = joined (bound_rows e) (bound_rows_each es) (all_sites e) (all_sites_each es) (rows_keys e) (rows_keys_each es)
 
 rows_keys_bodies : (bs : List Body) → keys (bound_rows_bodies bs) ≡ keys (over_bodies [] (λ x y. x ++ y) shapes.site_of bs)
 rows_keys_bodies [] = refl
-rows_keys_bodies (b ∷ bs) = joined (bound_rows b.code) (bound_rows_bodies bs) (sites_in b.code) (over_bodies [] (λ x y. x ++ y) shapes.site_of bs) (rows_keys b.code) (rows_keys_bodies bs)
+rows_keys_bodies (b ∷ bs) = joined (bound_rows b.code) (bound_rows_bodies bs) (all_sites b.code) (over_bodies [] (λ x y. x ++ y) shapes.site_of bs) (rows_keys b.code) (rows_keys_bodies bs)
 
 rows_keys_source : (p : Source) → keys (bound_rows_source p) ≡ keys (sites_of p)
-rows_keys_source p = joined (bound_rows_bodies p.bodies) (bound_rows_each p.forms) (over_bodies [] (λ x y. x ++ y) shapes.site_of p.bodies) (sites_in_each p.forms) (rows_keys_bodies p.bodies)
+rows_keys_source p = joined (bound_rows_bodies p.bodies) (bound_rows_each p.forms) (over_bodies [] (λ x y. x ++ y) shapes.site_of p.bodies) (all_sites_each p.forms) (rows_keys_bodies p.bodies)
     (rows_keys_each p.forms)
 
 -- ## Once

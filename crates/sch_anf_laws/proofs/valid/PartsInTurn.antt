@@ -1,5 +1,5 @@
 -- What a normal form binds of its calls and primitives are variables, bound in the order in which they are listed.
-use Rattle.std.proofs.Common.{◌≡◌, ℕ, suc, ◌+◌, Bool, true, false, cond, List, [], ◌∷◌, ◌++◌, length, map, Option, Some, None, refl, sym, ap, ◌∙◌, subst, arith, append_assoc}
+use Rattle.std.proofs.Common.{◌≡◌, ℕ, suc, ◌+◌, Bool, true, false, cond, List, [], ◌∷◌, ◌++◌, length, map, Option, Some, None, refl, sym, ap, ◌∙◌, subst, arith, append_assoc, one-add}
 use Rattle.std.specs.Prelude.{slice_get, ◌&&◌}
 use Rattle.std.proofs.lemmas.Bool.{eq-eqb}
 use Rattle.std.proofs.lemmas.List.{append-nil}
@@ -103,9 +103,6 @@ operator_is scope f n operands = by (is_simple f) refl
     by : (b : Bool) → is_simple f ≡ b → Are (operand_at scope f n ∷ operands) (cond b [] (0 ∷ [])) (cond b [] (n ∷ []))
     by true s = tt
     by false s = (ap Some (bound_operand scope f n s), tt)
-
-behind_first : (i : ℕ) → 1 + i ≡ suc i
-behind_first i = omega arith
 
 atoms_bound : (es : Trees) (place : ℕ) → are_atoms es ≡ true → bound_places place es [] ≡ []
 atoms_bound no_trees place h = refl
@@ -213,7 +210,7 @@ module _ (bound : List (List ℕ)) where
           let xs = part_variables es n in
           let there = (before ++ xs) ++ operator_variable f m in
           let parts = operand_at scope f m ∷ operands_at scope es n in
-          let are = operands_are parts es scope n 1 (operator_place f) (operator_variable f m) (λ i. ap (slice_get parts) (behind_first i)) (operator_is scope f m (operands_at scope es n)) in
+          let are = operands_are parts es scope n 1 (operator_place f) (operator_variable f m) (λ i. ap (slice_get parts) (one-add i)) (operator_is scope f m (operands_at scope es n)) in
           let turned : in_turn parts (bound_places 1 es (operator_place f)) (before ++ (xs ++ operator_variable f m)) ≡ true =
           behind parts (bound_places 1 es (operator_place f)) (xs ++ operator_variable f m) before (are_in_turn parts (bound_places 1 es (operator_place f)) (xs ++ operator_variable f m) are) in
           let here : in_turn parts (order_at bound site) there ≡ true =

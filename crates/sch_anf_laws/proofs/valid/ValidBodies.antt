@@ -6,14 +6,13 @@ use Rattle.std.proofs.lemmas.Bool.{le-leb, leb-true, lt-ltb, ltb-true}
 use Rattle.sch_word.specs.trees.Bindings.{numbers, scope_with, with_variables}
 use Rattle.sch_word.specs.trees.Shape.{max_operands, max_variables, max_free_variables}
 use Rattle.sch_word.proofs.facts.Booleans.{and_left, and_right, and_of}
-use Rattle.sch_word.proofs.facts.NumberSets.{numbers_length}
+use Rattle.sch_word.proofs.facts.NumberSets.{numbers_length, distinct_numbers}
 use Rattle.sch_flat.specs.Tree.{Tree, Body}
 use Rattle.sch_flat.specs.Measures.{variables, body_variables}
 use Rattle.sch_flat.specs.Valid.{scoped, body_scoped, body_fits}
 use Rattle.sch_control.specs.Tree.{Code, Expression}
 use Rattle.sch_word.specs.trees.NumberSets.{without_repeats}
 use Rattle.sch_control.specs.Valid.{Tests, each_part, in_scope_whole, numbered, ended, shaped_whole, fields_known, first_scope, first_bound, bound_in, max_body_variables, procedure_end, value, operation_shaped, application_shaped, group_shaped, operation_field, group_fields, Names, operation_known, application_known, group_known, code_known, entry_shaped, positioned, is_bare}
-use Rattle.sch_control.proofs.NumberLists.{once_from}
 use Rattle.sch_anf_laws.specs.Normal.{new_label, binds, normal, procedure_code, form_code}
 use Rattle.sch_anf_laws.proofs.valid.Numbered.{bound, few, within_numbers}
 use Rattle.sch_anf_laws.proofs.valid.Ends.{placed}
@@ -34,7 +33,7 @@ numbered_by c n e v l =
     (le-leb (first_bound c.entry) c.variables (omega (arith, v)))
     (subst (λ l. (list_all (λ x. nat_le (first_bound c.entry) x && nat_lt x c.variables) l && without_repeats l) ≡ true) (sym e)
     (and_of (list_all (λ x. nat_le (first_bound c.entry) x && nat_lt x c.variables) (numbers (first_bound c.entry) n)) (without_repeats (numbers (first_bound c.entry) n))
-    (within_numbers (first_bound c.entry) n (first_bound c.entry) c.variables (omega arith) (omega (arith, v))) (once_from (first_bound c.entry) n))))
+    (within_numbers (first_bound c.entry) n (first_bound c.entry) c.variables (omega arith) (omega (arith, v))) (distinct_numbers (first_bound c.entry) n))))
 
 module _ (starts : List ℕ) (bodies : List Body) (names : Names)
     (few_fields : (label : ℕ) (b : Body) → slice_get bodies label ≡ Some b → nat_le b.fields max_free_variables ≡ true)

@@ -22,7 +22,8 @@ use Rattle.sch_control.specs.BoundParts as control_parts
 use Rattle.sch_control.specs.BoundParts.{parts_in_turn}
 use Rattle.sch_control.specs.Valid as to
 use Rattle.sch_control.specs.Valid.{Names, entries_of, names_of, sites_of_each, enters, without_fields, code_known}
-use Rattle.sch_control.proofs.NumberLists.{below_from, once_from}
+use Rattle.sch_control.proofs.NumberLists.{below_from}
+use Rattle.sch_word.proofs.facts.NumberSets.{distinct_numbers}
 use Rattle.sch_anf_laws.specs.Normal as normal
 use Rattle.sch_anf_laws.specs.Normal.{is_simple, new_label, procedure_code, form_code, normal_bodies, normal_source, bound_places, operator_place, bound_rows, bound_rows_each, bound_rows_bodies, bound_rows_source}
 use Rattle.sch_anf_laws.proofs.runs.Fine.{bound_below}
@@ -32,7 +33,7 @@ use Rattle.sch_anf_laws.proofs.runs.Ready.{Every, every_left, every_right}
 use Rattle.sch_anf_laws.proofs.runs.Sites.{keyed_times, rows_listed, width_within, counted, widths}
 use Rattle.sch_anf_laws.proofs.valid.Parts.{node_good, joint_source, entry_for}
 use Rattle.sch_anf_laws.proofs.valid.PartsInTurn.{Listed, normal_turns, procedures_turn}
-use Rattle.sch_anf_laws.proofs.valid.SitesKept.{sites_in, sites_in_each, kept, fewer, fewer_each}
+use Rattle.sch_anf_laws.proofs.valid.SitesKept.{kept, fewer, fewer_each, calls_in, calls_in_each}
 use Rattle.sch_anf_laws.proofs.valid.ValidBodies.{Sound, procedure_sound, form_sound}
 
 -- ## Lists
@@ -82,7 +83,7 @@ entry_found (y ∷ cs) (suc i) x e = entry_found cs i x e
 module _ (starts : List ℕ) (f : ℕ × ℕ → ℕ) where
   abbrev pub rows_bodies : List Body → ℕ
   rows_bodies [] = 0
-  rows_bodies (b ∷ bs) = sum_by f (sites_in b.code) + rows_bodies bs
+  rows_bodies (b ∷ bs) = sum_by f (calls_in b.code) + rows_bodies bs
 
   codes_append : (xs ys : List Code) → sum_by f (sites_of_each (xs ++ ys)) ≡ sum_by f (sites_of_each xs) + sum_by f (sites_of_each ys)
   codes_append [] ys = omega arith
@@ -96,7 +97,7 @@ module _ (starts : List ℕ) (f : ℕ × ℕ → ℕ) where
       let h = procedures_kept bs in
       let k = kept starts f true b.code _ _ in
       sum_by-append f (to.sites_of (procedure_code starts b).expression) (sites_of_each (map (procedure_code starts) bs))
-      ∙ (ap (λ m. m + sum_by f (sites_of_each (map (procedure_code starts) bs))) k ∙ ap (λ m. sum_by f (sites_in b.code) + m) h)
+      ∙ (ap (λ m. m + sum_by f (sites_of_each (map (procedure_code starts) bs))) k ∙ ap (λ m. sum_by f (calls_in b.code) + m) h)
 
   rows_split : (bs : List Body) (d : ℕ) → rows_bodies (take d bs) + rows_bodies (drop d bs) ≡ rows_bodies bs
   rows_split bs zero = omega arith
@@ -104,12 +105,12 @@ module _ (starts : List ℕ) (f : ℕ × ℕ → ℕ) where
   rows_split (b ∷ bs) (suc d) = let h = rows_split bs d in omega (arith, h)
 
   pub all_kept : (forms : Trees) (places : List ℕ) (bodies : List Body) (before : ℕ)
-      → sum_by f (sites_of_each (normal_bodies starts before bodies forms places)) ≡ rows_bodies bodies + sum_by f (sites_in_each forms)
+      → sum_by f (sites_of_each (normal_bodies starts before bodies forms places)) ≡ rows_bodies bodies + sum_by f (calls_in_each forms)
   all_kept no_trees places bodies before = let h = procedures_kept bodies in omega (arith, h)
   all_kept (and_tree e es) [] bodies before =
       let h = all_kept es [] bodies before in
       let k = kept starts f false e [] 2 in
-      omega (arith, h, k, sum_by-append f (to.sites_of (form_code starts e).expression) (sites_of_each (normal_bodies starts before bodies es [])), sum_by-append f (sites_in e) (sites_in_each es))
+      omega (arith, h, k, sum_by-append f (to.sites_of (form_code starts e).expression) (sites_of_each (normal_bodies starts before bodies es [])), sum_by-append f (calls_in e) (calls_in_each es))
   all_kept (and_tree e es) (p ∷ places) bodies before =
       let h = all_kept es places (drop (p - before) bodies) p in
       let k = kept starts f false e [] 2 in
@@ -122,7 +123,7 @@ module _ (starts : List ℕ) (f : ℕ × ℕ → ℕ) where
         rows_split bodies (p - before),
         codes_append (map (procedure_code starts) (take (p - before) bodies)) (form_code starts e ∷ normal_bodies starts p (drop (p - before) bodies) es places),
         sum_by-append f (to.sites_of (form_code starts e).expression) (sites_of_each (normal_bodies starts p (drop (p - before) bodies) es places)),
-        sum_by-append f (sites_in e) (sites_in_each es),
+        sum_by-append f (calls_in e) (calls_in_each es),
       )
 
   rows_fewer : (bs : List Body) → rows_bodies bs ≤ sum_by f (over_bodies [] (λ x y. x ++ y) shapes.site_of bs)
@@ -206,7 +207,7 @@ module _ (listed : List ℕ) where
   row_good site width parts h g w e = let k = (width_within listed site width h).0 in let m : w ≡ width = cc in subst (λ w. Good w parts) (sym m) g
 
   mutual
-    rows_good : (e : Tree) → Every Width (ready.sites_in e) → Every RowGood (bound_rows e)
+    rows_good : (e : Tree) → Every Width (ready.all_sites e) → Every RowGood (bound_rows e)
     rows_good (constant c) h = tt
     rows_good (literal k) h = tt
     rows_good (variable v) h = tt
@@ -214,15 +215,15 @@ module _ (listed : List ℕ) where
     rows_good (set_global g e) h = rows_good e h
     rows_good (define g e) h = rows_good e h
     rows_good (branch x y z) h =
-        let k = every_right Width (ready.sites_in x) (ready.sites_in y ++ ready.sites_in z) h in
-        every_append RowGood (bound_rows x) (bound_rows y ++ bound_rows z) (rows_good x (every_left Width (ready.sites_in x) (ready.sites_in y ++ ready.sites_in z) h))
-        (every_append RowGood (bound_rows y) (bound_rows z) (rows_good y (every_left Width (ready.sites_in y) (ready.sites_in z) k))
-        (rows_good z (every_right Width (ready.sites_in y) (ready.sites_in z) k)))
+        let k = every_right Width (ready.all_sites x) (ready.all_sites y ++ ready.all_sites z) h in
+        every_append RowGood (bound_rows x) (bound_rows y ++ bound_rows z) (rows_good x (every_left Width (ready.all_sites x) (ready.all_sites y ++ ready.all_sites z) h))
+        (every_append RowGood (bound_rows y) (bound_rows z) (rows_good y (every_left Width (ready.all_sites y) (ready.all_sites z) k))
+        (rows_good z (every_right Width (ready.all_sites y) (ready.all_sites z) k)))
     rows_good (sequence es) h = rows_good_each es h
     rows_good (bind site first es e) h = (
-      row_good site (count es) (numbers 0 (count es)) h.0 (below_from 0 (count es) (count es) (omega arith), once_from 0 (count es)),
-      every_append RowGood (bound_rows_each es) (bound_rows e) (rows_good_each es (every_left Width (ready.sites_in_each es) (ready.sites_in e) h.1))
-          (rows_good e (every_right Width (ready.sites_in_each es) (ready.sites_in e) h.1)),
+      row_good site (count es) (numbers 0 (count es)) h.0 (below_from 0 (count es) (count es) (omega arith), distinct_numbers 0 (count es)),
+      every_append RowGood (bound_rows_each es) (bound_rows e) (rows_good_each es (every_left Width (ready.all_sites_each es) (ready.all_sites e) h.1))
+          (rows_good e (every_right Width (ready.all_sites_each es) (ready.all_sites e) h.1)),
     )
     rows_good (make_closure m) h = tt
     rows_good (fix_closures first ms e) h = rows_good e h
@@ -230,8 +231,8 @@ module _ (listed : List ℕ) where
         let o = operator_good f (suc (count es)) (omega arith) in (
           row_good site (suc (count es)) (bound_places 1 es (operator_place f)) h.0
               (places_few es 1 (suc (count es)) (operator_place f) (omega arith) o.0, places_once es 1 (operator_place f) o.2 o.1),
-          every_append RowGood (bound_rows f) (bound_rows_each es) (rows_good f (every_left Width (ready.sites_in f) (ready.sites_in_each es) h.1))
-              (rows_good_each es (every_right Width (ready.sites_in f) (ready.sites_in_each es) h.1)),
+          every_append RowGood (bound_rows f) (bound_rows_each es) (rows_good f (every_left Width (ready.all_sites f) (ready.all_sites_each es) h.1))
+              (rows_good_each es (every_right Width (ready.all_sites f) (ready.all_sites_each es) h.1)),
         )
     rows_good (operation site which es) h =
         (row_good site (count es) (bound_places 0 es []) h.0 (places_few es 0 (count es) [] (omega arith) refl, places_once es 0 [] (λ q l. refl) refl), rows_good_each es h.1)
@@ -239,17 +240,17 @@ module _ (listed : List ℕ) where
     rows_good (cell_get v) h = tt
     rows_good (cell_set v e) h = rows_good e h
 
-    rows_good_each : (es : Trees) → Every Width (ready.sites_in_each es) → Every RowGood (bound_rows_each es)
+    rows_good_each : (es : Trees) → Every Width (ready.all_sites_each es) → Every RowGood (bound_rows_each es)
     rows_good_each no_trees h = tt
     rows_good_each (and_tree e es) h =
-        every_append RowGood (bound_rows e) (bound_rows_each es) (rows_good e (every_left Width (ready.sites_in e) (ready.sites_in_each es) h))
-        (rows_good_each es (every_right Width (ready.sites_in e) (ready.sites_in_each es) h))
+        every_append RowGood (bound_rows e) (bound_rows_each es) (rows_good e (every_left Width (ready.all_sites e) (ready.all_sites_each es) h))
+        (rows_good_each es (every_right Width (ready.all_sites e) (ready.all_sites_each es) h))
 
   rows_good_bodies : (bs : List Body) → Every Width (over_bodies [] (λ x y. x ++ y) shapes.site_of bs) → Every RowGood (bound_rows_bodies bs)
   rows_good_bodies [] h = tt
   rows_good_bodies (b ∷ bs) h =
-      every_append RowGood (bound_rows b.code) (bound_rows_bodies bs) (rows_good b.code (every_left Width (ready.sites_in b.code) (over_bodies [] (λ x y. x ++ y) shapes.site_of bs) h))
-      (rows_good_bodies bs (every_right Width (ready.sites_in b.code) (over_bodies [] (λ x y. x ++ y) shapes.site_of bs) h))
+      every_append RowGood (bound_rows b.code) (bound_rows_bodies bs) (rows_good b.code (every_left Width (ready.all_sites b.code) (over_bodies [] (λ x y. x ++ y) shapes.site_of bs) h))
+      (rows_good_bodies bs (every_right Width (ready.all_sites b.code) (over_bodies [] (λ x y. x ++ y) shapes.site_of bs) h))
 
   looked_up : (rows : Bindings (List ℕ)) (site w : ℕ) → slice_get listed site ≡ Some w → Every RowGood rows → Good w (order_or_none (bound_to site rows))
   looked_up [] site w e h = (refl, refl)
@@ -417,8 +418,8 @@ module _ (p : Source) (closed : is_closed p ≡ true) (formed : is_formed p ≡ 
       rows : Every (RowGood p.sites) (bound_rows_source p)
       rows =
           every_append (RowGood p.sites) (bound_rows_bodies p.bodies) (bound_rows_each p.forms)
-          (rows_good_bodies p.sites p.bodies (every_left (Width p.sites) (over_bodies [] (λ x y. x ++ y) shapes.site_of p.bodies) (ready.sites_in_each p.forms) all))
-          (rows_good_each p.sites p.forms (every_right (Width p.sites) (over_bodies [] (λ x y. x ++ y) shapes.site_of p.bodies) (ready.sites_in_each p.forms) all))
+          (rows_good_bodies p.sites p.bodies (every_left (Width p.sites) (over_bodies [] (λ x y. x ++ y) shapes.site_of p.bodies) (ready.all_sites_each p.forms) all))
+          (rows_good_each p.sites p.forms (every_right (Width p.sites) (over_bodies [] (λ x y. x ++ y) shapes.site_of p.bodies) (ready.all_sites_each p.forms) all))
 
   abbrev bound : List (List ℕ)
   bound = normal.bound_parts p

@@ -14,7 +14,7 @@ use Rattle.sch_word.specs.values.Options.{or_false}
 use Rattle.sch_word.specs.trees.VariableCounts.{one_unless, twice_if, three_each}
 use Rattle.sch_cells.specs.Bodies.{counts_nothing, unassigned, all_same, bound_count, with_cells, variables, variables_each, variables_operands, variables_parts, procedure, procedures, bodies, bodies_each, bodies_lambdas, bodies_forms, bodies_of}
 use Rattle.sch_assign.specs.Converted.{and_cell, cells_for, empty_cells, filling, reading, wrapped, converted, converted_each, converted_lambdas, converted_source, Agree, AllAre, Low, Right, RightEach, RightLambdas}
-use Rattle.sch_assign.proofs.Lookups.{Apart, Where, inside, outside, where_is, inside_variables, outside_variables, agree_next}
+use Rattle.sch_assign.proofs.Lookups.{Apart, Where, inside, outside, where_is, inside_variables, outside_variables, agree_next, empty_length}
 use Rattle.sch_assign.proofs.kept.FreeMoved.{AllLow, low_with, count_same, count_lambdas_same, lambda_free}
 use Rattle.sch_assign.proofs.ConversionIsRight.{IsRight}
 use Rattle.sch_word.proofs.facts.NumberTests.{differ}
@@ -108,10 +108,6 @@ module _ (has_cell : ℕ → Bool) (n : ℕ) where
   empty_high : (x m y : ℕ) (once : Bindings Bool) → y < n → bound_to y (with_cells (empty_cells n x m) once) ≡ bound_to y once
   empty_high x zero y once l = refl
   empty_high x (suc m) y once l = empty_high (suc x) m y ((x + n, true) ∷ once) l ∙ (let t : nat_eq y (x + n) ≡ false = differ y (x + n) (λ e. omega (arith, e, l)) in rw t refl)
-
-  pub empty_length : (x m : ℕ) → length (empty_cells n x m) ≡ m
-  empty_length x zero = refl
-  empty_length x (suc m) = ap suc (empty_length (suc x) m)
 
   -- ## Which variables count once
 
@@ -295,7 +291,7 @@ module _ (has_cell : ℕ → Bool) (n : ℕ) where
         let ke = variables_kept e T o1 v r.3 low hv in
         let kf = filling_variables x m (converted has_cell n e) v (λ i l. inside_variables x i (all_same m true) u (let j = all_same_length m true in omega (arith, l, j)) ∙ all_same_get m i true l) in
         let kt = three m in
-        rw (count_same has_cell n es, empty_length x m, all_unassigned x m Q none, bound_count_unassigned x m Q none, kf, ks, ke) (omega (arith, kt))
+        rw (count_same has_cell n es, empty_length n x m, all_unassigned x m Q none, bound_count_unassigned x m Q none, kf, ks, ke) (omega (arith, kt))
     variables_kept (lambda name x m rest e) S o o' r g h = refl
     variables_kept (call site spread f es) S o o' r g h = rw (nothing_kept f S o o' r.0 g h, variables_kept f S o o' r.0 g h, operands_kept es S o o' r.1 g h) refl
     variables_kept (operation site which es) S o o' r g h = operands_kept es S o o' r g h

@@ -3,11 +3,10 @@
 use Rattle.std.proofs.Common.{◌≡◌, ℕ, zero, suc, ◌+◌, ◌<◌, Bool, true, false, List, [], ◌∷◌, length, map, refl, sym, ap, ◌∙◌, arith}
 use Rattle.std.specs.Prelude.{IsTrue, nat_eq, ◌||◌}
 use Rattle.std.proofs.lemmas.Bool.{eq-eqb}
-use Rattle.sch_word.specs.trees.NumberSets.{has, unless, union, without_repeats}
+use Rattle.sch_word.specs.trees.NumberSets.{has, unless, union, without_repeats, In}
 use Rattle.sch_word.specs.trees.Bindings.{numbers, scope_with, without}
 use Rattle.sch_cells.specs.Tree.{Tree, Trees, Lambdas, constant, literal, variable, global, set_variable, set_global, define, branch, sequence, bind, fix, letrec, lambda, call, operation, new_cells, cell_get, cell_set, no_trees, and_tree, no_lambdas, and_lambda, count, count_lambdas}
 use Rattle.sch_cells.specs.Variables.{without_each, cells_bound, cells_used, free, free_each, free_lambdas}
-use Rattle.sch_cells.specs.Clear.{In}
 use Rattle.sch_assign.specs.Converted.{cells_for, empty_cells, wrapped, reading, filling, converted, converted_each, converted_lambdas, Low, AllAre, Right, RightEach, RightLambdas}
 use Rattle.sch_assign.proofs.Lookups.{Where, inside, outside, where_is, in_outside, low_next, low_first, all_next, all_first, no_cells}
 use Rattle.sch_assign.proofs.Moved.{shift, moved, group_moved, lambda_moved}

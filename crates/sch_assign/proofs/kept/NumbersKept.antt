@@ -2,15 +2,13 @@
 use Rattle.std.proofs.Common.{◌≡◌, ℕ, zero, suc, ◌+◌, ◌-◌, ◌<◌, ◌≤◌, Bool, true, false, List, [], ◌∷◌, ◌++◌, refl, ap, ◌∙◌, subst, arith}
 use Rattle.std.specs.Prelude.{IsTrue, ◌||◌, not, nat_eq, nat_lt}
 use Rattle.std.proofs.lemmas.Bool.{eqb-true, eq-eqb, lt-ltb, ltb-true}
-use Rattle.sch_word.proofs.facts.Booleans.{not_true}
-use Rattle.sch_word.specs.trees.NumberSets.{has, without_repeats}
+use Rattle.sch_word.proofs.facts.Booleans.{not_true, and_of, and_parts}
+use Rattle.sch_word.specs.trees.NumberSets.{has, without_repeats, In}
 use Rattle.sch_word.specs.trees.Bindings.{numbers, scope_with}
-use Rattle.sch_word.proofs.Shaped.{parts, both_true}
 use Rattle.sch_cells.specs.declared.tree.NewCell.{NewCell}
 use Rattle.sch_cells.specs.Tree.{Tree, Trees, Lambdas, Source, constant, literal, variable, global, set_variable, set_global, define, branch, sequence, bind, fix, letrec, lambda, call, operation, new_cells, cell_get, cell_set, no_trees, and_tree, no_lambdas, and_lambda, count, count_lambdas}
 use Rattle.sch_cells.specs.Variables.{cells_bound, bound, bound_each, bound_lambdas, below}
 use Rattle.sch_cells.specs.Valid.{bound_of}
-use Rattle.sch_cells.specs.Clear.{In}
 use Rattle.sch_assign.specs.Converted.{and_cell, cells_for, empty_cells, filling, reading, wrapped, converted, converted_each, converted_lambdas, converted_source, AllAre, Low, Right, RightEach, RightLambdas}
 use Rattle.sch_assign.proofs.Lookups.{all_first, all_next, low_first, low_next}
 use Rattle.sch_assign.proofs.kept.FreeMoved.{count_same, count_lambdas_same}
@@ -25,7 +23,7 @@ times_three z xs ys zs = times_append z xs (ys ++ zs) ∙ ap (λ k. times z xs +
 distinct_times : (z : ℕ) (xs : List ℕ) → IsTrue (without_repeats xs) → times z xs ≤ 1
 distinct_times z [] d = omega arith
 distinct_times z (x ∷ xs) d =
-    let p = parts (not (has x xs)) (without_repeats xs) d in
+    let p = and_parts (not (has x xs)) (without_repeats xs) d in
     go (nat_eq x z) refl (not_true (has x xs) p.0) (distinct_times z xs p.1)
   where
     go : (b : Bool) → nat_eq x z ≡ b → has x xs ≡ false → times z xs ≤ 1 → times z (x ∷ xs) ≤ 1
@@ -38,7 +36,7 @@ distinct_times z (x ∷ xs) d =
 
 times_distinct : (xs : List ℕ) → ((z : ℕ) → times z xs ≤ 1) → IsTrue (without_repeats xs)
 times_distinct [] h = refl
-times_distinct (x ∷ xs) h = both_true (ap not (go (has x xs) refl)) (times_distinct xs (λ z. let k = h z in omega (arith, k, times_cons z x xs)))
+times_distinct (x ∷ xs) h = and_of _ _ (ap not (go (has x xs) refl)) (times_distinct xs (λ z. let k = h z in omega (arith, k, times_cons z x xs)))
   where
     go : (b : Bool) → has x xs ≡ b → b ≡ false
     go true e = absurd (let t = times_has x xs e in let k = h x in omega (arith, t, k, times_cons x x xs, one_same x))
@@ -47,7 +45,7 @@ times_distinct (x ∷ xs) h = both_true (ap not (go (has x xs) refl)) (times_dis
 below_all : (k : ℕ) (xs : List ℕ) → ((z : ℕ) → In z xs → z < k) → IsTrue (below k xs)
 below_all k [] h = refl
 below_all k (x ∷ xs) h =
-    both_true (lt-ltb x k (h x (let s : nat_eq x x ≡ true = eq-eqb x x refl in rw s refl))) (below_all k xs (λ z i. h z (more (nat_eq z x) i)))
+    and_of _ _ (lt-ltb x k (h x (let s : nat_eq x x ≡ true = eq-eqb x x refl in rw s refl))) (below_all k xs (λ z i. h z (more (nat_eq z x) i)))
   where
     more : (b : Bool) {c : Bool} → c ≡ true → (b || c) ≡ true
     more true e = refl

@@ -9,7 +9,8 @@ use Rattle.sch_cells.specs.Measures.{over, over_each, over_lambdas, shape, progr
 use Rattle.sch_assign.specs.Converted.{cells_for, filling, reading, wrapped, converted, converted_each, converted_lambdas, converted_source, Right, RightEach, RightLambdas}
 use Rattle.sch_assign.proofs.kept.FreeMoved.{AllLow, low_with, count_same, count_lambdas_same}
 use Rattle.sch_assign.proofs.ConversionIsRight.{IsRight}
-use Rattle.sch_assign.proofs.kept.BodiesKept.{procedure_kept, procedures_kept, nothing_low, empty_length}
+use Rattle.sch_assign.proofs.kept.BodiesKept.{procedure_kept, procedures_kept, nothing_low}
+use Rattle.sch_assign.proofs.Lookups.{empty_length}
 use Rattle.sch_assign.proofs.kept.ValidKept.{cells_length}
 
 -- the size of a tree, of trees and of lambdas
@@ -70,7 +71,7 @@ module _ (has_cell : ℕ → Bool) (n : ℕ) where
         let he = size_kept e T r.3 low in
         let hs = each_size es T r.2 low in
         let f = filling_size n x m (converted has_cell n e) in
-        rw (count_same has_cell n es, empty_length has_cell n x m) (omega (arith, he, hs, f))
+        rw (count_same has_cell n es, empty_length n x m) (omega (arith, he, hs, f))
     size_kept (lambda name x m rest e) S r g =
         let p = ap procedure_size (procedure_kept has_cell n name x m rest e S r.0 r.1 r.2 g) in
         let he = size_kept e (scope_with x m S) r.2 (low_with has_cell n x m S r.1 g) in

@@ -11,7 +11,8 @@ use Rattle.sch_cells.specs.Measures.{over, over_each, over_lambdas, shape, dropp
 use Rattle.sch_assign.specs.Converted.{cells_for, filling, reading, wrapped, converted, converted_each, converted_lambdas, converted_source, Right, RightEach, RightLambdas}
 use Rattle.sch_assign.proofs.kept.FreeMoved.{AllLow, count_lambdas_same, count_same, low_with}
 use Rattle.sch_assign.proofs.ConversionIsRight.{IsRight}
-use Rattle.sch_assign.proofs.kept.BodiesKept.{procedure_kept, procedures_kept, nothing_low, empty_length}
+use Rattle.sch_assign.proofs.kept.BodiesKept.{procedure_kept, procedures_kept, nothing_low}
+use Rattle.sch_assign.proofs.Lookups.{empty_length}
 use Rattle.sch_assign.proofs.kept.SizeKept.{size, size_each, size_lambdas}
 use Rattle.sch_assign.proofs.kept.ValidKept.{cells_length}
 
@@ -97,7 +98,7 @@ module _ (has_cell : ℕ → Bool) (n : ℕ) where
         let f = filling_weight n x m (converted has_cell n e) in
         let z = filled_weight n x m (dropped_parts (filling n x m (converted has_cell n e))) (converted has_cell n e) in
         let c = count_same has_cell n es in
-        omega (arith, he, hs, f, z, c, empty_length has_cell n x m)
+        omega (arith, he, hs, f, z, c, empty_length n x m)
     weight_kept (lambda name x m rest e) S r g =
         let p = ap (λ q. weight_of (shapes.lambda q)) (procedure_kept has_cell n name x m rest e S r.0 r.1 r.2 g) in
         let he = weight_kept e (scope_with x m S) r.2 (low_with has_cell n x m S r.1 g) in

@@ -4,7 +4,7 @@ use Rattle.std.specs.Prelude.{IsTrue, nat_le}
 use Rattle.std.specs.List.{list_all}
 use Rattle.std.proofs.Math.Nat.{le-max_left, le-max_right, max-le}
 use Rattle.std.proofs.lemmas.Bool.{le-leb}
-use Rattle.sch_word.proofs.Shaped.{both_true}
+use Rattle.sch_word.proofs.facts.Booleans.{and_of}
 use Rattle.sch_cells.specs.Tree.{Tree, Trees, Lambdas, constant, literal, variable, global, set_variable, set_global, define, branch, sequence, bind, fix, letrec, lambda, call, operation, new_cells, cell_get, cell_set, no_trees, and_tree, no_lambdas, and_lambda}
 use Rattle.sch_cells.specs.Measures.{levels, levels_each, levels_lambdas}
 use Rattle.sch_flat.specs.Tree as flat
@@ -85,7 +85,7 @@ module _ (limit : ℕ) where
         list_both within (all_of_each body_of es n) _ (each_bodies es n (left_of (levels e) (less h))) (bodies e (n + procedures_each es) (right_of (levels_each es) (less h)))
     bodies (fix x ls e) n h =
         list_both within (all_of_lambdas body_of ls n) _ (lambdas_bodies ls n (left_of (levels e) (less h))) (bodies e (n + procedures_lambdas ls) (right_of (levels_lambdas ls) (less h)))
-    bodies (lambda name x m rest e) n h = both_true (one name x m rest e n (less h)) (bodies e (suc n) (less h))
+    bodies (lambda name x m rest e) n h = and_of _ _ (one name x m rest e n (less h)) (bodies e (suc n) (less h))
     bodies (call site spread g es) n h =
         list_both within (all_procedures body_of g n) _ (bodies g n (left_of (levels_each es) (less h))) (each_bodies es (n + procedures g) (right_of (levels g) (less h)))
     bodies (operation site which es) n h = each_bodies es n (less h)
@@ -102,4 +102,4 @@ module _ (limit : ℕ) where
     lambdas_bodies no_lambdas n h = refl
     lambdas_bodies (and_lambda name x m rest e ls) n h =
         let l = less (left_of (levels_lambdas ls) h) in
-        both_true (one name x m rest e n l) (list_both within (all_procedures body_of e (suc n)) _ (bodies e (suc n) l) (lambdas_bodies ls (suc n + procedures e) (right_of (1 + levels e) h)))
+        and_of _ _ (one name x m rest e n l) (list_both within (all_procedures body_of e (suc n)) _ (bodies e (suc n) l) (lambdas_bodies ls (suc n + procedures e) (right_of (1 + levels e) h)))

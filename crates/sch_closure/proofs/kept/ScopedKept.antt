@@ -4,14 +4,12 @@ use Rattle.std.proofs.Common.{◌≡◌, ℕ, zero, suc, ◌+◌, Bool, true, fa
 use Rattle.std.specs.Prelude.{IsTrue, nat_eq, not, ◌||◌, ◌&&◌, slice_get}
 use Rattle.std.specs.List.{list_all}
 use Rattle.std.proofs.lemmas.Bool.{eqb-true, lt-ltb}
-use Rattle.sch_word.specs.trees.NumberSets.{has, union, without_repeats}
+use Rattle.sch_word.specs.trees.NumberSets.{has, union, without_repeats, In}
 use Rattle.sch_word.specs.trees.Bindings.{numbers, without, remove, scope_with}
-use Rattle.sch_word.proofs.Shaped.{parts, both_true}
 use Rattle.sch_cells.specs.declared.tree.NewCell.{NewCell}
 use Rattle.sch_cells.specs.Tree.{Tree, Trees, Lambdas, constant, literal, variable, global, set_variable, set_global, define, branch, sequence, bind, fix, letrec, lambda, call, operation, new_cells, cell_get, cell_set, no_trees, and_tree, no_lambdas, and_lambda, count, count_lambdas}
 use Rattle.sch_cells.specs.Variables.{free, free_each, free_lambdas, bound, bound_each, bound_lambdas, cells_bound, cells_used, and_some, without_each, scope_of}
-use Rattle.sch_cells.specs.Clear.{In, Apart, Clear, ClearEach, ClearLambdas}
-use Rattle.sch_cells.proofs.Clearing.{distinct_left, distinct_right}
+use Rattle.sch_cells.specs.Clear.{Apart, Clear, ClearEach, ClearLambdas}
 use Rattle.sch_flat.specs.Tree as flat
 use Rattle.sch_flat.specs.Valid.{is_known, is_content, cells_scope, cell_variables, all_new, is_made, body_scoped}
 use Rattle.sch_flat.specs.Valid as valid
@@ -22,9 +20,9 @@ use Rattle.sch_closure.proofs.Sets.{remove_other}
 use Rattle.sch_closure.proofs.Scopes.{Within, each_within}
 use Rattle.sch_closure.proofs.Same.{made_length}
 use Rattle.sch_word.proofs.facts.NumberTests.{same}
-use Rattle.sch_word.proofs.facts.NumberSets.{in_more, in_here, union_left, union_right}
+use Rattle.sch_word.proofs.facts.NumberSets.{in_more, in_here, union_left, union_right, distinct_left, distinct_right}
 use Rattle.sch_word.proofs.facts.Lists.{map_length}
-use Rattle.sch_word.proofs.facts.Booleans.{not_true, is_not_true}
+use Rattle.sch_word.proofs.facts.Booleans.{not_true, is_not_true, and_of, and_parts}
 
 -- ## Variables that are known
 
@@ -70,7 +68,7 @@ is_one_known fs own xs x k i = let p : 0 + length fs ≡ length fs = omega arith
 
 all_known : (fs own xs : List ℕ) → Known fs own xs → IsTrue (list_all (is_known own (length fs)) (map (place fs) xs))
 all_known fs own [] k = refl
-all_known fs own (x ∷ xs) k = both_true (is_one_known fs own (x ∷ xs) x k (in_here x xs)) (all_known fs own xs (known_less (x ∷ xs) xs (λ y i. in_more y x xs i) k))
+all_known fs own (x ∷ xs) k = and_of _ _ (is_one_known fs own (x ∷ xs) x k (in_here x xs)) (all_known fs own xs (known_less (x ∷ xs) xs (λ y i. in_more y x xs i) k))
 
 contents_known : (fs own : List ℕ) (cs : List NewCell) → Known fs own (cells_used cs) → IsTrue (list_all (λ c. is_content own (length fs) c.content) (map (placed fs) cs))
 contents_known fs own [] k = refl
@@ -79,7 +77,7 @@ contents_known fs own (c ∷ cs) k = go (λ k. contents_known fs own cs k) c.con
     go : (Known fs own (cells_used cs) → IsTrue (list_all (λ c. is_content own (length fs) c.content) (map (placed fs) cs))) → (o : Option ℕ) → Known fs own (and_some o (cells_used cs))
         → IsTrue (is_content own (length fs) (place_or_none fs o) && list_all (λ c. is_content own (length fs) c.content) (map (placed fs) cs))
     go rest None k = rest k
-    go rest (Some x) k = both_true (is_one_known fs own (x ∷ []) x (known_left (x ∷ []) (cells_used cs) k) (in_here x [])) (rest (known_right (x ∷ []) (cells_used cs) k))
+    go rest (Some x) k = and_of _ _ (is_one_known fs own (x ∷ []) x (known_left (x ∷ []) (cells_used cs) k) (in_here x [])) (rest (known_right (x ∷ []) (cells_used cs) k))
 
 -- ## Variables that are new
 
@@ -89,8 +87,8 @@ record New (xs own : List ℕ) : Type 0 where
 all_are_new : (xs own : List ℕ) → IsTrue (without_repeats xs) → New xs own → IsTrue (all_new xs own)
 all_are_new [] own d n = refl
 all_are_new (x ∷ xs) own d n =
-    let p = parts (not (has x xs)) (without_repeats xs) d in
-    both_true (is_not_true (has x own) (n.at x (in_here x xs))) (all_are_new xs (x ∷ own) p.1 (record { at = λ y i. go y i (nat_eq y x) refl (not_true (has x xs) p.0) }))
+    let p = and_parts (not (has x xs)) (without_repeats xs) d in
+    and_of _ _ (is_not_true (has x own) (n.at x (in_here x xs))) (all_are_new xs (x ∷ own) p.1 (record { at = λ y i. go y i (nat_eq y x) refl (not_true (has x xs) p.0) }))
   where
     go : (y : ℕ) → In y xs → (b : Bool) → nat_eq y x ≡ b → has x xs ≡ false → (nat_eq y x || has y own) ≡ false
     go y i true e f = absurd (let q : y ≡ x = eqb-true y x e in let r : has x xs ≡ true = subst (λ z. has z xs ≡ true) q i in cc)
@@ -130,18 +128,18 @@ counts (and_tree e es) fs n = ap suc (counts es fs (n + procedures e))
 
 pub list_both : {A : Type 0} (test : A → Bool) (xs ys : List A) → IsTrue (list_all test xs) → IsTrue (list_all test ys) → IsTrue (list_all test (xs ++ ys))
 list_both test [] ys p q = q
-list_both test (x ∷ xs) ys p q = let r = parts (test x) (list_all test xs) p in both_true r.0 (list_both test xs ys r.1 q)
+list_both test (x ∷ xs) ys p q = let r = and_parts (test x) (list_all test xs) p in and_of _ _ r.0 (list_both test xs ys r.1 q)
 
 module _ (all : List flat.Body) where
   record_known : (name : List ℕ) (x m : ℕ) (rest : Bool) (e : Tree) (fs own : List ℕ) (n : ℕ) → Known fs own (fields_of x m e) → slice_get all n ≡ Some (body_of name x m rest e n)
       → IsTrue (is_made all own (length fs) (made x m e fs n))
   record_known name x m rest e fs own n k h =
-      both_true (all_known fs own (fields_of x m e) k) (rw (h, map_length (place fs) (fields_of x m e)) (same (length (fields_of x m e))))
+      and_of _ _ (all_known fs own (fields_of x m e) k) (rw (h, map_length (place fs) (fields_of x m e)) (same (length (fields_of x m e))))
 
   lambdas_known : (ls : Lambdas) (fs own : List ℕ) (n : ℕ) → Known fs own (free_lambdas ls) → StandLambdas all ls n → IsTrue (list_all (is_made all own (length fs)) (made_each ls fs n))
   lambdas_known no_lambdas fs own n k t = refl
   lambdas_known (and_lambda name x m rest e ls) fs own n k t =
-      both_true (record_known name x m rest e fs own n (known_left (fields_of x m e) (free_lambdas ls) k) t.0.0)
+      and_of _ _ (record_known name x m rest e fs own n (known_left (fields_of x m e) (free_lambdas ls) k) t.0.0)
       (lambdas_known ls fs own (suc n + procedures e) (known_right (fields_of x m e) (free_lambdas ls) k) t.1)
 
   mutual
@@ -157,16 +155,16 @@ module _ (all : List flat.Body) where
     scoped (branch a b c) fs own S n k w c' f d t =
         let k' = known_right (free a) (union (free b) (free c)) k in
         let d' = distinct_right (bound a) (bound b ++ bound c) d in
-        both_true (scoped a fs own S n (known_left (free a) (union (free b) (free c)) k) w c'.0 f.0 (distinct_left (bound a) (bound b ++ bound c) d) t.0)
-        (both_true (scoped b fs own S (n + procedures a) (known_left (free b) (free c) k') w c'.1 f.1 (distinct_left (bound b) (bound c) d') t.1)
+        and_of _ _ (scoped a fs own S n (known_left (free a) (union (free b) (free c)) k) w c'.0 f.0 (distinct_left (bound a) (bound b ++ bound c) d) t.0)
+        (and_of _ _ (scoped b fs own S (n + procedures a) (known_left (free b) (free c) k') w c'.1 f.1 (distinct_left (bound b) (bound c) d') t.1)
         (scoped c fs own S (n + procedures a + procedures b) (known_right (free b) (free c) k') w c'.2 f.2 (distinct_right (bound b) (bound c) d') t.2))
     scoped (sequence es) fs own S n k w c' f d t = each_scoped es fs own S n k w c' f d t
     scoped (bind site x es e) fs own S n k w c' f d t =
         let m = count es in
         let d' = distinct_right (numbers x m) (bound_each es ++ bound e) d in
         rw (counts es fs n)
-        (both_true (each_scoped es fs own S n (known_left (free_each es) (without x m (free e)) k) w c'.0 f.1 (distinct_left (bound_each es) (bound e) d') t.0)
-        (both_true (all_are_new (numbers x m) own (distinct_left (numbers x m) (bound_each es ++ bound e) d) (new_here (numbers x m) own S w c'.1))
+        (and_of _ _ (each_scoped es fs own S n (known_left (free_each es) (without x m (free e)) k) w c'.0 f.1 (distinct_left (bound_each es) (bound e) d') t.0)
+        (and_of _ _ (all_are_new (numbers x m) own (distinct_left (numbers x m) (bound_each es ++ bound e) d) (new_here (numbers x m) own S w c'.1))
         (scoped e fs (scope_with x m own) (scope_with x m S) (n + procedures_each es) (known_with x m (free e) (known_right (free_each es) (without x m (free e)) k))
         (within_with x m own S w) c'.2 f.2 (distinct_right (bound_each es) (bound e) d') t.1)))
     scoped (fix x ls e) fs own S n k w c' f d t =
@@ -174,32 +172,32 @@ module _ (all : List flat.Body) where
         let k' = known_with x m (union (free_lambdas ls) (free e)) k in
         let d' = distinct_right (numbers x m) (bound_lambdas ls ++ bound e) d in
         rw (made_length ls fs n)
-        (both_true (all_are_new (numbers x m) own (distinct_left (numbers x m) (bound_lambdas ls ++ bound e) d) (new_here (numbers x m) own S w c'.0))
-        (both_true (lambdas_known ls fs (scope_with x m own) n (known_left (free_lambdas ls) (free e) k') t.0)
+        (and_of _ _ (all_are_new (numbers x m) own (distinct_left (numbers x m) (bound_lambdas ls ++ bound e) d) (new_here (numbers x m) own S w c'.0))
+        (and_of _ _ (lambdas_known ls fs (scope_with x m own) n (known_left (free_lambdas ls) (free e) k') t.0)
         (scoped e fs (scope_with x m own) (scope_with x m S) (n + procedures_lambdas ls) (known_right (free_lambdas ls) (free e) k') (within_with x m own S w) c'.2 f.2
         (distinct_right (bound_lambdas ls) (bound e) d') t.1)))
     scoped (letrec site x es e) fs own S n k w c' f d t = absurd f
     scoped (lambda name x m rest e) fs own S n k w c' f d t = record_known name x m rest e fs own n k t.0
     scoped (call site spread g es) fs own S n k w c' f d t =
-        both_true (scoped g fs own S n (known_left (free g) (free_each es) k) w c'.0 f.0 (distinct_left (bound g) (bound_each es) d) t.0)
+        and_of _ _ (scoped g fs own S n (known_left (free g) (free_each es) k) w c'.0 f.0 (distinct_left (bound g) (bound_each es) d) t.0)
         (each_scoped es fs own S (n + procedures g) (known_right (free g) (free_each es) k) w c'.1 f.1 (distinct_right (bound g) (bound_each es) d) t.1)
     scoped (operation site which es) fs own S n k w c' f d t = each_scoped es fs own S n k w c' f d t
     scoped (new_cells cs e) fs own S n k w c' f d t =
         let k' = known_right (cells_used cs) (without_each (cells_bound cs) (free e)) k in
         rw (variables_same fs cs)
-        (both_true (contents_known fs own cs (known_left (cells_used cs) (without_each (cells_bound cs) (free e)) k))
-        (both_true (all_are_new (cells_bound cs) own (distinct_left (cells_bound cs) (bound e) d) (new_here (cells_bound cs) own S w c'.1))
+        (and_of _ _ (contents_known fs own cs (known_left (cells_used cs) (without_each (cells_bound cs) (free e)) k))
+        (and_of _ _ (all_are_new (cells_bound cs) own (distinct_left (cells_bound cs) (bound e) d) (new_here (cells_bound cs) own S w c'.1))
         (scoped e fs (cells_scope (map (placed fs) cs) own) (scope_of (cells_bound cs) S) n (known_cells fs cs (free e) k') (within_cells fs cs own S w) c'.2 f.1
         (distinct_right (cells_bound cs) (bound e) d) t)))
     scoped (cell_get x) fs own S n k w c' f d t = is_one_known fs own (x ∷ []) x k (in_here x [])
     scoped (cell_set x e) fs own S n k w c' f d t =
-        both_true (is_one_known fs own (x ∷ []) x (known_left (x ∷ []) (free e) k) (in_here x [])) (scoped e fs own S n (known_right (x ∷ []) (free e) k) w c'.1 f d t)
+        and_of _ _ (is_one_known fs own (x ∷ []) x (known_left (x ∷ []) (free e) k) (in_here x [])) (scoped e fs own S n (known_right (x ∷ []) (free e) k) w c'.1 f d t)
 
     each_scoped : (es : Trees) (fs own S : List ℕ) (n : ℕ) → Known fs own (free_each es) → Within own S → ClearEach es S → FreshEach es fs → IsTrue (without_repeats (bound_each es)) → StandEach all es n
         → IsTrue (valid.scoped_each all (closed_each es fs n) own (length fs))
     each_scoped no_trees fs own S n k w c' f d t = refl
     each_scoped (and_tree e es) fs own S n k w c' f d t =
-        both_true (scoped e fs own S n (known_left (free e) (free_each es) k) w c'.0 f.0 (distinct_left (bound e) (bound_each es) d) t.0)
+        and_of _ _ (scoped e fs own S n (known_left (free e) (free_each es) k) w c'.0 f.0 (distinct_left (bound e) (bound_each es) d) t.0)
         (each_scoped es fs own S (n + procedures e) (known_right (free e) (free_each es) k) w c'.1 f.1 (distinct_right (bound e) (bound_each es) d) t.1)
 
   body_known : (name : List ℕ) (x m : ℕ) (rest : Bool) (e : Tree) (S : List ℕ) (n : ℕ) → Clear e (scope_with x m S) → Fresh e (fields_of x m e) → IsTrue (without_repeats (bound e)) → Stand all e (suc n)
@@ -234,7 +232,7 @@ module _ (all : List flat.Body) where
     bodies_known (letrec site x es e) fs S n c' f d t = absurd f
     bodies_known (lambda name x m rest e) fs S n c' f d t =
         let d' = distinct_right (numbers x m) (bound e) d in
-        both_true (body_known name x m rest e S n c'.1 f.1 d' t.1) (bodies_known e (fields_of x m e) (scope_with x m S) (suc n) c'.1 f.1 d' t.1)
+        and_of _ _ (body_known name x m rest e S n c'.1 f.1 d' t.1) (bodies_known e (fields_of x m e) (scope_with x m S) (suc n) c'.1 f.1 d' t.1)
     bodies_known (call site spread g es) fs S n c' f d t =
         list_both _ (all_procedures body_of g n) _ (bodies_known g fs S n c'.0 f.0 (distinct_left (bound g) (bound_each es) d) t.0)
         (each_bodies_known es fs S (n + procedures g) c'.1 f.1 (distinct_right (bound g) (bound_each es) d) t.1)
@@ -256,7 +254,7 @@ module _ (all : List flat.Body) where
     lambdas_bodies_known (and_lambda name x m rest e ls) S n c' f d t =
         let d' = distinct_right (numbers x m) (bound e ++ bound_lambdas ls) d in
         let d'' = distinct_left (bound e) (bound_lambdas ls) d' in
-        both_true (body_known name x m rest e S n c'.0.1 f.0.1 d'' t.0.1)
+        and_of _ _ (body_known name x m rest e S n c'.0.1 f.0.1 d'' t.0.1)
         (list_both _ (all_procedures body_of e (suc n)) _ (bodies_known e (fields_of x m e) (scope_with x m S) (suc n) c'.0.1 f.0.1 d'' t.0.1)
         (lambdas_bodies_known ls S (suc n + procedures e) c'.1 f.1 (distinct_right (bound e) (bound_lambdas ls) d') t.1))
 

@@ -5,13 +5,13 @@ use Rattle.std.specs.List.{list_all, count_by}
 use Rattle.std.proofs.lemmas.List.Sums.{sum_by-append}
 use Rattle.std.proofs.lemmas.Bool.{eq-eqb, leb-true, le-leb}
 use Rattle.std.proofs.lemmas.List.{map-append}
+use Rattle.sch_word.proofs.facts.Booleans.{and_of, and_parts}
 use Rattle.sch_word.specs.trees.Bindings.{scope_with}
 use Rattle.sch_word.specs.runs.Computation.{numbers_from}
 use Rattle.sch_word.specs.values.Literals.{count_literals}
 use Rattle.sch_word.specs.runs.Runs.{SameRuns}
 use Rattle.sch_word.specs.trees.Shape as shapes
 use Rattle.sch_word.specs.trees.Shape.{names_known, constant_in_range, well_formed, fits, procedures_fit, is_width, max_operands, max_levels, max_variables, max_free_variables}
-use Rattle.sch_word.proofs.Shaped.{parts, both_true}
 use Rattle.sch_cells.specs.Tree.{Tree, Trees, Lambdas, Source, constant, literal, variable, global, set_variable, set_global, define, branch, sequence, bind, fix, letrec, lambda, call, operation, new_cells, cell_get, cell_set, no_trees, and_tree, no_lambdas, and_lambda, count}
 use Rattle.sch_cells.specs.Bodies as bodies
 use Rattle.sch_cells.specs.BoxedMeaning as from_meaning
@@ -21,7 +21,8 @@ use Rattle.sch_cells.specs.Valid as valid
 use Rattle.sch_word.specs.trees.NumberSets.{without_repeats}
 use Rattle.sch_cells.specs.Variables.{free, bound_each, bound_lambdas, below}
 use Rattle.sch_cells.specs.Clear.{ClearEach, ClearLambdas}
-use Rattle.sch_cells.proofs.Clearing.{program_clear, distinct_left, distinct_right}
+use Rattle.sch_cells.proofs.Clearing.{program_clear}
+use Rattle.sch_word.proofs.facts.NumberSets.{distinct_left, distinct_right}
 use Rattle.sch_flat.specs.Tree as flat
 use Rattle.sch_flat.specs.Measures as to
 use Rattle.sch_flat.specs.Run as to_run
@@ -79,7 +80,7 @@ sites_counted test p fl f =
 none_fails : {A : Type 0} (t : A → Bool) (xs : List A) → IsTrue (list_all t xs) → count_by (λ x. not (t x)) xs ≡ 0
 none_fails t [] h = refl
 none_fails t (x ∷ xs) h =
-    let r = parts (t x) (list_all t xs) h in
+    let r = and_parts (t x) (list_all t xs) h in
     rw (r.0) (omega (arith, none_fails t xs r.1))
 
 count_cons : {A : Type 0} (p : A → Bool) (x : A) (xs : List A) → count_by p (x ∷ xs) ≡ cond (p x) 1 0 + count_by p xs
@@ -95,7 +96,7 @@ all_hold t (x ∷ xs) h = go (t x) (λ k. all_hold t xs k) (sym (count_cons (λ 
 
 alike : {A : Type 0} (p q : A → Bool) (xs : List A) → ((x : A) → q x ≡ p x) → IsTrue (list_all p xs) → IsTrue (list_all q xs)
 alike p q [] e h = refl
-alike p q (x ∷ xs) e h = let r = parts (p x) (list_all p xs) h in both_true (e x ∙ r.0) (alike p q xs e r.1)
+alike p q (x ∷ xs) e h = let r = and_parts (p x) (list_all p xs) h in and_of _ _ (e x ∙ r.0) (alike p q xs e r.1)
 
 -- ## Labels and starts
 
@@ -103,7 +104,7 @@ labels_known : (all : List flat.Body) (ls : Lambdas) (n : ℕ) → ClearLambdas 
 labels_known all no_lambdas n c t = refl
 labels_known all (and_lambda name x m rest e ls) n c t =
     let none = none_within (fields_of x m e) (without_scope x m (free e) [] (free_within e (scope_with x m []) c.0.1)) in
-    both_true (rw (t.0.0) (rw none refl)) (labels_known all ls (suc n + procedures e) c.1 t.1)
+    and_of _ _ (rw (t.0.0) (rw none refl)) (labels_known all ls (suc n + procedures e) c.1 t.1)
 
 starts_length : (es : Trees) (n : ℕ) → length (starts es n) ≡ count es
 starts_length no_trees n = refl
@@ -111,7 +112,7 @@ starts_length (and_tree e es) n = ap suc (starts_length es (n + procedures e))
 
 starts_ascend : (es : Trees) (from n last : ℕ) → from ≤ n → n + procedures_each es ≤ last → IsTrue (ascending from last (starts es n))
 starts_ascend no_trees from n last h k = le-leb from last (omega (arith, h, k))
-starts_ascend (and_tree e es) from n last h k = both_true (le-leb from n h) (starts_ascend es n (n + procedures e) last (omega arith) (omega (arith, k)))
+starts_ascend (and_tree e es) from n last h k = and_of _ _ (le-leb from n h) (starts_ascend es n (n + procedures e) last (omega arith) (omega (arith, k)))
 
 -- ## The fields of procedures are few
 
@@ -158,14 +159,14 @@ mutual
 few_fields : (bs : List flat.Body) → IsTrue (list_all body_fits bs) → IsTrue (list_all (λ k. nat_le k max_free_variables) (map body_fields bs))
 few_fields [] h = refl
 few_fields (b ∷ bs) h =
-    let r = parts (body_fits b) (list_all body_fits bs) h in
-    let q = parts (nat_le b.formals max_operands) _ (parts (not b.rest || nat_le 1 b.formals) _ r.0).1 in
-    both_true (parts (nat_le b.fields max_free_variables) _ q.1).0 (few_fields bs r.1)
+    let r = and_parts (body_fits b) (list_all body_fits bs) h in
+    let q = and_parts (nat_le b.formals max_operands) _ (and_parts (not b.rest || nat_le 1 b.formals) _ r.0).1 in
+    and_of _ _ (and_parts (nat_le b.fields max_free_variables) _ q.1).0 (few_fields bs r.1)
 
 each_short : (all : List (List ℕ)) → IsTrue (list_all (λ k. nat_le k max_free_variables) (map length all)) → (k : ℕ) (xs : List ℕ) → slice_get all k ≡ Some xs → length xs < 2 ^ 32
 each_short [] h k xs e = absurd (cc)
 each_short (ys ∷ all) h zero xs e =
-    let r = parts (nat_le (length ys) max_free_variables) _ h in
+    let r = and_parts (nat_le (length ys) max_free_variables) _ h in
     let p : ys ≡ xs = ap (λ o. some_or o ys) e in
     let l : length xs ≤ max_free_variables = subst (λ zs. length zs ≤ max_free_variables) p (leb-true (length ys) max_free_variables r.0) in
     omega (arith, l)
@@ -173,7 +174,7 @@ each_short (ys ∷ all) h zero xs e =
     some_or : Option (List ℕ) → List ℕ → List ℕ
     some_or None other = other
     some_or (Some zs) other = zs
-each_short (ys ∷ all) h (suc k) xs e = each_short all (parts (nat_le (length ys) max_free_variables) _ h).1 k xs e
+each_short (ys ∷ all) h (suc k) xs e = each_short all (and_parts (nat_le (length ys) max_free_variables) _ h).1 k xs e
 
 -- ## Programs
 
@@ -189,10 +190,10 @@ module _ (p : Source) (g : Given p) where
 
   boxes : BoxedLambdas p.library × BoxedEach p.forms
   boxes =
-      let q = (parts (every (λ e. valid.has_form true (shape e)) p) _
-      (parts (every (λ e. valid.has_form true (shape e)) p && every
+      let q = (and_parts (every (λ e. valid.has_form true (shape e)) p) _
+      (and_parts (every (λ e. valid.has_form true (shape e)) p && every
       (λ e. names_known (length p.statics.symbols) (count_literals p.statics.literals) (length p.statics.globals) (shape e)) p) _ g.formed).0).0 in
-      parts (from.over_lambdas true (λ a b. a && b) (λ e. valid.has_form true (shape e)) p.library) _ q
+      and_parts (from.over_lambdas true (λ a b. a && b) (λ e. valid.has_form true (shape e)) p.library) _ q
 
   pub fresh_library : FreshLambdas p.library
   fresh_library = fresh_lambdas p.library [] clears.0 boxes.0
@@ -202,7 +203,7 @@ module _ (p : Source) (g : Given p) where
 
   distincts : IsTrue (without_repeats (bound_lambdas p.library)) × IsTrue (without_repeats (bound_each p.forms))
   distincts =
-      let d = (parts (without_repeats (valid.bound_of p)) _ (parts (without_repeats (valid.bound_of p) && below p.variables (valid.bound_of p)) _ g.scoped).0).0 in
+      let d = (and_parts (without_repeats (valid.bound_of p)) _ (and_parts (without_repeats (valid.bound_of p) && below p.variables (valid.bound_of p)) _ g.scoped).0).0 in
       (distinct_left (bound_lambdas p.library) (bound_each p.forms) d, distinct_right (bound_lambdas p.library) (bound_each p.forms) d)
 
   pub same_runs : SameRuns (from_meaning.run p) (to_run.run (closed_source p))
@@ -213,48 +214,48 @@ module _ (p : Source) (g : Given p) where
       let all = (closed_source p).bodies in
       let tl = stands_library body_of p.library p.forms in
       let tf = stands_forms body_of p.library p.forms in
-      both_true (list_both (body_scoped all) (all_of_lambdas body_of p.library 0) _ (lambdas_bodies_known all p.library [] 0 clears.0 fresh_library distincts.0 tl)
+      and_of _ _ (list_both (body_scoped all) (all_of_lambdas body_of p.library 0) _ (lambdas_bodies_known all p.library [] 0 clears.0 fresh_library distincts.0 tl)
       (each_bodies_known all p.forms [] [] (procedures_lambdas p.library) clears.1 fresh_forms distincts.1 tf))
-      (both_true (forms_known all p.forms (procedures_lambdas p.library) clears.1 fresh_forms distincts.1 tf) (labels_known all p.library 0 clears.0 tl))
+      (and_of _ _ (forms_known all p.forms (procedures_lambdas p.library) clears.1 fresh_forms distincts.1 tf) (labels_known all p.library 0 clears.0 tl))
 
   fitted : IsTrue (procedures_fit max_variables (bodies.procedures p.library)) × IsTrue (valid.forms_fit p.forms) × IsTrue (every (λ e. fits max_variables (shape e)) p)
   fitted =
-      let q = parts (procedures_fit max_variables (bodies.procedures p.library) && valid.forms_fit p.forms) _
-      (parts (nat_le (levels_lambdas p.library) (3 * max_levels) && nat_le (levels_each p.forms) (3 * max_levels)) _ g.limited).1 in
-      let r = parts (procedures_fit max_variables (bodies.procedures p.library)) _ q.0 in
+      let q = and_parts (procedures_fit max_variables (bodies.procedures p.library) && valid.forms_fit p.forms) _
+      (and_parts (nat_le (levels_lambdas p.library) (3 * max_levels) && nat_le (levels_each p.forms) (3 * max_levels)) _ g.limited).1 in
+      let r = and_parts (procedures_fit max_variables (bodies.procedures p.library)) _ q.0 in
       (r.0, r.1, q.1)
 
   pub formed_kept : IsTrue (to_valid.is_formed (closed_source p))
   formed_kept =
-      let h = parts (every (λ e. valid.has_form true (shape e)) p
+      let h = and_parts (every (λ e. valid.has_form true (shape e)) p
       && every (λ e. names_known (length p.statics.symbols) (count_literals p.statics.literals) (length p.statics.globals) (shape e)) p) _ g.formed in
-      let names = (parts (every (λ e. valid.has_form true (shape e)) p) _ h.0).1 in
-      let shaped = (parts (every (λ e. well_formed (shape e)) p) _ h.1).0 in
-      both_true (names_kept p fresh_library fresh_forms (length p.statics.symbols) (count_literals p.statics.literals) (length p.statics.globals) names)
-      (both_true (well_formed_kept p fresh_library fresh_forms shaped)
-      (both_true (fits_kept p fresh_library fresh_forms fitted.2)
-      (both_true (bodies_fit p fresh_library fresh_forms fitted.0 fitted.2) (forms_fit_kept p fresh_library fresh_forms clears.1 fitted.1))))
+      let names = (and_parts (every (λ e. valid.has_form true (shape e)) p) _ h.0).1 in
+      let shaped = (and_parts (every (λ e. well_formed (shape e)) p) _ h.1).0 in
+      and_of _ _ (names_kept p fresh_library fresh_forms (length p.statics.symbols) (count_literals p.statics.literals) (length p.statics.globals) names)
+      (and_of _ _ (well_formed_kept p fresh_library fresh_forms shaped)
+      (and_of _ _ (fits_kept p fresh_library fresh_forms fitted.2)
+      (and_of _ _ (bodies_fit p fresh_library fresh_forms fitted.0 fitted.2) (forms_fit_kept p fresh_library fresh_forms clears.1 fitted.1))))
 
   pub constants_kept : IsTrue (valid.constants_in_range p) → IsTrue (to_valid.constants_in_range (closed_source p))
   constants_kept h =
-      let q = parts (every (λ e. constant_in_range (shape e)) p) _ h in
-      both_true (words_kept p fresh_library fresh_forms q.0) q.1
+      let q = and_parts (every (λ e. constant_in_range (shape e)) p) _ h in
+      and_of _ _ (words_kept p fresh_library fresh_forms q.0) q.1
 
   pub nested_kept : IsTrue (to_valid.within_levels (closed_source p))
   nested_kept =
       let limit = 3 * max_levels in
-      let h = parts (nat_le (levels_lambdas p.library) limit) _ (parts (nat_le (levels_lambdas p.library) (3 * max_levels) && nat_le (levels_each p.forms) (3 * max_levels)) _ g.limited).0 in
+      let h = and_parts (nat_le (levels_lambdas p.library) limit) _ (and_parts (nat_le (levels_lambdas p.library) (3 * max_levels) && nat_le (levels_each p.forms) (3 * max_levels)) _ g.limited).0 in
       let l : levels_lambdas p.library ≤ limit = leb-true (levels_lambdas p.library) limit h.0 in
       let f : levels_each p.forms ≤ limit = leb-true (levels_each p.forms) limit h.1 in
-      both_true (list_both (λ b. nat_le (to.levels b.code) limit) (all_of_lambdas body_of p.library 0) _ (levels_kept.lambdas_bodies limit p.library 0 l)
+      and_of _ _ (list_both (λ b. nat_le (to.levels b.code) limit) (all_of_lambdas body_of p.library 0) _ (levels_kept.lambdas_bodies limit p.library 0 l)
       (levels_kept.each_bodies limit p.forms (procedures_lambdas p.library) f))
       (le-leb (to.levels_each (closed_each p.forms [] (procedures_lambdas p.library))) limit (omega (arith, f, levels_kept.each_levels p.forms [] (procedures_lambdas p.library))))
 
   pub sited_kept : IsTrue (valid.sited p) → IsTrue (to_valid.sited (closed_source p))
   sited_kept h =
-      let r = parts (list_all (λ s. nat_eq (count_by (λ at. nat_eq at.0 s) (from.sites_of p)) 1) (numbers_from 0 p.sites)) _ h in
+      let r = and_parts (list_all (λ s. nat_eq (count_by (λ at. nat_eq at.0 s) (from.sites_of p)) 1) (numbers_from 0 p.sites)) _ h in
       let wide : (ℕ × ℕ) → Bool = λ at. is_width (slice_get p.sites at.0) at.1 in
-      both_true
+      and_of _ _
       (alike (λ s. nat_eq (count_by (λ at. nat_eq at.0 s) (from.sites_of p)) 1) (λ s. nat_eq (count_by (λ at. nat_eq at.0 s) (to.sites_of (closed_source p))) 1) (numbers_from 0 p.sites)
       (λ s. ap (λ k. nat_eq k 1) (sites_counted (λ at. nat_eq at.0 s) p fresh_library fresh_forms)) r.0)
       (all_hold wide (to.sites_of (closed_source p)) (sites_counted (λ at. not (wide at)) p fresh_library fresh_forms ∙ none_fails wide (from.sites_of p) r.1))
@@ -272,7 +273,7 @@ ordered_kept p =
     let n = procedures_lambdas p.library in
     let l : length (all_of_lambdas body_of p.library 0 ++ all_of_each body_of p.forms n) ≡ n + procedures_each p.forms =
     omega (arith, length-append (all_of_lambdas body_of p.library 0) (all_of_each body_of p.forms n), size_lambdas body_of p.library 0, size_each body_of p.forms n) in
-    both_true (eq-eqb (length (starts p.forms n)) (flat.count (closed_each p.forms [] n)) (starts_length p.forms n ∙ sym (counts p.forms [] n)))
+    and_of _ _ (eq-eqb (length (starts p.forms n)) (flat.count (closed_each p.forms [] n)) (starts_length p.forms n ∙ sym (counts p.forms [] n)))
     (starts_ascend p.forms 0 n (length (all_of_lambdas body_of p.library 0 ++ all_of_each body_of p.forms n)) (omega arith) (omega (arith, l)))
 
 pub ready_kept : (p : Source) → IsTrue (valid.statics_known p) → IsTrue (to_valid.statics_known (closed_source p))

@@ -2,7 +2,7 @@
 use Rattle.std.proofs.Common.{◌≡◌, ℕ, zero, suc, ◌+◌, Bool, true, false, List, [], ◌∷◌, refl, subst, arith}
 use Rattle.std.specs.Prelude.{nat_eq, not, ◌||◌}
 use Rattle.std.proofs.lemmas.Bool.{eqb-true}
-use Rattle.sch_word.specs.trees.NumberSets.{has, union}
+use Rattle.sch_word.specs.trees.NumberSets.{has, union, In}
 use Rattle.sch_word.specs.trees.Bindings.{Bindings, bound_to, this_or, with_variables, numbers, without, remove}
 use Rattle.sch_cells.specs.declared.tree.NewCell.{NewCell}
 use Rattle.sch_cells.specs.Tree.{Tree, Trees, Lambdas, constant, literal, variable, global, set_variable, set_global, define, branch, sequence, bind, fix, letrec, lambda, call, operation, new_cells, cell_get, cell_set, no_trees, and_tree, no_lambdas, and_lambda, count, count_lambdas}
@@ -12,7 +12,7 @@ use Rattle.sch_cells.proofs.Unassigned.{all_unassigned, bound_count_unassigned}
 use Rattle.sch_word.specs.values.Options.{or_false}
 use Rattle.sch_word.specs.trees.VariableCounts.{one_unless}
 use Rattle.sch_cells.specs.Bodies.{counts_nothing, all_same, with_cells}
-use Rattle.sch_cells.specs.Clear.{In, Apart}
+use Rattle.sch_cells.specs.Clear.{Apart}
 use Rattle.sch_flat.specs.Tree as flat
 use Rattle.sch_flat.specs.Measures as to
 use Rattle.sch_flat.specs.Measures.{one_unless_simple}

@@ -1,10 +1,10 @@
 -- The places of a body's variables: registers, and slots of its frame.
-use Rattle.std.specs.Prelude.{ℕ, zero, suc, ◌+◌, Bool, true, false, cond, nat_eq, nat_lt, List, [], ◌∷◌, Option, None, Some}
+use Rattle.std.specs.Prelude.{ℕ, zero, suc, ◌+◌, ◌-◌, Bool, true, false, cond, nat_eq, nat_lt, List, [], ◌∷◌, Option, None, Some, length, slice_get}
 use Rattle.sch_word.specs.trees.NumberSets.{has}
 use Rattle.sch_word.specs.trees.Shape.{max_operands}
 use Rattle.sch_word.specs.declared.place.Place.{Place}
 use Rattle.sch_word.specs.declared.place.Place.TheVariants.{Reg, Slot}
-use Rattle.sch_word.specs.values.Places.{is_slot}
+use Rattle.sch_word.specs.values.Places.{closure_place, is_slot, link_place}
 use Rattle.sch_word.specs.values.Registers.{argument_registers}
 use Rattle.sch_control.specs.declared.body.Entry.{Entry}
 
@@ -30,6 +30,25 @@ arrival_in (r ∷ registers) (suc k) = arrival_in registers k
 -- the first six arrive in registers, the others in slots from 0 on
 abbrev pub arrival : ℕ → Place
 arrival = arrival_in argument_registers
+
+-- the register of the operand with k before it, if it has one
+abbrev pub argument_register : ℕ → Option ℕ
+argument_register k = slice_get argument_registers k
+
+-- the slot of an operand that has none
+abbrev pub argument_slot : ℕ → ℕ
+argument_slot k = k - length argument_registers
+
+-- in a register, if there is one, or else in a slot
+abbrev pub register_or_slot : Option ℕ → ℕ → Place
+register_or_slot (Some r) j = Reg r
+register_or_slot None j = Slot j
+
+-- each variable with which a procedure is entered: where to return, its closure, and its operands
+abbrev pub variable_arrival : ℕ → Place
+variable_arrival zero = link_place
+variable_arrival (suc zero) = closure_place
+variable_arrival (suc (suc k)) = arrival k
 
 -- the operands that a body is entered with
 abbrev pub formals_of : Option Entry → ℕ

@@ -2,6 +2,7 @@
 use Rattle.std.proofs.Common.{◌≤◌, ◌-◌, ◌+◌, ℕ, Bool, length, subst, arith}
 use Rattle.std.specs.Prelude.{max}
 use Rattle.std.proofs.lemmas.Bool.{leb-true}
+use Rattle.sch_word.specs.trees.Shape.{max_levels}
 use Rattle.sch_names.specs.Scope.{Scope, Globals}
 use Rattle.sch_sketch.specs.declared.sketch.Position.{Position}
 use Rattle.sch_sketch.specs.Draft.{Draft, Drafts, constant, symbol, literal, local, global, set_local, set_global, define, branch, sequence, bind, letrec, lambda, call, operation, no_drafts, and_draft, count}
@@ -59,12 +60,12 @@ atom_levels m (lambda n r e) h = absurd h
 atom_levels m (call vs f es) h = absurd h
 atom_levels m (operation p es) h = absurd h
 
-within : (n : ℕ) → IsLevel n → n ≤ 2000
-within n l = leb-true n 2000 l
+within : (n : ℕ) → IsLevel n → n ≤ max_levels
+within n l = leb-true n max_levels l
 
 module _ (globals : Globals) where
   mutual
-    pub level : {n : ℕ} {s : Scope} {t : Position} {k : Sketch} {e : Draft} → Expands globals n s t k e → sketches.IsSound s k → levels e ≤ 2001 - n
+    pub level : {n : ℕ} {s : Scope} {t : Position} {k : Sketch} {e : Draft} → Expands globals n s t k e → sketches.IsSound s k → levels e ≤ 1 + max_levels - n
     level (ex.a_datum n s t d e p) h = level p (datum_sound globals s d)
     level (ex.a_rest n s t r at xs ys e p) h = level p (rest_sound globals s t r at xs ys h)
     level (ex.a_leaf n s t at e l) h = omega (arith, within n l, atom_levels (length s) e h)
@@ -72,6 +73,6 @@ module _ (globals : Globals) where
         omega (arith, within n l, node_levels k es (subst (HasParts k) (counted globals p) h.0), level_each p h.1.1)
     level (ex.within n s t at m k e w p) h = level p h
 
-    pub level_each : {k : Kind} {first : Bool} {n : ℕ} {s : Scope} {t : Position} {ks : Sketches} {es : Drafts} → PartsExpand globals k first n s t ks es → sketches.AreSound k first s ks → levels_each es ≤ 2001 - n
+    pub level_each : {k : Kind} {first : Bool} {n : ℕ} {s : Scope} {t : Position} {ks : Sketches} {es : Drafts} → PartsExpand globals k first n s t ks es → sketches.AreSound k first s ks → levels_each es ≤ 1 + max_levels - n
     level_each (ex.no_part k first n s t) h = omega arith
     level_each (ex.and_part k first n s t p ps e es x y) h = omega (arith, level x h.0, level_each y h.1)

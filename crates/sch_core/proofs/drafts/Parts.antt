@@ -1,7 +1,8 @@
 -- The drafts of a node's parts: all of them, all but the last, and the last.
-use Rattle.std.proofs.Common.{◌≡◌, ◌≤◌, ℕ, zero, suc, Bool, true, false, length, ap, subst, arith}
+use Rattle.std.proofs.Common.{◌≡◌, ◌≤◌, ◌+◌, ℕ, zero, suc, Bool, true, false, length, ap, subst, arith}
 use Rattle.sch_names.specs.Scope.{Scope, onto, VariableNames}
-use Rattle.sch_sketch.specs.Draft.{Drafts, no_drafts, and_draft, count}
+use Rattle.sch_sketch.specs.Draft.{Draft, Drafts, no_drafts, and_draft, count}
+use Rattle.sch_sketch.specs.DraftMeasures.{over, over_each}
 use Rattle.sch_sketch.specs.Sketch.{Kind, binding, scope_in, front, last, first, but_first}
 use Rattle.sch_core.specs.SoundDrafts.{IsSound, AreSound}
 
@@ -10,6 +11,17 @@ front_count no_drafts n h = absurd (omega (arith, h))
 front_count (and_draft e no_drafts) n h = omega (arith, h)
 front_count (and_draft e (and_draft f fs)) zero h = absurd (omega (arith, h))
 front_count (and_draft e (and_draft f fs)) (suc n) h = ap suc (front_count (and_draft f fs) n (omega (arith, h)))
+
+-- what is summed over the nodes of drafts, of the parts apart
+module _ (here : Draft → ℕ) where
+  pub front_sum : (es : Drafts) → 1 ≤ count es → over_each 0 (λ a b. a + b) here (front es) + over 0 (λ a b. a + b) here (last es) ≡ over_each 0 (λ a b. a + b) here es
+  front_sum no_drafts h = absurd (omega (arith, h))
+  front_sum (and_draft e no_drafts) h = omega arith
+  front_sum (and_draft e (and_draft f fs)) h = omega (arith, front_sum (and_draft f fs) (omega arith))
+
+  pub first_sum : (es : Drafts) → 1 ≤ count es → over 0 (λ a b. a + b) here (first es) + over_each 0 (λ a b. a + b) here (but_first es) ≡ over_each 0 (λ a b. a + b) here es
+  first_sum no_drafts h = absurd (omega (arith, h))
+  first_sum (and_draft e es) h = omega arith
 
 pub front_sound : (m : ℕ) (es : Drafts) → AreSound m es → AreSound m (front es)
 front_sound m no_drafts h = tt

@@ -4,19 +4,20 @@ use Rattle.std.proofs.lemmas.List.{drop_all, reverse-append, reverse-reverse}
 use Rattle.std.proofs.lemmas.Bool.{leb-true, and_parts}
 use Rattle.std.specs.Borrow.{Bor}
 use Rattle.sch_word.specs.trees.Shape.{max_operands}
-use Rattle.sch_read.specs.declared.datum.Datum as text
+use Rattle.sch_read.specs.declared.datum.Datum as code_datum
 use Rattle.sch_read.specs.Parts.{offset}
 use Rattle.sch_read.specs.Views.{tree_of, data_of}
 use Rattle.sch_names.specs.ScopeView.{one_name, given_names}
-use Rattle.sch_sketch.specs.declared.draft.Draft as drafts
+use Rattle.sch_sketch.specs.declared.draft.Draft as code_draft
 use Rattle.sch_sketch.specs.Draft.{Draft}
 use Rattle.sch_sketch.specs.DraftMeasures.{size}
 use Rattle.sch_sketch.specs.DraftView.{draft_of}
-use Rattle.sch_link_tables.specs.Programs.{names_of_each}
+use Rattle.sch_link_tables.specs.Programs.{names_of_each, procedure_of}
 use Rattle.sch_link_program.specs.declared.definition.Definition as code
 use Rattle.sch_link_program.specs.Definitions.{definition_of, definitions_of}
-use Rattle.sch_link_program.specs.Size.{size_of_definitions, have_few_formals}
-use Rattle.sch_core.specs.LibraryDefinitions.{procedure_of, AreNamedProcedures}
+use Rattle.sch_link_program.specs.Size.{size_of_definitions, have_few_formals, have_near_bodies}
+use Rattle.sch_core.specs.LibraryDefinitions.{AreNamedProcedures}
+use Rattle.sch_link_tables.specs.Room.{has_near_variables}
 use Rattle.sch_core.specs.SoundDrafts.{IsProcedure}
 use Rattle.sch_toplevel.specs.Items.{item_places}
 use Rattle.sch_word.proofs.facts.Lists.{next_left}
@@ -43,7 +44,7 @@ procedures_more (x ∷ all) d = ap (λ l. procedure_of (definition_of x) ∷ l) 
 pub begin_defined : (vs : List (Option (Bor (List ℕ)))) (all : List code.Definition) → all ≡ [] → defined all ++ given_names vs ≡ given_names vs
 begin_defined vs all e = rw e refl
 
-pub begin_made : (es left : List drafts.Draft) (all : List code.Definition) → all ≡ [] → left ≡ reverse es → procedures all ++ map draft_of (reverse left) ≡ map draft_of es
+pub begin_made : (es left : List code_draft.Draft) (all : List code.Definition) → all ≡ [] → left ≡ reverse es → procedures all ++ map draft_of (reverse left) ≡ map draft_of es
 begin_made es left all e h = rw (e, h, reverse-reverse es) refl
 
 -- one name more
@@ -54,7 +55,7 @@ next_defined vs i o all all' d r l h n k =
     rw (add-one, h, defined_more all d) (append_assoc (defined all) (Some d.name.now ∷ []) (given_names (drop (suc i) vs)) ∙ k')
 
 -- one draft more, the last of those that are left
-pub next_made : (left others : List drafts.Draft) (e : drafts.Draft) (all all' : List code.Definition) (d : code.Definition) (r : List Draft) →
+pub next_made : (left others : List code_draft.Draft) (e : code_draft.Draft) (all all' : List code.Definition) (d : code.Definition) (r : List Draft) →
     left ≡ others ++ e ∷ [] → all' ≡ all ++ d ∷ [] → draft_of e ≡ procedure_of (definition_of d) → procedures all ++ map draft_of (reverse left) ≡ r → procedures all' ++ map draft_of (reverse others) ≡ r
 next_made left others e all all' d r is h n k =
     let k' = rw (is, reverse-append others (e ∷ []), n) at k in
@@ -62,7 +63,7 @@ next_made left others e all all' d r is h n k =
 
 -- ## Names and drafts that are left
 
-pub begin_whole : (vs : List (Option (Bor (List ℕ)))) (es left : List drafts.Draft) → left ≡ reverse es →
+pub begin_whole : (vs : List (Option (Bor (List ℕ)))) (es left : List code_draft.Draft) → left ≡ reverse es →
     AreNamedProcedures (given_names vs) (map draft_of es) → AreNamedProcedures (given_names vs) (map draft_of (reverse left))
 begin_whole vs es left e h = subst (λ l. AreNamedProcedures (given_names vs) (map draft_of l)) (sym (ap reverse e ∙ reverse-reverse es)) h
 
@@ -82,7 +83,7 @@ all_drawn : (es : List Draft) → AreNamedProcedures [] es → es ≡ []
 all_drawn [] h = refl
 all_drawn (e ∷ es) h = absurd h
 
-module _ (vs : List (Option (Bor (List ℕ)))) (i : ℕ) (left : List drafts.Draft) (h : AreNamedProcedures (given_names (drop i vs)) (map draft_of (reverse left))) where
+module _ (vs : List (Option (Bor (List ℕ)))) (i : ℕ) (left : List code_draft.Draft) (h : AreNamedProcedures (given_names (drop i vs)) (map draft_of (reverse left))) where
   module _ (o : Option (Bor (List ℕ))) (l : i < length vs) where
     here : AreNamedProcedures (one_name (get_or vs i o) ∷ given_names (drop (suc i) vs)) (map draft_of (reverse left))
     here = subst (λ z. AreNamedProcedures (given_names z) (map draft_of (reverse left))) (drop-cons vs i o l) h
@@ -93,7 +94,7 @@ module _ (vs : List (Option (Bor (List ℕ)))) (i : ℕ) (left : List drafts.Dra
     pub draft_there : left ≡ [] → ⊥
     draft_there e = none_drawn (one_name (get_or vs i o)) (given_names (drop (suc i) vs)) (subst (λ z. AreNamedProcedures (one_name (get_or vs i o) ∷ given_names (drop (suc i) vs)) (map draft_of (reverse z))) e here)
 
-    module _ (others : List drafts.Draft) (e : drafts.Draft) (is : left ≡ others ++ e ∷ []) where
+    module _ (others : List code_draft.Draft) (e : code_draft.Draft) (is : left ≡ others ++ e ∷ []) where
       first_is : map draft_of (reverse left) ≡ draft_of e ∷ map draft_of (reverse others)
       first_is = ap (λ z. map draft_of z) (ap reverse is ∙ reverse-append others (e ∷ []))
 
@@ -126,23 +127,31 @@ few_at [] i d l e h = absurd (omega (arith, l))
 few_at (x ∷ ds) zero d l e h = subst (λ y. size (draft_of y.body) < 2 ^ 32) (sym e) (omega (arith, h))
 few_at (x ∷ ds) (suc i) d l e h = few_at ds i d (omega (arith, l)) e (omega (arith, h))
 
+-- and near variables
+pub variables_at : (ds : List code.Definition) (i : ℕ) (d : code.Definition) → i < length ds → d ≡ get_or ds i d → have_near_bodies (definitions_of ds) ≡ true → has_near_variables (draft_of d.body) ≡ true
+variables_at [] i d l e h = absurd (omega (arith, l))
+variables_at (x ∷ ds) zero d l e h =
+    subst (λ y. has_near_variables (draft_of y.body) ≡ true) (sym e) (and_parts (has_near_variables (draft_of x.body)) (have_near_bodies (definitions_of ds)) h).0
+variables_at (x ∷ ds) (suc i) d l e h =
+    variables_at ds i d (omega (arith, l)) e (and_parts (has_near_variables (draft_of x.body)) (have_near_bodies (definitions_of ds)) h).1
+
 no_item : (places : List ℕ) → first_definition_excess places [] ≡ None
 no_item [] = refl
 no_item (at ∷ places) = refl
 
-some_item : (items : List text.Datum) (i : ℕ) → i < length items → (q : text.Datum) × (drop i items ≡ q ∷ drop (suc i) items)
+some_item : (items : List code_datum.Datum) (i : ℕ) → i < length items → (q : code_datum.Datum) × (drop i items ≡ q ∷ drop (suc i) items)
 some_item [] i l = absurd (omega (arith, l))
 some_item (x ∷ items) zero l = (x, refl)
 some_item (x ∷ items) (suc i) l = some_item items i (omega (arith, l))
 
-module _ (items : List text.Datum) (ds : List code.Definition) (i n : ℕ) (m : n ≡ min (length items) (length ds)) (r : Option (Kind × ℕ)) (k : first_definition_excess (item_places (data_of (drop i items))) (definitions_of (drop i ds)) ≡ r) where
-  next_item : (q : text.Datum) → i < n → q ≡ get_or items i q → item_places (data_of (drop i items)) ≡ offset (tree_of q) ∷ item_places (data_of (drop (suc i) items))
+module _ (items : List code_datum.Datum) (ds : List code.Definition) (i n : ℕ) (m : n ≡ min (length items) (length ds)) (r : Option (Kind × ℕ)) (k : first_definition_excess (item_places (data_of (drop i items))) (definitions_of (drop i ds)) ≡ r) where
+  next_item : (q : code_datum.Datum) → i < n → q ≡ get_or items i q → item_places (data_of (drop i items)) ≡ offset (tree_of q) ∷ item_places (data_of (drop (suc i) items))
   next_item q l is = ap (λ l. item_places (data_of l)) (next_left items i q (omega (arith, l, m)) is)
 
   next_definition : (d : code.Definition) → i < n → d ≡ get_or ds i d → definitions_of (drop i ds) ≡ definition_of d ∷ definitions_of (drop (suc i) ds)
   next_definition d l is = ap definitions_of (next_left ds i d (omega (arith, l, m)) is)
 
-  pub definition_here : (d : code.Definition) (q : text.Datum) (at : ℕ) (kind : Kind) → i < n → d ≡ get_or ds i d → q ≡ get_or items i q → at ≡ offset (tree_of q) →
+  pub definition_here : (d : code.Definition) (q : code_datum.Datum) (at : ℕ) (kind : Kind) → i < n → d ≡ get_or ds i d → q ≡ get_or items i q → at ≡ offset (tree_of q) →
       Some kind ≡ definition_excess (definition_of d) → ◌≡◌ {A = Option (Kind × ℕ)} (Some (kind, at)) r
   definition_here d q at kind l f g p h =
       let k' = rw (next_item q l g, next_definition d l f, sym h, sym p) at k in

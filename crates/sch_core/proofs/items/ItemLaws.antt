@@ -9,8 +9,8 @@ use Rattle.sch_expansion.specs.Expands.{Expands}
 use Rattle.sch_expansion.specs.Reads.{Reads}
 use Rattle.sch_expansion.proofs.Best.{Best, none_new, and_then, none_before}
 use Rattle.sch_expansion.proofs.Readings.{unique, clean, one_fault, read_best, read_made, is_read}
-use Rattle.sch_link_tables.specs.Programs.{Definition, names_of_each}
-use Rattle.sch_core.specs.LibraryDefinitions.{procedure_of, AreNamedProcedures}
+use Rattle.sch_link_tables.specs.Programs.{Definition, names_of_each, procedure_of}
+use Rattle.sch_core.specs.LibraryDefinitions.{AreNamedProcedures}
 use Rattle.sch_toplevel.specs.Forms.{form_sketch}
 use Rattle.sch_toplevel.specs.Items.{behind, name_in, names_by, item_globals, procedure_in, item_names, ItemsExpand, ItemHasFault, ItemsRead}
 use Rattle.sch_core.proofs.items.ItemShapes.{defines, shaped}

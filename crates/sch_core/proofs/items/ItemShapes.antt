@@ -10,8 +10,7 @@ use Rattle.sch_sketch.specs.declared.sketch.Row.TheVariants.{Method}
 use Rattle.sch_sketch.specs.Draft.{Draft, constant, symbol, literal, local, global, set_local, set_global, define, branch, sequence, bind, letrec, lambda, call, operation}
 use Rattle.sch_sketch.specs.Sketch.{choosing, sequencing, binding, recurring, abstracting, calling, operating, setting, setting_global, defining, Sketch, text, rest, wrong, leaf, node, limited}
 use Rattle.sch_expansion.specs.Expands.{Expands}
-use Rattle.sch_link_tables.specs.Programs.{Definition}
-use Rattle.sch_core.specs.LibraryDefinitions.{procedure_of}
+use Rattle.sch_link_tables.specs.Programs.{Definition, procedure_of}
 use Rattle.sch_core.specs.SoundDrafts.{IsProcedure}
 use Rattle.sch_toplevel.specs.Items.{is_method, item_name, item_sketch}
 

@@ -12,11 +12,11 @@ use Rattle.sch_names.specs.Scope.{is_among}
 use Rattle.sch_sketch.specs.declared.sketch.Position.TheVariants.{Value}
 use Rattle.sch_sketch.proofs.SmallMeasures.{data_weigh}
 use Rattle.sch_expansion.specs.Expands.{Expands}
-use Rattle.sch_link_tables.specs.Programs.{Definition}
+use Rattle.sch_link_tables.specs.Programs.{Definition, procedure_of, procedures_of_each}
 use Rattle.sch_sketch.specs.DraftMeasures.{size}
 use Rattle.sch_link_program.specs.Size.{size_of_definitions, have_few_formals}
 use Rattle.sch_core.specs.TextForms.{ItemExpands}
-use Rattle.sch_core.specs.LibraryDefinitions.{procedure_of, procedures_of_each, IsDefinition, AreDefinitions, AreOrdered}
+use Rattle.sch_core.specs.LibraryDefinitions.{IsDefinition, AreDefinitions, AreOrdered}
 use Rattle.sch_core.specs.Quotable.{AllQuotable, IsQuotable}
 use Rattle.sch_core.specs.SizesOfStatics.{statics_in, statics_in_each}
 use Rattle.sch_core.proofs.programs.ItemDefinitions.{item_is_definition, item_constants, item_ordered, item_statics}
@@ -70,8 +70,8 @@ module _ (before : List (List ℕ)) (d : Datum) (x : Definition) (h : Expands (i
 abbrev Within : List (List ℕ) → List (List ℕ) → Type 0
 Within bound before = (x : List ℕ) → is_among x bound ≡ true → is_among x before ≡ true
 
-one_more : (bound before : List (List ℕ)) (v : List ℕ) → Within bound before → Within (with_name v bound) (v ∷ before)
-one_more bound before v w x h = go (is_among v bound) h
+within_more : (bound before : List (List ℕ)) (v : List ℕ) → Within bound before → Within (with_name v bound) (v ∷ before)
+within_more bound before v w x h = go (is_among v bound) h
   where
     go : (b : Bool) → is_among x (cond b bound (bound ++ v ∷ [])) ≡ true → is_among x (v ∷ before) ≡ true
     go true k = among_cons x v before (w x k)
@@ -82,7 +82,7 @@ one_more bound before v w x h = go (is_among v bound) h
         ]
 
 names_within : (bound before : List (List ℕ)) (d : Datum) (v : List ℕ) → name_in d ≡ Some v → Within bound before → Within (names_by bound d) (v ∷ before)
-names_within bound before d v n w = subst (λ o. Within (with_item o bound) (v ∷ before)) (sym n) (one_more bound before v w)
+names_within bound before d v n w = subst (λ o. Within (with_item o bound) (v ∷ before)) (sym n) (within_more bound before v w)
 
 -- ## The items
 

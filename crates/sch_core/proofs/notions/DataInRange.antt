@@ -1,5 +1,6 @@
 -- What stands for data in range has the constants, the quotations and the symbols that a program may have.
 use Rattle.std.proofs.Common.{◌≡◌, true, refl}
+use Rattle.std.proofs.lemmas.Bool.{and_from}
 use Rattle.sch_word.proofs.facts.Booleans.{and_parts}
 use Rattle.sch_word.specs.values.Values.{is_constant, are_bytes}
 use Rattle.sch_word.specs.declared.primitive.Primitive.{Primitive}
@@ -57,24 +58,24 @@ in_range_kept globals = record {
 mutual
   pub has_constants : (e : Draft) → FitsDraft in_range e → HasConstants e
   has_constants (constant c) h = h
-  has_constants (symbol x) h = tt
-  has_constants (literal d) h = tt
-  has_constants (local k) h = tt
-  has_constants (global x) h = tt
+  has_constants (symbol x) h = refl
+  has_constants (literal d) h = refl
+  has_constants (local k) h = refl
+  has_constants (global x) h = refl
   has_constants (set_local k e) h = has_constants e h
   has_constants (set_global x e) h = has_constants e h.1
   has_constants (define x e) h = has_constants e h.1
-  has_constants (branch a b c) h = (has_constants a h.0, has_constants b h.1, has_constants c h.2)
+  has_constants (branch a b c) h = and_from _ _ (has_constants a h.0) (and_from _ _ (has_constants b h.1) (has_constants c h.2))
   has_constants (sequence es) h = have_constants es h
-  has_constants (bind vs es e) h = (have_constants es h.0, has_constants e h.1)
-  has_constants (letrec vs p es e) h = (have_constants es h.0, has_constants e h.1)
+  has_constants (bind vs es e) h = and_from _ _ (have_constants es h.0) (has_constants e h.1)
+  has_constants (letrec vs p es e) h = and_from _ _ (have_constants es h.0) (has_constants e h.1)
   has_constants (lambda n r e) h = has_constants e h
-  has_constants (call vs f es) h = (has_constants f h.0, have_constants es h.1)
+  has_constants (call vs f es) h = and_from _ _ (has_constants f h.0) (have_constants es h.1)
   has_constants (operation p es) h = have_constants es h
 
   pub have_constants : (es : Drafts) → FitsDrafts in_range es → HaveConstants es
-  have_constants no_drafts h = tt
-  have_constants (and_draft e es) h = (has_constants e h.0, have_constants es h.1)
+  have_constants no_drafts h = refl
+  have_constants (and_draft e es) h = and_from _ _ (has_constants e h.0) (have_constants es h.1)
 
 mutual
   quotable : (e : Draft) → FitsDraft in_range e → AreQuotable (quotes_in e)

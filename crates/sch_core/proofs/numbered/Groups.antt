@@ -13,7 +13,7 @@ use Rattle.sch_variable_counts.specs.Within.{each_procedure, each_procedure_in, 
 use Rattle.sch_names.specs.Scope.{VariableNames}
 use Rattle.sch_sketch.specs.Draft.{Draft, Drafts, lambda, no_drafts, and_draft}
 use Rattle.sch_link_tables.specs.Assigned.{is_group}
-use Rattle.sch_link_tables.specs.Numbered.{numbered_each, procedures_of, others_of}
+use Rattle.sch_link_tables.specs.Numbered.{grouped, numbered_each, procedures_of, others_of}
 use Rattle.sch_core.specs.SoundDrafts.{AreProcedures, AreProceduresIf}
 
 abbrev pub IsLambda : Expression → Type 0
@@ -65,6 +65,12 @@ fit_group no_expressions h k = refl
 fit_group (and_expression (tree.lambda name n r e) xs) h k =
     let a = and_parts _ _ k in and_from _ _ (and_parts _ _ a.0).0 (fit_group xs h.1 a.1)
 fit_group (and_expression _ xs) h k = absurd h.0
+
+-- a test that each group passes
+pub hold_grouped : (here : Expression → Bool) (g : Bool) (xs : Expressions) (x : Expression) (s : ℕ) → (g ≡ true → AreLambdas xs) → here (grouped g s xs x) ≡ true →
+    over_each true (λ a b. a && b) here xs ≡ true → over true (λ a b. a && b) here x ≡ true → over true (λ a b. a && b) here (grouped g s xs x) ≡ true
+hold_grouped here true xs x s h t p q = and_from _ _ t (and_from _ _ (holds_group here xs (h refl) p) q)
+hold_grouped here false xs x s h t p q = and_from _ _ t (and_from _ _ p q)
 
 -- ## The drafts of a group
 

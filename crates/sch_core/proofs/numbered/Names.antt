@@ -19,8 +19,7 @@ use Rattle.sch_link_tables.specs.Quoted.{quotes_in, quotes_in_each}
 use Rattle.sch_link_tables.specs.Numbered.{grouped, numbered, numbered_each, others_of}
 use Rattle.sch_core.specs.SoundDrafts.{IsSound, AreSound}
 use Rattle.sch_core.specs.LibraryDefinitions.{AreAmong}
-use Rattle.sch_core.proofs.numbered.Groups.{group_lambdas}
-use Rattle.sch_core.proofs.numbered.Constants.{hold_grouped}
+use Rattle.sch_core.proofs.numbered.Groups.{hold_grouped, group_lambdas}
 
 pub left : (all a b : List (List ℕ)) → AreAmong all (a ++ b) → AreAmong all a
 left all [] b h = tt

@@ -21,13 +21,13 @@ use Rattle.sch_core.proofs.numbered.Scopes.{assigns_kept, assigns_each_kept}
 
 -- ## Groups
 
-neither : {a a' b b' c c' : Bool} → a ≡ a' → b ≡ b' → c ≡ c' → (not (a || b) && c) ≡ (not (a' || b') && c')
-neither e f g = cc
+none_more_kept : {a a' b b' c c' : Bool} → a ≡ a' → b ≡ b' → c ≡ c' → (not (a || b) && c) ≡ (not (a' || b') && c')
+none_more_kept e f g = cc
 
-none_kept : (n : ℕ) (ls : Lambdas) (x : Expression) (es : Drafts) (e : Draft) → ((j : ℕ) → variables.assigns_lambdas ls j ≡ assigns_each es j) →
+none_assigned_kept : (n : ℕ) (ls : Lambdas) (x : Expression) (es : Drafts) (e : Draft) → ((j : ℕ) → variables.assigns_lambdas ls j ≡ assigns_each es j) →
     ((j : ℕ) → variables.assigns x j ≡ assigns e j) → valid.none_assigned n ls x ≡ none_assigned n es e
-none_kept zero ls x es e f g = refl
-none_kept (suc n) ls x es e f g = neither (f n) (g n) (none_kept n ls x es e f g)
+none_assigned_kept zero ls x es e f g = refl
+none_assigned_kept (suc n) ls x es e f g = none_more_kept (f n) (g n) (none_assigned_kept n ls x es e f g)
 
 group_unassigned : (p : Bool) (es : Drafts) (e : Draft) → is_group p es e ≡ true → none_assigned (count es) es e ≡ true
 group_unassigned p es e g = (and_parts p _ g).1
@@ -38,7 +38,7 @@ shaped_grouped : (g : Bool) (xs : Expressions) (x : Expression) (s m : ℕ) (es 
     over true (λ a b. a && b) shaped_here (grouped g s xs x) ≡ true
 shaped_grouped true xs x s m es e h c u f k p q =
     let d : count_lambdas (procedures_of xs) ≡ m = count_group xs (h refl) ∙ c in
-    let a = none_kept m (procedures_of xs) x es e (λ j. assigns_group xs j (h refl) ∙ f j) k in
+    let a = none_assigned_kept m (procedures_of xs) x es e (λ j. assigns_group xs j (h refl) ∙ f j) k in
     and_from _ _ (rw d (a ∙ u refl)) (and_from _ _ (holds_group shaped_here xs (h refl) p) q)
 shaped_grouped false xs x s m es e h c u f k p q = and_from _ _ p q
 

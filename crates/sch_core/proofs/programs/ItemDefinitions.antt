@@ -6,9 +6,9 @@ use Rattle.sch_names.specs.Scope.{Globals}
 use Rattle.sch_sketch.proofs.SmallMeasures.{data_weigh}
 use Rattle.sch_link_tables.specs.Constants.{HasConstants}
 use Rattle.sch_link_tables.specs.Named.{library_global}
-use Rattle.sch_link_tables.specs.Programs.{Definition}
+use Rattle.sch_link_tables.specs.Programs.{Definition, procedure_of}
 use Rattle.sch_core.specs.TextForms.{ItemExpands, HasEarlier}
-use Rattle.sch_core.specs.LibraryDefinitions.{procedure_of, IsDefinition, IsOrdered}
+use Rattle.sch_core.specs.LibraryDefinitions.{IsDefinition, IsOrdered}
 use Rattle.sch_sketch.specs.DraftMeasures.{size}
 use Rattle.sch_core.specs.SizesOfStatics.{statics_in}
 use Rattle.sch_core.specs.Quotable.{AllQuotable, HasWords}

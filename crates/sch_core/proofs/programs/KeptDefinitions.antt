@@ -1,20 +1,20 @@
 -- The procedures of a library are those of its drafts, and those that are kept are as sound as all of them.
 use Rattle.std.proofs.Common.{◌≡◌, ◌≤◌, ◌+◌, ◌++◌, ℕ, suc, Bool, true, false, List, [], ◌∷◌, length, Some, None, refl, ap, arith}
+use Rattle.std.proofs.lemmas.Bool.{and_from}
 use Rattle.sch_word.specs.trees.Shape.{max_levels}
 use Rattle.sch_lang.specs.Tree.{and_lambda, count_lambdas}
 use Rattle.sch_names.specs.Scope.{is_among, VariableNames}
-use Rattle.sch_link_tables.specs.Constants.{HaveConstants}
-use Rattle.sch_link_tables.specs.Named.{library_global, globals_in, globals_in_each, symbols_in, symbols_in_each}
+use Rattle.sch_link_tables.specs.Constants.{draft_in_range, HaveConstants}
+use Rattle.sch_link_tables.specs.Named.{library_global, symbols_in}
 use Rattle.sch_link_tables.specs.Numbered.{procedures_of, numbered, numbered_each}
-use Rattle.sch_link_tables.specs.Programs.{Definition, with_definition, kept, globals_of_each, symbols_of_each, quotes_of_each, names_of_each, widths_of_definitions, procedures}
-use Rattle.sch_link_tables.specs.Quoted.{quotes_in, quotes_in_each}
-use Rattle.sch_link_tables.specs.Sites.{widths, widths_of_each}
+use Rattle.sch_link_tables.specs.Programs.{Definition, with_definition, kept, globals_of_each, symbols_of_each, quotes_of_each, names_of_each, procedures, procedures_of_each}
+use Rattle.sch_link_tables.specs.Quoted.{quotes_in}
+use Rattle.sch_link_tables.specs.Sites.{widths}
 use Rattle.sch_core.specs.SoundDrafts.{AreProcedures, AreSound, levels_each}
-use Rattle.sch_core.specs.LibraryDefinitions.{procedures_of_each, AreDefinitions}
-use Rattle.sch_sketch.specs.DraftMeasures.{size_each}
+use Rattle.sch_core.specs.LibraryDefinitions.{AreDefinitions}
 use Rattle.sch_core.specs.SizesOfStatics.{statics_in_each}
 use Rattle.sch_core.specs.Quotable.{AreQuotable, AreBytes}
-use Rattle.sch_core.proofs.sizes.StaticsOfPrograms.{bytes_append, quotable_append, symbols_counted}
+use Rattle.sch_core.proofs.sizes.StaticsOfPrograms.{bytes_append, quotable_append}
 
 abbrev pub given : List Definition → VariableNames
 given [] = []
@@ -28,25 +28,6 @@ procedures_are globals symbols [] s l = refl
 procedures_are globals symbols (d ∷ ds) s l =
     ap (λ ls. and_lambda d.name d.formals d.rest (numbered [] globals symbols None d.body s l) ls)
     (procedures_are globals symbols ds (s + length (widths d.body)) (l + length (quotes_in d.body)))
-
-pub widths_are : (ds : List Definition) → widths_of_each (procedures_of_each ds) ≡ widths_of_definitions ds
-widths_are [] = refl
-widths_are (d ∷ ds) = ap (λ l. widths d.body ++ l) (widths_are ds)
-
-pub quotes_are : (ds : List Definition) → quotes_in_each (procedures_of_each ds) ≡ quotes_of_each ds
-quotes_are [] = refl
-quotes_are (d ∷ ds) = ap (λ l. quotes_in d.body ++ l) (quotes_are ds)
-
-pub globals_are : (ds : List Definition) → globals_in_each [] (procedures_of_each ds) ≡ globals_of_each ds
-globals_are [] = refl
-globals_are (d ∷ ds) = ap (λ l. globals_in [] d.body ++ l) (globals_are ds)
-
-pub symbols_are : (ds : List Definition) → symbols_in_each (procedures_of_each ds) ≡ symbols_of_each ds
-symbols_are [] = refl
-symbols_are (d ∷ ds) = ap (λ l. symbols_in d.body ++ l) (symbols_are ds)
-
-pub few_symbols : (ds : List Definition) → length (symbols_of_each ds) ≤ statics_in_each (procedures_of_each ds)
-few_symbols ds = let n = ap length (symbols_are ds) in omega (arith, n, symbols_counted (procedures_of_each ds))
 
 pub all_procedures : (ds : List Definition) → AreProcedures (procedures_of_each ds)
 all_procedures [] = tt
@@ -67,8 +48,8 @@ level_definitions [] h = omega arith
 level_definitions (d ∷ ds) h = omega (arith, h.0.1, level_definitions ds h.1)
 
 pub constant_definitions : (ds : List Definition) → AreDefinitions ds → HaveConstants (procedures_of_each ds)
-constant_definitions [] h = tt
-constant_definitions (d ∷ ds) h = (h.0.2, constant_definitions ds h.1)
+constant_definitions [] h = refl
+constant_definitions (d ∷ ds) h = and_from (draft_in_range d.body) _ h.0.2 (constant_definitions ds h.1)
 
 pub quotable_definitions : (ds : List Definition) → AreDefinitions ds → AreQuotable (quotes_of_each ds)
 quotable_definitions [] h = tt
@@ -87,15 +68,6 @@ with_sound false d ds h = h.1
 pub kept_sound : (ds : List Definition) (named : List (List ℕ)) → AreDefinitions ds → AreDefinitions (kept ds named)
 kept_sound [] named h = tt
 kept_sound (d ∷ ds) named h = with_sound _ d (kept ds named) (h.0, kept_sound ds named h.1)
-
-with_nodes : (b : Bool) (d : Definition) (ds : List Definition) → size_each (procedures_of_each (with_definition b d ds)) ≤ size_each (procedures_of_each (d ∷ ds))
-with_nodes true d ds = omega arith
-with_nodes false d ds = omega arith
-
-pub kept_nodes : (ds : List Definition) (named : List (List ℕ)) → size_each (procedures_of_each (kept ds named)) ≤ size_each (procedures_of_each ds)
-kept_nodes [] named = omega arith
-kept_nodes (d ∷ ds) named =
-    omega (arith, with_nodes (is_among (library_global d.name) (named ++ globals_of_each (kept ds named))) d (kept ds named), kept_nodes ds named)
 
 with_statics : (b : Bool) (d : Definition) (ds : List Definition) → statics_in_each (procedures_of_each (with_definition b d ds)) ≤ statics_in_each (procedures_of_each (d ∷ ds))
 with_statics true d ds = omega arith

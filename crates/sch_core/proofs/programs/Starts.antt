@@ -2,9 +2,10 @@
 use Rattle.std.proofs.Common.{◌≡◌, ℕ, zero, suc, ◌||◌, Bool, true, false, cond, List, [], ◌∷◌, ◌++◌, map, length, Some, None, refl, ap, sym, subst, ◌∙◌, lt-ltb}
 use Rattle.std.specs.Str.{bytes_eq}
 use Rattle.std.proofs.lemmas.Bool.{and_from}
+use Rattle.std.proofs.lemmas.List.{map-append}
 use Rattle.std.proofs.lemmas.Slice.Eq.{bytes_eq-Decides}
 use Rattle.sch_word.specs.runs.Runs.{library_known}
-use Rattle.sch_word.proofs.facts.Booleans.{or_left, or_right}
+use Rattle.sch_word.proofs.facts.Booleans.{or_left, or_right, not_right}
 use Rattle.sch_names.specs.Scope.{is_among}
 use Rattle.sch_names.specs.NamesView.{with_name, number_of}
 use Rattle.sch_sketch.specs.Draft.{Drafts}
@@ -51,10 +52,6 @@ among_map f x (y ∷ ys) h = go (bytes_eq x y) refl h (among_map f x ys)
     go true e k r = subst (λ z. is_among (f x) (f z ∷ map f ys) ≡ true) (equal x y e) (among_here (f x) _)
     go false e k r = among_cons (f x) (f y) _ (r k)
 
-map_append : (a b : List (List ℕ)) → map library_global (a ++ b) ≡ map library_global a ++ map library_global b
-map_append [] b = refl
-map_append (x ∷ a) b = ap (λ l. library_global x ∷ l) (map_append a b)
-
 weaker : (all all' xs : List (List ℕ)) → ((g : List ℕ) → is_among g all ≡ true → is_among g all' ≡ true) → AreAmong all xs → AreAmong all' xs
 weaker all all' [] f h = tt
 weaker all all' (x ∷ xs) f h = (f x h.0, weaker all all' xs f h.1)
@@ -96,30 +93,26 @@ dropped all all' (x ∷ xs) y n f h = go (bytes_eq y x) refl n (λ k. dropped al
     go true e k r = absurd cc
     go false e k r = (f x (other_way y x e) h.0, r k)
 
-not_right : (x : List ℕ) (a b : List (List ℕ)) → is_among x (a ++ b) ≡ false → is_among x b ≡ false
-not_right x a b h = go (is_among x a) (is_among x b) (sym (among_append x a b) ∙ h)
-  where
-    go : (p q : Bool) → (p || q) ≡ false → q ≡ false
-    go true q e = cc
-    go false q e = e
+not_among_right : (x : List ℕ) (a b : List (List ℕ)) → is_among x (a ++ b) ≡ false → is_among x b ≡ false
+not_among_right x a b h = not_right (is_among x a) (is_among x b) (sym (among_append x a b) ∙ h)
 
 between : (g y : List ℕ) (a b : List (List ℕ)) → is_among g (map library_global (a ++ y ∷ b)) ≡ true →
     is_among g (library_global y ∷ map library_global (a ++ b)) ≡ true
 between g y a b h =
     go (bytes_eq g (library_global y)) (is_among g (map library_global a)) (is_among g (map library_global b))
-    (sym (ap (is_among g) (map_append a (y ∷ b)) ∙ among_append g (map library_global a) (map library_global (y ∷ b))) ∙ h)
-    (ap (is_among g) (map_append a b) ∙ among_append g (map library_global a) (map library_global b))
+    (sym (ap (is_among g) (map-append library_global a (y ∷ b)) ∙ among_append g (map library_global a) (map library_global (y ∷ b))) ∙ h)
+    (ap (is_among g) (map-append library_global a b) ∙ among_append g (map library_global a) (map library_global b))
   where
     go : (p q r : Bool) → (q || cond p true r) ≡ true → is_among g (map library_global (a ++ b)) ≡ (q || r) → cond p true (is_among g (map library_global (a ++ b))) ≡ true
     go true q r e f = refl
     go false q r e f = f ∙ e
 
 behind : (g y : List ℕ) (a b : List (List ℕ)) → is_among g (map library_global (y ∷ b)) ≡ true → is_among g (library_global y ∷ map library_global (a ++ b)) ≡ true
-behind g y a b h = between g y a b (ap (is_among g) (map_append a (y ∷ b)) ∙ among_right g (map library_global a) (map library_global (y ∷ b)) h)
+behind g y a b h = between g y a b (ap (is_among g) (map-append library_global a (y ∷ b)) ∙ among_right g (map library_global a) (map library_global (y ∷ b)) h)
 
-without : (g y : List ℕ) (a b : List (List ℕ)) → bytes_eq g (library_global y) ≡ false → is_among g (map library_global (a ++ y ∷ b)) ≡ true →
+among_others : (g y : List ℕ) (a b : List (List ℕ)) → bytes_eq g (library_global y) ≡ false → is_among g (map library_global (a ++ y ∷ b)) ≡ true →
     is_among g (map library_global (a ++ b)) ≡ true
-without g y a b n h = sym (ap (λ c. cond c true (is_among g (map library_global (a ++ b)))) n) ∙ between g y a b h
+among_others g y a b n h = sym (ap (λ c. cond c true (is_among g (map library_global (a ++ b)))) n) ∙ between g y a b h
 
 kept_closed : (ds : List Definition) (names before : List (List ℕ)) → AreOrdered before ds →
     AreAmong (map library_global (names_of_each (kept ds names) ++ before)) (globals_of_each (kept ds names))
@@ -137,8 +130,8 @@ kept_closed (d ∷ ds) names before h =
         (weaker (map library_global (names_of_each (kept ds names) ++ (d.name ∷ before))) all (globals_of_each (kept ds names)) (λ g i. between g d.name (names_of_each (kept ds names)) before i) k)
     go false e k =
         dropped (map library_global (names_of_each (kept ds names) ++ (d.name ∷ before))) (map library_global (names_of_each (kept ds names) ++ before))
-        (globals_of_each (kept ds names)) (library_global d.name) (not_right (library_global d.name) names (globals_of_each (kept ds names)) e)
-        (λ g n i. without g d.name (names_of_each (kept ds names)) before n i) k
+        (globals_of_each (kept ds names)) (library_global d.name) (not_among_right (library_global d.name) names (globals_of_each (kept ds names)) e)
+        (λ g n i. among_others g d.name (names_of_each (kept ds names)) before n i) k
 
 -- ## What a text sees of a library
 

@@ -5,31 +5,33 @@ use Rattle.sch_lang.specs.Measures.{nodes_and_bound}
 use Rattle.sch_lang.specs.Valid.{is_valid}
 use Rattle.sch_names.specs.Scope.{Globals, is_among}
 use Rattle.sch_sketch.specs.Draft.{Drafts}
-use Rattle.sch_sketch.specs.Measure.{sketches_measure}
+use Rattle.sch_sketch.specs.Measure.{sketch_measure, sketches_measure}
 use Rattle.sch_sketch.specs.Sketch.{sketches, sequencing}
 use Rattle.sch_sketch.specs.Soundness as soundness
+use Rattle.sch_sketch.proofs.SmallMeasures.{datum_weighs, data_weigh}
+use Rattle.sch_form_bodies.proofs.DefinitionsFall.{define_falls}
 use Rattle.sch_form_bodies.proofs.SoundDefinitions.{define_sound}
 use Rattle.sch_link_tables.specs.Constants.{HaveConstants}
 use Rattle.sch_link_tables.specs.Named.{own_global, library_global, global_of, globals_in_each}
-use Rattle.sch_link_tables.specs.Programs.{Definition, names_of_each, program_of}
+use Rattle.sch_link_tables.specs.Programs.{Definition, names_of_each, program_of, procedures_of_each}
 use Rattle.sch_core.specs.SoundDrafts.{AreSound, levels_each}
 use Rattle.sch_sketch.specs.DraftMeasures.{size_each}
 use Rattle.sch_core.specs.SizesOfStatics.{statics_in_each}
 use Rattle.sch_core.specs.Quotable.{HaveWords}
-use Rattle.sch_core.specs.LibraryDefinitions.{procedures_of_each, AreDefinitions, AreAmong, AreOrdered}
+use Rattle.sch_core.specs.LibraryDefinitions.{AreDefinitions, AreAmong, AreOrdered}
 use Rattle.sch_core.specs.Excess.{HasFew}
 use Rattle.sch_toplevel.specs.Texts.{SketchesExpand}
-use Rattle.sch_core.specs.TextForms.{Form, expression, definition, sketch_of, IsBound, AreDefined, HasNames, AreOfData, forms_weight, AreSmall}
+use Rattle.sch_core.specs.TextForms.{Form, expression, definition, sketch_of, IsBound, AreDefined, HasNames, AreOfData, form_weight, forms_weight, AreSmall}
 use Rattle.sch_core.proofs.drafts.Parts.{all_in}
 use Rattle.sch_core.proofs.drafts.Soundness.{sound_each}
 use Rattle.sch_core.proofs.drafts.Levels.{level_each}
-use Rattle.sch_core.proofs.sizes.NodesOfDrafts.{form_measure}
 use Rattle.sch_core.proofs.sizes.StaticsOfSketches.{sketches_statics}
 use Rattle.sch_core.proofs.sizes.StaticsOfRows.{define_statics}
 use Rattle.sch_core.proofs.sizes.StaticsOfDrafts.{statics_each}
 use Rattle.sch_link_program.proofs.NameSets.{among_append}
+use Rattle.sch_link_program.proofs.ProgramSize.{program_size}
 use Rattle.sch_core.proofs.programs.Starts.{among_map, among_left, among_right}
-use Rattle.sch_core.proofs.programs.ValidPrograms.{valid, not_large}
+use Rattle.sch_core.proofs.programs.ValidPrograms.{valid}
 use Rattle.sch_core.proofs.notions.Notions.{AreFit}
 use Rattle.sch_core.proofs.notions.FitRows.{define_fits}
 use Rattle.sch_core.proofs.notions.FitDrafts.{fits_each}
@@ -48,6 +50,10 @@ statics_all : (fs : List Form) → sketches_statics (sketches (map sketch_of fs)
 statics_all [] = omega arith
 statics_all (expression d ∷ fs) = omega (arith, statics_all fs)
 statics_all (definition at xs ∷ fs) = omega (arith, define_statics at xs, statics_all fs)
+
+form_measure : (f : Form) → sketch_measure (sketch_of f) ≤ 16 * form_weight f
+form_measure (expression d) = omega (arith, datum_weighs d)
+form_measure (definition at xs) = omega (arith, define_falls at xs, data_weigh xs)
 
 measure_all : (fs : List Form) → sketches_measure (sketches (map sketch_of fs)) ≤ 16 * forms_weight fs
 measure_all [] = omega arith
@@ -117,4 +123,4 @@ valid_text ds globals own fs forms d o h b n c w m v =
 -- The nodes and bound variables of a program are those of the library at most, and sixteen for each unit of the text's weight.
 pub text_not_large : (ds : List Definition) (globals : Globals) (own : List (List ℕ)) (fs : List Form) (forms : Drafts) → AreDefinitions ds → SketchesExpand globals (map sketch_of fs) forms →
     nodes_and_bound (program_of ds own forms) ≤ size_each (procedures_of_each ds) + 16 * forms_weight fs
-text_not_large ds globals own fs forms d h = omega (arith, not_large ds own forms d (forms_sound globals fs forms h), forms_nodes globals fs forms h)
+text_not_large ds globals own fs forms d h = omega (arith, program_size ds own forms, forms_nodes globals fs forms h)

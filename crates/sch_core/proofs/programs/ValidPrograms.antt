@@ -1,13 +1,12 @@
 -- The program of sound drafts is valid.
-use Rattle.std.proofs.Common.{◌≡◌, ◌≤◌, ◌+◌, ◌++◌, ◌&&◌, ℕ, Bool, true, List, [], length, ap, sym, subst, ◌∙◌, arith, length-append, le-leb}
+use Rattle.std.proofs.Common.{◌≡◌, ◌≤◌, ◌+◌, ◌++◌, ◌&&◌, ℕ, Bool, true, List, [], length, ap, sym, ◌∙◌, arith, length-append, le-leb}
 use Rattle.std.proofs.lemmas.Bool.{and_from}
 use Rattle.sch_word.specs.runs.Runs.{max_statics, statics_size}
-use Rattle.sch_word.specs.trees.Shape.{Procedure, max_levels, max_variables, constant_in_range, procedures_fit}
+use Rattle.sch_word.specs.trees.Shape.{Procedure, max_levels, max_variables, procedures_fit}
 use Rattle.sch_word.specs.values.Literals.{count_literals}
-use Rattle.sch_word.specs.trees.BoundVariables.{formals_in}
-use Rattle.sch_lang.specs.Tree.{Expression, Expressions, Source, count_lambdas}
+use Rattle.sch_lang.specs.Tree.{Expression, Expressions, Source}
 use Rattle.sch_lang.specs.Measures as measures
-use Rattle.sch_lang.specs.Measures.{over_each, over_lambdas, shape, site_here, levels_lambdas, procedures, node_and_bound, nodes_and_bound}
+use Rattle.sch_lang.specs.Measures.{over_each, over_lambdas, site_here, levels_lambdas, procedures}
 use Rattle.sch_lang.specs.Valid.{named_here, fits_here, shaped_here, lambdas_fit, in_range, constants_in_range, shaped, within_limits, sites_once, statics_known, is_valid}
 use Rattle.sch_lang.specs.InScope.{lambdas_in_scope}
 use Rattle.sch_lang.proofs.SitesInOrder as order
@@ -17,27 +16,25 @@ use Rattle.sch_sketch.specs.Draft.{Drafts}
 use Rattle.sch_link_tables.specs.Constants.{HaveConstants}
 use Rattle.sch_link_tables.specs.Named.{firsts, globals_in_each, symbols_in_each}
 use Rattle.sch_link_tables.specs.Numbered.{procedures_of, numbered_each}
-use Rattle.sch_link_tables.specs.Programs.{Definition, kept, held, named, globals_of_each, symbols_of_each, quotes_of_each, widths_of_definitions, program_with, program_of}
+use Rattle.sch_link_tables.specs.Programs.{Definition, kept, held, named, globals_of_each, symbols_of_each, quotes_of_each, widths_of_definitions, program_with, program_of, procedures_of_each}
 use Rattle.sch_link_tables.specs.Quoted.{quotes_in_each}
 use Rattle.sch_link_tables.specs.Sites.{widths_of_each}
 use Rattle.sch_link_tables.proofs.FewNumbers.{firsts_length}
+use Rattle.sch_link_program.proofs.ProgramConstants.{program_ranged}
 use Rattle.sch_core.specs.SoundDrafts.{AreSound, levels_each}
-use Rattle.sch_core.specs.LibraryDefinitions.{procedures_of_each, AreDefinitions, AreAmong, AreOrdered, AreKnown}
+use Rattle.sch_core.specs.LibraryDefinitions.{AreDefinitions, AreAmong, AreOrdered, AreKnown}
 use Rattle.sch_core.specs.Excess.{HasFew}
-use Rattle.sch_sketch.specs.DraftMeasures.{size_each}
 use Rattle.sch_core.specs.SizesOfStatics.{statics_in_each}
 use Rattle.sch_core.specs.Quotable.{HaveWords}
 use Rattle.sch_core.proofs.numbered.FewBodies.{few_lambdas, few_free_lambdas, few_forms, few_free_forms, forms_within}
-use Rattle.sch_core.proofs.numbered.Groups.{AreLambdas, count_group, scope_group, levels_group, sites_group, few_group, holds_group, fit_group, lambdas_numbered}
+use Rattle.sch_core.proofs.numbered.Groups.{AreLambdas, scope_group, levels_group, sites_group, few_group, holds_group, fit_group, lambdas_numbered}
 use Rattle.sch_core.proofs.numbered.Sites.{joined, sites_each}
 use Rattle.sch_core.proofs.numbered.Scopes.{scoped_each}
 use Rattle.sch_core.proofs.numbered.Shapes.{shaped_each}
 use Rattle.sch_core.proofs.numbered.Limits.{fitting_each, levels_each_kept}
-use Rattle.sch_core.proofs.sizes.NodesOfDrafts.{nodes_group, all_nodes_kept}
-use Rattle.sch_core.proofs.numbered.Constants.{all_constants_kept}
 use Rattle.sch_core.proofs.numbered.Names.{left, right, all_among, named_each}
-use Rattle.sch_core.proofs.sizes.StaticsOfPrograms.{firsts_size, firsts_bytes, bytes_append, all_bytes, sizes, quotable_append, count_quotes, sizes_append, AreNamed, named_append, quotes_known, quotes_each_named, quotes_range, all_statics_below}
-use Rattle.sch_core.proofs.programs.KeptDefinitions.{given, procedures_are, widths_are, quotes_are, globals_are, symbols_are, all_procedures, count_definitions, sound_definitions, level_definitions, constant_definitions, quotable_definitions, bytes_definitions, kept_sound, kept_nodes, kept_statics}
+use Rattle.sch_core.proofs.sizes.StaticsOfPrograms.{firsts_size, firsts_bytes, bytes_append, all_bytes, sizes, quotable_append, count_quotes, sizes_append, named_append, quotes_known, quotes_each_named, quotes_range, all_statics_below}
+use Rattle.sch_core.proofs.programs.KeptDefinitions.{given, procedures_are, all_procedures, count_definitions, sound_definitions, level_definitions, constant_definitions, quotable_definitions, bytes_definitions, kept_sound, kept_statics}
 use Rattle.sch_core.proofs.programs.Starts.{AreReady, known_starts, starts_length, globals_ready}
 
 -- ## Of definitions that are kept, and forms
@@ -74,10 +71,10 @@ module _ (ds : List Definition) (own hs : List (List ℕ)) (forms : Drafts) wher
   symbols_among = all_among _ []
 
   library_globals : AreAmong globals (globals_in_each [] (procedures_of_each ds))
-  library_globals = subst (AreAmong globals) (sym (globals_are ds)) (left globals (globals_of_each ds) _ globals_among)
+  library_globals = left globals (globals_of_each ds) _ globals_among
 
   library_symbols : AreAmong symbols (symbols_in_each (procedures_of_each ds))
-  library_symbols = subst (AreAmong symbols) (sym (symbols_are ds)) (left symbols (symbols_of_each ds) _ symbols_among)
+  library_symbols = left symbols (symbols_of_each ds) _ symbols_among
 
   form_globals : AreAmong globals (globals_in_each own forms)
   form_globals = right globals (globals_of_each ds) _ globals_among
@@ -94,22 +91,18 @@ module _ (ds : List Definition) (own hs : List (List ℕ)) (forms : Drafts) wher
       let scopes : lambdas_in_scope p.library 0 ≡ true =
       ap (λ ls. lambdas_in_scope ls 0) library_is ∙ (scope_group library 0 are_lambdas ∙ scoped_each [] globals symbols (procedures_of_each ds) (given ds) 0 0 0 d) in
       let inside = library_holds (named_here (length symbols) n (length globals))
-      (named_each [] globals symbols n (procedures_of_each ds) (given ds) 0 0 0 d library_globals library_symbols (omega (arith, ap length (quotes_are ds)))) in
+      (named_each [] globals symbols n (procedures_of_each ds) (given ds) 0 0 0 d library_globals library_symbols (omega arith)) in
       let outside = named_each own globals symbols n forms [] 0 (length (widths_of_definitions ds)) (length (quotes_of_each ds)) f form_globals form_symbols (omega arith) in
       and_from _ _ scopes (and_from _ _ (scoped_each own globals symbols forms [] 0 _ _ f)
       (rw (literals_length, starts_length ds hs globals) (and_from _ _ inside outside)))
 
   -- ## Constants
 
-  program_constants : AreDefinitions ds → AreSound 0 forms → HaveConstants forms → HaveWords forms → constants_in_range p ≡ true
-  program_constants d f c w =
+  program_constants : AreDefinitions ds → HaveConstants forms → HaveWords forms → constants_in_range p ≡ true
+  program_constants d c w =
       let b = firsts_bytes (symbols_of_each ds ++ symbols_in_each forms) [] tt (bytes_append (symbols_of_each ds) _ (bytes_definitions ds d) w.1) in
       let q = quotable_append (quotes_of_each ds) _ (quotable_definitions ds d) w.0 in
-      and_from _ _
-      (and_from _ _
-      (library_holds (λ e. constant_in_range (shape e)) (all_constants_kept [] globals symbols (procedures_of_each ds) (given ds) 0 0 0 (sound_definitions ds d) (constant_definitions ds d)))
-      (all_constants_kept own globals symbols forms [] 0 _ _ f c))
-      (and_from _ _ (all_bytes symbols b) (quotes_range symbols _ q))
+      and_from _ _ (program_ranged ds own hs forms (constant_definitions ds d) c) (and_from _ _ (all_bytes symbols b) (quotes_range symbols _ q))
 
   -- ## Shapes and limits
 
@@ -141,7 +134,7 @@ module _ (ds : List Definition) (own hs : List (List ℕ)) (forms : Drafts) wher
   program_sites d f =
       let inside : over_lambdas [] (λ a b. a ++ b) site_here p.library ≡ order.numbered 0 (widths_of_definitions ds) =
       ap (over_lambdas [] (λ a b. a ++ b) site_here) library_is
-      ∙ (sites_group library are_lambdas ∙ (sites_each [] globals symbols (procedures_of_each ds) (given ds) 0 0 0 d ∙ ap (order.numbered 0) (widths_are ds))) in
+      ∙ (sites_group library are_lambdas ∙ sites_each [] globals symbols (procedures_of_each ds) (given ds) 0 0 0 d) in
       sites_in_order p (joined 0 (widths_of_definitions ds) (widths_of_each forms) _ _ inside
       (sites_each own globals symbols forms [] 0 (length (widths_of_definitions ds)) (length (quotes_of_each ds)) f
       ∙ ap (λ n. order.numbered n (widths_of_each forms)) (omega arith)))
@@ -149,11 +142,7 @@ module _ (ds : List Definition) (own hs : List (List ℕ)) (forms : Drafts) wher
   -- ## Statics
 
   library_size : sizes symbols (symbols_of_each ds) (quotes_of_each ds) (globals_of_each ds) ≤ statics_in_each (procedures_of_each ds)
-  library_size =
-      let es = procedures_of_each ds in
-      subst (λ ys. sizes symbols ys (quotes_of_each ds) (globals_of_each ds) ≤ statics_in_each es) (symbols_are ds)
-      (subst (λ qs. sizes symbols (symbols_in_each es) qs (globals_of_each ds) ≤ statics_in_each es) (quotes_are ds)
-      (subst (λ gs. sizes symbols (symbols_in_each es) (quotes_in_each es) gs ≤ statics_in_each es) (globals_are ds) (all_statics_below [] symbols es)))
+  library_size = all_statics_below [] symbols (procedures_of_each ds)
 
   program_size : statics_size p.statics ≤ statics_in_each (procedures_of_each ds) + statics_in_each forms
   program_size = omega (
@@ -169,7 +158,7 @@ module _ (ds : List Definition) (own hs : List (List ℕ)) (forms : Drafts) wher
   program_statics : statics_in_each (procedures_of_each ds) + statics_in_each forms ≤ max_statics → AreReady ds hs globals → statics_known p ≡ true
   program_statics m r =
       let named = named_append symbols (quotes_of_each ds) (quotes_in_each forms)
-      (subst (AreNamed symbols) (quotes_are ds) (quotes_each_named symbols (procedures_of_each ds) library_symbols)) (quotes_each_named symbols forms form_symbols) in
+      (quotes_each_named symbols (procedures_of_each ds) library_symbols) (quotes_each_named symbols forms form_symbols) in
       and_from _ _ (le-leb _ _ (omega (arith, program_size, m)))
       (and_from _ _ (quotes_known symbols _ named) (rw (count_definitions globals symbols ds 0 0) (known_starts ds hs globals r)))
 
@@ -178,22 +167,10 @@ module _ (ds : List Definition) (own hs : List (List ℕ)) (forms : Drafts) wher
   valid_with d f l c w v m r =
       let s = sound_definitions ds d in
       and_from _ _ (program_in_range s f)
-      (and_from _ _ (program_constants d f c w)
+      (and_from _ _ (program_constants d c w)
       (and_from _ _ (program_shaped s f)
       (and_from _ _ (program_within d f l v)
       (and_from _ _ (program_sites s f) (program_statics m r)))))
-
-  -- ## Nodes
-
-  library_nodes : AreSound 0 (procedures_of_each ds) →
-      count_lambdas p.library + formals_in (procedures p.library) + over_lambdas 0 (λ a b. a + b) node_and_bound p.library ≤ size_each (procedures_of_each ds)
-  library_nodes d =
-      subst (λ ls. count_lambdas ls + formals_in (procedures ls) + over_lambdas 0 (λ a b. a + b) node_and_bound ls ≤ size_each (procedures_of_each ds)) (sym library_is)
-      (omega (arith, count_group library are_lambdas, nodes_group library are_lambdas, all_nodes_kept [] globals symbols (procedures_of_each ds) (given ds) 0 0 0 d))
-
-  program_nodes : AreSound 0 (procedures_of_each ds) → AreSound 0 forms → nodes_and_bound p ≤ size_each (procedures_of_each ds) + size_each forms
-  program_nodes d f =
-      omega (arith, library_nodes d, all_nodes_kept own globals symbols forms [] 0 (length (widths_of_definitions ds)) (length (quotes_of_each ds)) f)
 
 -- ## Of a library and a text
 
@@ -203,9 +180,3 @@ pub valid : (ds : List Definition) (own : List (List ℕ)) (forms : Drafts) → 
 valid ds own forms d o k f l c w v m =
     valid_with (kept ds (named ds own forms)) own (held ds own) forms (kept_sound ds (named ds own forms) d) f l c w v
     (omega (arith, kept_statics ds (named ds own forms), m)) (globals_ready ds own forms o k)
-
-pub not_large : (ds : List Definition) (own : List (List ℕ)) (forms : Drafts) → AreDefinitions ds → AreSound 0 forms →
-    nodes_and_bound (program_of ds own forms) ≤ size_each (procedures_of_each ds) + size_each forms
-not_large ds own forms d f =
-    let ks = kept ds (named ds own forms) in
-    omega (arith, program_nodes ks own (held ds own) forms (sound_definitions ks (kept_sound ds (named ds own forms) d)) f, kept_nodes ds (named ds own forms))

@@ -1,29 +1,21 @@
 -- What the symbols, the literals and the globals of a draft take is at most what its sketch allows.
-use Rattle.std.proofs.Common.{◌≡◌, ◌≤◌, ◌+◌, ℕ, Bool, subst, arith}
+use Rattle.std.proofs.Common.{◌≤◌, ◌+◌, ℕ, Bool, subst, arith}
 use Rattle.sch_names.specs.Scope.{Scope, Globals}
 use Rattle.sch_sketch.specs.declared.sketch.Position.{Position}
 use Rattle.sch_sketch.specs.Draft.{Draft, Drafts, no_drafts, and_draft, count}
-use Rattle.sch_sketch.specs.Sketch.{Kind, choosing, sequencing, binding, recurring, abstracting, calling, operating, setting, setting_global, defining, Sketch, Sketches, front, last, first, but_first, assemble}
+use Rattle.sch_sketch.specs.Sketch.{Kind, choosing, sequencing, binding, recurring, abstracting, calling, operating, setting, setting_global, defining, Sketch, Sketches, assemble}
 use Rattle.sch_sketch.specs.Soundness.{HasParts}
 use Rattle.sch_sketch.specs.Soundness as sketches
 use Rattle.sch_expansion.proofs.SoundRows.{datum_sound, rest_sound}
 use Rattle.sch_expansion.specs.Expands.{Expands, PartsExpand}
 use Rattle.sch_expansion.specs.Expands as ex
-use Rattle.sch_core.specs.SizesOfStatics.{statics_in, statics_in_each}
+use Rattle.sch_core.specs.SizesOfStatics.{statics_here, statics_in, statics_in_each}
+use Rattle.sch_core.proofs.drafts.Parts.{front_sum, first_sum}
 use Rattle.sch_core.proofs.drafts.Soundness.{counted}
 use Rattle.sch_core.proofs.sizes.StaticsOfSketches.{global_here, sketch_statics, sketches_statics}
 use Rattle.sch_core.proofs.sizes.StaticsOfRows.{datum_statics, row_statics}
 
 -- ## Nodes
-
-front_statics : (es : Drafts) → 1 ≤ count es → statics_in_each (front es) + statics_in (last es) ≡ statics_in_each es
-front_statics no_drafts h = absurd (omega (arith, h))
-front_statics (and_draft e no_drafts) h = omega arith
-front_statics (and_draft e (and_draft f fs)) h = omega (arith, front_statics (and_draft f fs) (omega arith))
-
-first_statics : (es : Drafts) → 1 ≤ count es → statics_in (first es) + statics_in_each (but_first es) ≡ statics_in_each es
-first_statics no_drafts h = absurd (omega (arith, h))
-first_statics (and_draft e es) h = omega arith
 
 node_statics : (k : Kind) (es : Drafts) → HasParts k (count es) → statics_in (assemble k es) ≤ global_here k + statics_in_each es
 node_statics choosing (and_draft a (and_draft b (and_draft c no_drafts))) h = omega arith
@@ -33,13 +25,13 @@ node_statics choosing (and_draft a no_drafts) h = absurd (omega (arith, h))
 node_statics choosing no_drafts h = absurd (omega (arith, h))
 node_statics sequencing es h = omega arith
 node_statics (operating p) es h = omega arith
-node_statics (binding vs) es h = omega (arith, front_statics es (omega (arith, h)))
-node_statics (recurring vs p) es h = omega (arith, front_statics es (omega (arith, h)))
-node_statics (abstracting vs more) es h = omega (arith, front_statics es (omega (arith, h)))
-node_statics (calling vs) es h = omega (arith, first_statics es h)
-node_statics (setting k) es h = omega (arith, front_statics es (omega (arith, h)))
-node_statics (setting_global x) es h = omega (arith, front_statics es h)
-node_statics (defining x) es h = omega (arith, front_statics es (omega (arith, h)))
+node_statics (binding vs) es h = omega (arith, front_sum statics_here es (omega (arith, h)))
+node_statics (recurring vs p) es h = omega (arith, front_sum statics_here es (omega (arith, h)))
+node_statics (abstracting vs more) es h = omega (arith, front_sum statics_here es (omega (arith, h)))
+node_statics (calling vs) es h = omega (arith, first_sum statics_here es h)
+node_statics (setting k) es h = omega (arith, front_sum statics_here es (omega (arith, h)))
+node_statics (setting_global x) es h = omega (arith, front_sum statics_here es h)
+node_statics (defining x) es h = omega (arith, front_sum statics_here es (omega (arith, h)))
 
 -- ## Sketches
 

@@ -23,7 +23,7 @@ use Rattle.sch_form_bodies.specs.Bodies.{row_body, procedure, row_lambda, method
 use Rattle.sch_form_bindings.specs.Binders.{is_binding_form, row_named, row_let, row_letrec, row_let_star, row_nest, starred}
 use Rattle.sch_form_bindings.specs.Loops.{starts, steps, step, again, next_round, result, are_rounds, do_form, row_do}
 use Rattle.sch_expansion.specs.Outline.{row_form, outline, outline_name, call_of, outline_head, outline_datum}
-use Rattle.sch_core.proofs.sizes.StaticsOfSketches.{rest_statics, sketch_statics, sketches_statics, choice, texts_statics, quoted_statics, combination_statics, chain_statics, join_statics, quote_statics, if_statics, begin_statics, and_statics, or_statics, cond_statics, clauses_statics, case_statics, cases_statics, tests_statics}
+use Rattle.sch_core.proofs.sizes.StaticsOfSketches.{rest_statics, sketch_statics, sketches_statics, chosen_within, texts_statics, quoted_statics, combination_statics, chain_statics, join_statics, quote_statics, if_statics, begin_statics, and_statics, or_statics, cond_statics, clauses_statics, case_statics, cases_statics, tests_statics}
 
 -- ## Inits
 
@@ -44,14 +44,10 @@ defined_statics at (cons (list q fs) es) = omega arith
 defined_statics at (cons (dotted q fs f) es) = omega arith
 defined_statics at (cons (vector q fs) es) = omega arith
 
-either : (b : Bool) (ks ls : Sketches) (r : ℕ) → sketches_statics ks ≤ r → sketches_statics ls ≤ r → sketches_statics (cond b ks ls) ≤ r
-either true ks ls r h h' = h
-either false ks ls r h h' = h'
-
 mutual
   definition_statics : (d : Datum) (ks : Sketches) → sketches_statics (inits_in d ks) ≤ 2 * weight d + sketches_statics ks
   definition_statics (list at (cons (atom q (symbol w)) xs)) ks =
-      either (is_define_word (keyword_of w)) _ _ _ (omega (arith, defined_statics at xs)) (omega (arith, definitions_statics xs ks))
+      chosen_within sketches_statics (is_define_word (keyword_of w)) _ _ _ (omega (arith, defined_statics at xs)) (omega (arith, definitions_statics xs ks))
   definition_statics _ ks = omega arith
 
   definitions_statics : (ds : Data) (ks : Sketches) → sketches_statics (inits_of_each ds ks) ≤ 2 * weights ds + sketches_statics ks
@@ -73,10 +69,10 @@ head_statics s (cons d ds) ks =
 body_statics : (s : Scope) (at : ℕ) (xs : Data) → sketch_statics (row_body s at xs) ≤ 2 * weights xs
 body_statics s at none = omega arith
 body_statics s at (cons e es) =
-    choice (is_definition s e) _ _ _ (omega (arith, head_statics s (cons e es) (one (rest (Form Begin) at (expressions s (cons e es)) none)))) (omega arith)
+    chosen_within sketch_statics (is_definition s e) _ _ _ (omega (arith, head_statics s (cons e es) (one (rest (Form Begin) at (expressions s (cons e es)) none)))) (omega arith)
 
 procedure_statics : (s : Scope) (at : ℕ) (fs : Data) (f : Option Datum) (es : Data) → sketch_statics (procedure s at fs f es) ≤ 2 * weights es
-procedure_statics s at fs f es = choice (are_formals fs f && is_body (onto (formals fs f) s) es) _ _ _ (omega arith) (omega arith)
+procedure_statics s at fs f es = chosen_within sketch_statics (are_formals fs f && is_body (onto (formals fs f) s) es) _ _ _ (omega arith) (omega arith)
 
 lambda_statics : (s : Scope) (at : ℕ) (xs : Data) → sketch_statics (row_lambda s at xs) ≤ 2 * weights xs
 lambda_statics s at none = omega arith
@@ -93,17 +89,17 @@ method_statics s at (cons h es) = omega (arith, method_of_statics s at (listed h
 -- ## Bindings
 
 named_statics : (s : Scope) (at : ℕ) (f : List ℕ) (xs : Data) → sketch_statics (row_named s at f xs) ≤ 2 * weights xs
-named_statics s at f (cons (list q bs) es) = choice (is_binding_form (Some f ∷ s) bs es) _ _ _ (omega (arith, inits_statics bs no_sketch)) (omega arith)
+named_statics s at f (cons (list q bs) es) = chosen_within sketch_statics (is_binding_form (Some f ∷ s) bs es) _ _ _ (omega (arith, inits_statics bs no_sketch)) (omega arith)
 named_statics s at f _ = omega arith
 
 let_statics : (s : Scope) (at : ℕ) (xs : Data) → sketch_statics (row_let s at xs) ≤ 2 * weights xs
-let_statics s at (cons (list q bs) es) = choice (is_binding_form s bs es) _ _ _ (omega (arith, inits_statics bs (body at es))) (omega arith)
+let_statics s at (cons (list q bs) es) = chosen_within sketch_statics (is_binding_form s bs es) _ _ _ (omega (arith, inits_statics bs (body at es))) (omega arith)
 let_statics s at (cons (atom q (symbol f)) xs) = omega (arith, named_statics s at f xs)
 let_statics s at _ = omega arith
 
 letrec_statics : (s : Scope) (at : ℕ) (xs : Data) → sketch_statics (row_letrec s at xs) ≤ 2 * weights xs
 letrec_statics s at (cons (list q bs) es) =
-    choice (is_binding_form s bs es) _ _ _ (omega (arith, inits_statics bs (one (rest Body at es none)))) (omega arith)
+    chosen_within sketch_statics (is_binding_form s bs es) _ _ _ (omega (arith, inits_statics bs (one (rest Body at es none)))) (omega arith)
 letrec_statics s at _ = omega arith
 
 starred_statics : (at : ℕ) (bs es : Data) → sketch_statics (starred at bs es) ≤ 2 * weights bs + 2 * weights es
@@ -112,7 +108,7 @@ starred_statics at (cons b bs) es = omega arith
 
 let_star_statics : (s : Scope) (at : ℕ) (xs : Data) → sketch_statics (row_let_star s at xs) ≤ 2 * weights xs
 let_star_statics s at (cons (list q bs) es) =
-    choice (are_bindings bs && is_body (onto (bound bs) s) es) _ _ _ (omega (arith, starred_statics at bs es)) (omega arith)
+    chosen_within sketch_statics (are_bindings bs && is_body (onto (bound bs) s) es) _ _ _ (omega (arith, starred_statics at bs es)) (omega arith)
 let_star_statics s at _ = omega arith
 
 nest_statics : (outer at : ℕ) (bs es : Data) → sketch_statics (row_nest outer at bs es) ≤ 2 * weights bs + 2 * weights es
@@ -140,7 +136,7 @@ next_statics at bs (cons e es) = omega (arith, texts_statics es (one (again at b
 
 do_form_statics : (at : ℕ) (bs : Data) (a : Datum) (rs es : Data) → sketch_statics (do_form at bs a rs es) ≤ 2 * weights bs + (2 * weight a + (2 * weights rs + 2 * weights es))
 do_form_statics at bs a rs es =
-    choice (are_rounds bs) _ _ _ (omega (arith, rounds_statics at bs, result_statics at rs, next_statics at bs es)) (omega arith)
+    chosen_within sketch_statics (are_rounds bs) _ _ _ (omega (arith, rounds_statics at bs, result_statics at rs, next_statics at bs es)) (omega arith)
 
 do_statics : (at : ℕ) (xs : Data) → sketch_statics (row_do at xs) ≤ 2 * weights xs
 do_statics at (cons (list p bs) (cons (list q (cons a rs)) es)) = omega (arith, do_form_statics at bs a rs es)

@@ -49,9 +49,10 @@ abbrev mutual
 
 -- ## Small sketches
 
-pub choice : (b : Bool) (k k' : Sketch) (r : ℕ) → sketch_statics k ≤ r → sketch_statics k' ≤ r → sketch_statics (cond b k k') ≤ r
-choice true k k' r h h' = h
-choice false k k' r h h' = h'
+-- what two things measure at most, the one that is chosen does
+pub chosen_within : {A : Type 0} (measure : A → ℕ) (b : Bool) (x y : A) (r : ℕ) → measure x ≤ r → measure y ≤ r → measure (cond b x y) ≤ r
+chosen_within measure true x y r h k = h
+chosen_within measure false x y r h k = k
 
 pub texts_statics : (xs : Data) (ks : Sketches) → sketches_statics (texts xs ks) ≡ 2 * weights xs + sketches_statics ks
 texts_statics none ks = omega arith
@@ -102,7 +103,7 @@ pub combination_statics : (o : Operation) (at : ℕ) (xs : Data) → sketch_stat
 combination_statics (Exact p) at xs = omega (arith, texts_statics xs no_sketch)
 combination_statics (UnitOf p) at xs = omega arith
 combination_statics (UnitAnd p) at xs = omega (arith, texts_statics xs no_sketch)
-combination_statics (Nested p) at xs = omega (arith, texts_statics xs (one (rest (Join p (but_one (how_many xs)) 0) at none none)))
+combination_statics (Nested p) at xs = omega (arith, texts_statics xs (one (rest (Join p (but_one (how_many xs)) (but_one (how_many xs))) at none none)))
 combination_statics (Chained p) at xs = omega (arith, texts_statics xs (one (rest (Chain p) at xs none)))
 combination_statics (Filled p) at xs = omega (arith, texts_statics xs (and_sketch (filler at p) no_sketch), filler_statics at p)
 combination_statics Not at xs = denial_statics at xs
@@ -146,7 +147,7 @@ or_statics Test at (cons a (cons b bs)) = omega arith
 
 pub cond_statics : (s : Scope) (at : ℕ) (xs : Data) → sketch_statics (row_cond s at xs) ≤ 2 * weights xs
 cond_statics s at none = omega arith
-cond_statics s at (cons c cs) = choice (are_clauses s (cons c cs)) _ _ _ (omega arith) (omega arith)
+cond_statics s at (cons c cs) = chosen_within sketch_statics (are_clauses s (cons c cs)) _ _ _ (omega arith) (omega arith)
 
 abbrev receiver_weight : Option Datum → ℕ
 receiver_weight None = 0
@@ -165,10 +166,10 @@ receiver_weighs s (cons b (cons f (cons d ds))) = omega arith
 other_statics : (t : Position) (at : ℕ) (a : Datum) (o : Option Datum) (es cs : Data) → receiver_weight o ≤ weights es →
     sketch_statics (other_clause t at a o es cs) ≤ 2 * weight a + (2 * weights es + 2 * weights cs)
 other_statics t at a (Some f) es cs h = omega (arith, h)
-other_statics t at a None es cs h = choice (is_some_data es) _ _ _ (omega arith) (omega (arith, either_statics t at (datum a) (remaining at cs)))
+other_statics t at a None es cs h = chosen_within sketch_statics (is_some_data es) _ _ _ (omega arith) (omega (arith, either_statics t at (datum a) (remaining at cs)))
 
 clause_statics : (s : Scope) (t : Position) (at : ℕ) (a : Datum) (es cs : Data) → sketch_statics (clause s t at a es cs) ≤ 2 * weight a + (2 * weights es + 2 * weights cs)
-clause_statics s t at a es cs = choice (is_else s a) _ _ _ (omega arith) (other_statics t at a (receiver s es) es cs (receiver_weighs s es))
+clause_statics s t at a es cs = chosen_within sketch_statics (is_else s a) _ _ _ (omega arith) (other_statics t at a (receiver s es) es cs (receiver_weighs s es))
 
 pub clauses_statics : (s : Scope) (t : Position) (at : ℕ) (xs : Data) → sketch_statics (row_clauses s t at xs) ≤ 2 * weights xs
 clauses_statics s t at none = omega arith
@@ -178,7 +179,7 @@ clauses_statics s t at _ = omega arith
 pub case_statics : (s : Scope) (at : ℕ) (xs : Data) → sketch_statics (row_case s at xs) ≤ 2 * weights xs
 case_statics s at none = omega arith
 case_statics s at (cons k none) = omega arith
-case_statics s at (cons k (cons c cs)) = choice (are_cases s (cons c cs)) _ _ _ (omega arith) (omega arith)
+case_statics s at (cons k (cons c cs)) = chosen_within sketch_statics (are_cases s (cons c cs)) _ _ _ (omega arith) (omega arith)
 
 pub cases_statics : (at : ℕ) (xs : Data) → sketch_statics (row_cases at xs) ≤ 2 * weights xs
 cases_statics at none = omega arith

@@ -19,11 +19,12 @@ use Rattle.sch_form_bodies.proofs.SoundDefinitions.{define_sound}
 use Rattle.sch_sketch.specs.DraftMeasures.{size_each}
 use Rattle.sch_link_tables.specs.Named.{symbols_in_each}
 use Rattle.sch_link_tables.specs.Numbered.{numbered_each}
-use Rattle.sch_link_tables.specs.Programs.{Definition, seen, program_of}
+use Rattle.sch_link_tables.specs.Programs.{Definition, seen, program_of, procedures_of_each}
+use Rattle.sch_link_tables.specs.Room.{have_near_variables}
 use Rattle.sch_link_program.specs.Ranged.{IsValidOnceRanged}
 use Rattle.sch_link_program.specs.Size.{size_of_definitions}
 use Rattle.sch_link_program.proofs.ProgramSize.{program_size, count_numbered}
-use Rattle.sch_core.specs.LibraryDefinitions.{AreDefinitions, AreOrdered, procedures_of_each}
+use Rattle.sch_core.specs.LibraryDefinitions.{AreDefinitions, AreOrdered}
 use Rattle.sch_core.specs.Quotable.{AllQuotable}
 use Rattle.sch_core.specs.SizesOfStatics.{statics_in_each}
 use Rattle.sch_toplevel.specs.Forms.{forms_in, form_sketch, own_names, text_globals, form_places}
@@ -33,7 +34,9 @@ use Rattle.sch_core.specs.declared.error.Kind.{Kind}
 use Rattle.sch_core.specs.Excess.{AreFew}
 use Rattle.sch_core.specs.Programs.{IsProgramOf, ExceedsAt}
 use Rattle.sch_core.specs.Excess.{first_excess}
-use Rattle.sch_core.proofs.drafts.Soundness.{counted}
+use Rattle.sch_core.proofs.drafts.NearVariables.{near_each}
+use Rattle.sch_core.proofs.drafts.Parts.{all_in}
+use Rattle.sch_core.proofs.drafts.Soundness.{counted, sound_each}
 use Rattle.sch_core.proofs.ExcessWithoutNumbers.{alike_each, first_alike}
 use Rattle.sch_core.proofs.sizes.StaticsOfPrograms.{symbols_counted}
 use Rattle.sch_core.proofs.texts.TextSizes.{sized_each, forms_weigh}
@@ -98,6 +101,11 @@ module _ (ds : List Definition) (items : Data) (given own : List (List ℕ)) (o 
     few_nodes =
         let f = sized_each (text_globals (seen ds) items faultless.names) expands.expands (forms_sound (forms_in items) true) in
         omega (arith, f, forms_weigh items)
+
+    pub near : weights items ≤ max_weight → have_near_variables es ≡ true
+    near l =
+        let sound = sound_each (text_globals (seen ds) items faultless.names) expands.expands (forms_sound (forms_in items) true) in
+        near_each es 0 (all_in sequencing true 0 [] es (λ first final. refl) sound) (omega (arith, l, few_nodes))
 
     pub few_symbols : length (symbols_in_each es) ≤ 2 * weights items
     few_symbols = omega (arith, symbols_counted es, text_statics (text_globals (seen ds) items faultless.names) items es expands.expands)

@@ -1,5 +1,5 @@
 -- How large the drafts of a text are, by the weight of its data.
-use Rattle.std.proofs.Common.{◌≡◌, ◌≤◌, ℕ, ◌+◌, ◌*◌, Bool, true, false, cond, List, [], ◌∷◌, ◌++◌, length, map, subst, arith}
+use Rattle.std.proofs.Common.{◌≡◌, ◌≤◌, ℕ, ◌+◌, ◌*◌, Bool, List, [], ◌∷◌, ◌++◌, length, map, subst, arith}
 use Rattle.sch_read.specs.Grammar.{Datum, Data, atom, list, dotted, vector, none, cons, boolean, integer, character, symbol}
 use Rattle.sch_read.specs.Grammar as grammar
 use Rattle.sch_read.specs.Valid.{weight, weights}
@@ -9,7 +9,7 @@ use Rattle.sch_sketch.specs.declared.sketch.Position.{Position}
 use Rattle.sch_sketch.specs.Draft as draft
 use Rattle.sch_sketch.specs.Draft.{Draft, Drafts, constant, literal, local, global, set_local, set_global, define, branch, sequence, bind, letrec, lambda, call, operation, no_drafts, and_draft, count}
 use Rattle.sch_sketch.specs.Measure.{datum_measure, leaf_measure, sketch_measure, sketches_measure}
-use Rattle.sch_sketch.specs.Sketch.{Kind, choosing, sequencing, binding, recurring, abstracting, calling, operating, setting, setting_global, defining, Sketch, Sketches, sketches, front, last, first, but_first, assemble, bound_by}
+use Rattle.sch_sketch.specs.Sketch.{Kind, choosing, sequencing, binding, recurring, abstracting, calling, operating, setting, setting_global, defining, Sketch, Sketches, sketches, assemble, bound_by}
 use Rattle.sch_sketch.specs.Soundness.{IsAtom, HasParts, IsSound, AreSound}
 use Rattle.sch_sketch.proofs.SmallMeasures.{datum_weighs, leaf_some}
 use Rattle.sch_sketch.specs.Definitions.{is_define_word}
@@ -18,21 +18,13 @@ use Rattle.sch_expansion.proofs.Falls.{datum_falls, rest_falls}
 use Rattle.sch_expansion.proofs.SoundRows.{datum_sound, rest_sound}
 use Rattle.sch_expansion.specs.Expands.{Expands, PartsExpand}
 use Rattle.sch_expansion.specs.Expands as ex
-use Rattle.sch_sketch.specs.DraftMeasures.{size, size_each}
-use Rattle.sch_core.proofs.drafts.Parts.{front_count}
+use Rattle.sch_sketch.specs.DraftMeasures.{node_and_bound, size, size_each}
+use Rattle.sch_core.proofs.drafts.Parts.{front_count, front_sum, first_sum}
 use Rattle.sch_core.proofs.drafts.Soundness.{counted}
+use Rattle.sch_core.proofs.sizes.StaticsOfSketches.{chosen_within}
 use Rattle.sch_toplevel.specs.Forms.{is_begin_word, forms_of, forms_in, form_sketch}
 
 -- ## Nodes
-
-parts_size : (es : Drafts) → 1 ≤ count es → size_each (front es) + size (last es) ≡ size_each es
-parts_size no_drafts h = absurd (omega (arith, h))
-parts_size (and_draft e no_drafts) h = omega arith
-parts_size (and_draft e (and_draft f fs)) h = omega (arith, parts_size (and_draft f fs) (omega arith))
-
-first_size : (es : Drafts) → 1 ≤ count es → size (first es) + size_each (but_first es) ≡ size_each es
-first_size no_drafts h = absurd (omega (arith, h))
-first_size (and_draft e es) h = omega arith
 
 node_size : (k : Kind) (es : Drafts) → HasParts k (count es) → size (assemble k es) ≤ 1 + (bound_by k + size_each es)
 node_size choosing (and_draft a (and_draft b (and_draft c no_drafts))) h = omega arith
@@ -42,13 +34,13 @@ node_size choosing (and_draft a no_drafts) h = absurd (omega (arith, h))
 node_size choosing no_drafts h = absurd (omega (arith, h))
 node_size sequencing es h = omega arith
 node_size (operating p) es h = omega arith
-node_size (binding vs) es h = omega (arith, front_count es (length vs) h, parts_size es (omega (arith, h)))
-node_size (recurring vs p) es h = omega (arith, front_count es (length vs) h, parts_size es (omega (arith, h)))
-node_size (abstracting vs more) es h = omega (arith, parts_size es (omega (arith, h)))
-node_size (calling vs) es h = omega (arith, first_size es h)
-node_size (setting k) es h = omega (arith, parts_size es (omega (arith, h)))
-node_size (setting_global x) es h = omega (arith, parts_size es h)
-node_size (defining x) es h = omega (arith, parts_size es (omega (arith, h)))
+node_size (binding vs) es h = omega (arith, front_count es (length vs) h, front_sum node_and_bound es (omega (arith, h)))
+node_size (recurring vs p) es h = omega (arith, front_count es (length vs) h, front_sum node_and_bound es (omega (arith, h)))
+node_size (abstracting vs more) es h = omega (arith, front_sum node_and_bound es (omega (arith, h)))
+node_size (calling vs) es h = omega (arith, first_sum node_and_bound es h)
+node_size (setting k) es h = omega (arith, front_sum node_and_bound es (omega (arith, h)))
+node_size (setting_global x) es h = omega (arith, front_sum node_and_bound es h)
+node_size (defining x) es h = omega (arith, front_sum node_and_bound es (omega (arith, h)))
 
 atom_size : (m : ℕ) (e : Draft) → IsAtom e m → size e ≤ leaf_measure e
 atom_size m (constant c) h = omega arith
@@ -84,14 +76,10 @@ module _ (globals : Globals) where
 
 -- ## Forms
 
-choice : (b : Bool) (k k' : Sketch) (r : ℕ) → sketch_measure k ≤ r → sketch_measure k' ≤ r → sketch_measure (cond b k k') ≤ r
-choice true k k' r h h' = h
-choice false k k' r h h' = h'
-
 pub form_measure : (d : Datum) → sketch_measure (form_sketch d) ≤ datum_measure d
 form_measure (atom at a) = omega arith
 form_measure (list at none) = omega arith
-form_measure (list at (cons (atom q (symbol x)) xs)) = choice (is_define_word (keyword_of x)) _ _ _ (omega (arith, define_falls at xs)) (omega arith)
+form_measure (list at (cons (atom q (symbol x)) xs)) = chosen_within sketch_measure (is_define_word (keyword_of x)) _ _ _ (omega (arith, define_falls at xs)) (omega arith)
 form_measure (list at (cons (atom q (boolean x)) xs)) = omega arith
 form_measure (list at (cons (atom q (integer x)) xs)) = omega arith
 form_measure (list at (cons (atom q (character x)) xs)) = omega arith
@@ -109,10 +97,6 @@ measures_append : (a b : List Datum) → measures (a ++ b) ≡ measures a + meas
 measures_append [] b = omega arith
 measures_append (d ∷ a) b = omega (arith, measures_append a b)
 
-either : (b : Bool) (a c : List Datum) (r : ℕ) → measures a ≤ r → measures c ≤ r → measures (cond b a c) ≤ r
-either true a c r h i = h
-either false a c r h i = i
-
 one_form : (d : Datum) → measures (d ∷ []) ≤ 16 * weight d
 one_form d = omega (arith, form_measure d, datum_weighs d)
 
@@ -121,7 +105,7 @@ mutual
   form_weighs (atom at a) = one_form (atom at a)
   form_weighs (list at none) = one_form (list at none)
   form_weighs (list at (cons (atom q (symbol x)) xs)) =
-      either (is_begin_word (keyword_of x)) _ _ _ (omega (arith, forms_weigh xs)) (one_form (list at (cons (atom q (symbol x)) xs)))
+      chosen_within measures (is_begin_word (keyword_of x)) _ _ _ (omega (arith, forms_weigh xs)) (one_form (list at (cons (atom q (symbol x)) xs)))
   form_weighs (list at (cons (atom q (boolean x)) xs)) = one_form (list at (cons (atom q (boolean x)) xs))
   form_weighs (list at (cons (atom q (integer x)) xs)) = one_form (list at (cons (atom q (integer x)) xs))
   form_weighs (list at (cons (atom q (character x)) xs)) = one_form (list at (cons (atom q (character x)) xs))

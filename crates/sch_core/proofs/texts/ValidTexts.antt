@@ -23,9 +23,9 @@ use Rattle.sch_expansion.specs.Expands.{Expands, PartsExpand}
 use Rattle.sch_expansion.specs.Expands as ex
 use Rattle.sch_link_tables.specs.Named.{firsts, globals_in_each, symbols_in_each}
 use Rattle.sch_link_tables.specs.Numbered.{numbered}
-use Rattle.sch_link_tables.specs.Programs.{Definition, seen, names_of_each, globals_of_each, symbols_of_each, with_definition, kept, named, procedures, program_of}
+use Rattle.sch_link_tables.specs.Programs.{Definition, seen, names_of_each, globals_of_each, symbols_of_each, with_definition, kept, named, procedures, program_of, procedures_of_each}
 use Rattle.sch_core.specs.TextForms.{Form, expression, definition, sketch_of, IsBound, AreDefined, HasNames, AreOfData, form_weight, forms_weight}
-use Rattle.sch_core.specs.LibraryDefinitions.{AreDefinitions, AreAmong, AreOrdered, procedures_of_each}
+use Rattle.sch_core.specs.LibraryDefinitions.{AreDefinitions, AreAmong, AreOrdered}
 use Rattle.sch_core.specs.Quotable.{AllQuotable, IsQuotable}
 use Rattle.sch_core.specs.SizesOfStatics.{statics_in_each}
 use Rattle.sch_core.proofs.numbered.Names.{left, right, all_among}

@@ -21,9 +21,11 @@ use Rattle.sch_orders.proofs.CallsFit.{sites_erased}
 use Rattle.sch_frames.specs.declared.instruction.Instruction.{Instruction}
 use Rattle.sch_frames.specs.declared.instruction.Instruction.TheVariants.{Call, Copy, End, Jump, Label, Mark, Return, Store, Tail}
 use Rattle.sch_frames.specs.Tree as frames
-use Rattle.sch_layout.specs.BodyLayout.{Plan, arrivals, arrived, brought, carried, entering, labels, lay, leave, loaded, operand_at, operation_at, spill, stored, under}
+use Rattle.sch_layout.specs.BodyLayout.{Plan, arrivals, brought, carried, entering, labels, lay, leave, loaded, operand_at, operation_at, spill, stored, under}
+use Rattle.sch_control.specs.flow.Places.{variable_arrival}
 use Rattle.sch_layout.proofs.layouts.LabelsCounted.{labels_counted}
-use Rattle.sch_registers.specs.GreedyCalls.{EachCall, IsGreedyCall}
+use Rattle.sch_registers.specs.GreedyCalls.{IsGreedyCall}
+use Rattle.sch_control.specs.EachCall.{EachCall}
 use Rattle.sch_registers.specs.MadeFrom.{AreMadeFrom, IsMadeFrom}
 use Rattle.sch_registers.specs.Registers.{registers_code, registers_tree}
 use Rattle.sch_registers.proofs.ListedProgram.{tree_erased}
@@ -68,10 +70,10 @@ module _ (plan : Plan) where
   stored_needs xs rest = carried_needs mark.Save plan.home plan.place xs rest
 
   brought_needs : (x : ℕ) (rest : List Instruction) → all_labels_needed (brought plan x rest) ≡ all_labels_needed rest
-  brought_needs x rest = by (same_place (plan.place x) (arrived x)) where
-    by : (b : Bool) → all_labels_needed (cond b rest (under (spill plan x) (Copy (plan.place x) (arrived x)) rest)) ≡ all_labels_needed rest
+  brought_needs x rest = by (same_place (plan.place x) (variable_arrival x)) where
+    by : (b : Bool) → all_labels_needed (cond b rest (under (spill plan x) (Copy (plan.place x) (variable_arrival x)) rest)) ≡ all_labels_needed rest
     by true = refl
-    by false = let u = under_needs (spill plan x) (Copy (plan.place x) (arrived x)) rest in omega (arith, u)
+    by false = let u = under_needs (spill plan x) (Copy (plan.place x) (variable_arrival x)) rest in omega (arith, u)
 
   arrivals_need : (from count : ℕ) (rest : List Instruction) → all_labels_needed (arrivals plan from count rest) ≡ all_labels_needed rest
   arrivals_need from zero rest = refl

@@ -6,28 +6,24 @@ use Rattle.std.proofs.lemmas.Bool.{eqb-true}
 use Rattle.std.proofs.lemmas.List.{length-map}
 use Rattle.std.proofs.lemmas.List.Sums.{sum_by-cons}
 use Rattle.sch_word.proofs.facts.Occurrences.{one, one_same, times, times_cons}
-
--- numbers without the first that is this one
-abbrev removed : ℕ → List ℕ → List ℕ
-removed x [] = []
-removed x (y ∷ ys) = cond (nat_eq y x) ys (y ∷ removed x ys)
+use Rattle.sch_shuffle.specs.Greedy.{remove_first}
 
 module _ (amount : ℕ → ℕ) where
-  removed_sum : (x : ℕ) (ys : List ℕ) → 1 ≤ times x ys → sum_by amount ys ≡ amount x + sum_by amount (removed x ys)
+  removed_sum : (x : ℕ) (ys : List ℕ) → 1 ≤ times x ys → sum_by amount ys ≡ amount x + sum_by amount (remove_first x ys)
   removed_sum x [] h = absurd (let none : times x [] ≡ 0 = refl in omega (arith, h, none))
   removed_sum x (y ∷ ys) h = by (nat_eq y x) refl (removed_sum x ys) where
-    by : (b : Bool) → nat_eq y x ≡ b → (1 ≤ times x ys → sum_by amount ys ≡ amount x + sum_by amount (removed x ys)) → sum_by amount (y ∷ ys) ≡ amount x + sum_by amount (cond b ys (y ∷ removed x ys))
+    by : (b : Bool) → nat_eq y x ≡ b → (1 ≤ times x ys → sum_by amount ys ≡ amount x + sum_by amount (remove_first x ys)) → sum_by amount (y ∷ ys) ≡ amount x + sum_by amount (cond b ys (y ∷ remove_first x ys))
     by true e more = sum_by-cons amount y ys ∙ ap (λ z. amount z + sum_by amount ys) (eqb-true y x e)
     by false e more =
         let none : one x y ≡ 0 = ap (λ b. cond {A = ℕ} b 1 0) e in
         let rest = more (omega (arith, h, times_cons x y ys, none)) in
-        omega (arith, rest, sum_by-cons amount y ys, sum_by-cons amount y (removed x ys))
+        omega (arith, rest, sum_by-cons amount y ys, sum_by-cons amount y (remove_first x ys))
 
 pub sum_within : (amount : ℕ → ℕ) (xs ys : List ℕ) → ((k : ℕ) → times k xs ≤ times k ys) → sum_by amount xs ≤ sum_by amount ys
 sum_within amount [] ys h = omega arith
 sum_within amount (x ∷ xs) ys h =
     let there : 1 ≤ times x ys = (let m = h x in omega (arith, m, times_cons x x xs, one_same x)) in
-    let more = sum_within amount xs (removed x ys) (λ k. let m = h k in let r = removed_sum (one k) x ys there in omega (arith, m, r, times_cons k x xs)) in
+    let more = sum_within amount xs (remove_first x ys) (λ k. let m = h k in let r = removed_sum (one k) x ys there in omega (arith, m, r, times_cons k x xs)) in
     let all = removed_sum amount x ys there in
     omega (arith, more, all, sum_by-cons amount x xs)
 

@@ -5,6 +5,7 @@ use Rattle.std.specs.List.{list_all}
 use Rattle.std.specs.Bool.{MatchBool}
 use Rattle.std.proofs.lemmas.Bool.{and_from, ne_eqb, le-ltb, lt-ltb, ltb-true}
 use Rattle.std.proofs.lemmas.Option.{slice_get_within}
+use Rattle.sch_frames.proofs.EndsAlike.{follows_some}
 use Rattle.sch_word.specs.declared.place.Place.{Place}
 use Rattle.sch_word.specs.declared.place.Place.TheVariants.{Reg, Slot}
 use Rattle.sch_word.specs.values.Values.{Value}
@@ -19,19 +20,21 @@ use Rattle.sch_control.specs.declared.operation.Operand.TheVariants as operand
 use Rattle.sch_control.specs.declared.operation.Application.{Application}
 use Rattle.sch_control.specs.AtomsAndSites.{operand_atoms, operands_atoms, application_atoms}
 use Rattle.sch_control.specs.Meaning.{Environment, Callee, Result}
-use Rattle.sch_control.specs.Operations.{Procedure, and_value, operand_value, operand_values}
+use Rattle.sch_control.specs.Operations.{and_value, operand_value, operand_values}
+use Rattle.sch_word.specs.runs.Procedures.{Procedure}
 use Rattle.sch_frames.specs.declared.instruction.Instruction.{Instruction}
-use Rattle.sch_frames.specs.Does.{EndsAs, Follows}
-use Rattle.sch_frames.specs.Meaning.{Cell, Frame, argument, argument_in, argument_register, argument_slot, arguments, held, parts, value_in}
+use Rattle.sch_frames.specs.Does.{EndsAs}
+use Rattle.sch_frames.specs.Meaning.{Cell, Frame, argument, argument_in, arguments, held, parts, value_in}
+use Rattle.sch_control.specs.flow.Places.{argument_register, argument_slot, register_or_slot}
 use Rattle.sch_word.specs.values.Places.{same_place, closure_place, is_slot, link_place}
 use Rattle.sch_word.proofs.facts.Lists.{some_same}
 use Rattle.sch_frames.proofs.FramePlaces.{slot_of}
-use Rattle.sch_layout.specs.BodyLayout.{Plan, atoms_at, operand_at, operands_at, arguments_at, in_either, target, move_all}
+use Rattle.sch_layout.specs.BodyLayout.{Plan, atoms_at, operand_at, operands_at, arguments_at, target, move_all}
 use Rattle.sch_layout.specs.Laws.{AtomsHave, Behind}
 use Rattle.sch_control.specs.flow.Live.{Mentions}
 use Rattle.sch_layout.specs.Moves.{Contents, EachMove, is_own, reads_own, reads_own_atom}
 use Rattle.sch_layout.specs.SharedPlaces.{Brings, FreeInCall, FreeInTail}
-use Rattle.sch_layout.proofs.Targets.{arrival_by}
+use Rattle.sch_control.proofs.RegisterOrSlot.{arrival_by}
 use Rattle.sch_layout.proofs.does.MovesDo.{seen, operand_seen, moves_do, run}
 use Rattle.sch_layout.proofs.does.OperationsFollow.{have_left, have_right, operand_follows}
 use Rattle.sch_layout.proofs.does.PlacesAgree.{Agrees, Lives, atoms_live, found}
@@ -65,9 +68,6 @@ values_length environment t [] (v ∷ vs) h = absurd h
 values_length environment t (o ∷ operands) [] h = absurd h
 values_length environment t (o ∷ operands) (v ∷ vs) h = ap suc (values_length environment t operands vs h.1)
 
-follows_some : (a b : Option Value) (v : Value) → a ≡ Some v → Follows a b → b ≡ Some v
-follows_some a b v e f = subst (λ o. Follows o b → b ≡ Some v) (sym e) (λ f. f) f
-
 -- ## What is read where a call takes it
 
 arguments_are : (us : List Value) (places : Place → Cell) (slots : ℕ → Cell) (from : ℕ) → ((k : ℕ) (v : Value) → slice_get us k ≡ Some v → argument places slots (from + k) ≡ Some v)
@@ -89,7 +89,7 @@ module _ (words : ℕ) where
   pub call_parts : (vs : List Value) (count : ℕ) (g : Frame) → length vs ≡ suc count → ((k : ℕ) (v : Value) → slice_get vs k ≡ Some v → value_in (seen words g (target false words k)) ≡ Some v)
       → parts g.places g.outgoing count ≡ Some vs
   call_parts vs count g l h = parts_are vs count g.places g.outgoing l (λ v e. h 0 v e) (λ k v e. at (argument_register k) (argument_slot k) ∙ h (suc k) v e) where
-    at : (o : Option ℕ) (j : ℕ) → argument_in g.places g.outgoing o j ≡ value_in (seen words g (in_either o (words + j)))
+    at : (o : Option ℕ) (j : ℕ) → argument_in g.places g.outgoing o j ≡ value_in (seen words g (register_or_slot o (words + j)))
     at (Some r) j = refl
     at None j =
         ap (λ n. value_in (g.outgoing n)) (omega arith)
@@ -101,7 +101,7 @@ module _ (words : ℕ) where
   tail_parts vs count g l few h =
       parts_are vs count g.places (λ j. g.places (Slot j)) l (λ v e. h 0 v e)
       (λ k v e. let lt : suc k < length vs = slice_get_within vs (suc k) v e in at k (omega (arith, lt, l)) (argument_register k) refl ∙ (ap (λ p. value_in (seen words g p)) (sym (arrival_by k)) ∙ h (suc k) v e)) where
-        at : (k : ℕ) → k < count → (o : Option ℕ) → argument_register k ≡ o → argument_in g.places (λ j. g.places (Slot j)) o (argument_slot k) ≡ value_in (seen words g (in_either o (argument_slot k)))
+        at : (k : ℕ) → k < count → (o : Option ℕ) → argument_register k ≡ o → argument_in g.places (λ j. g.places (Slot j)) o (argument_slot k) ≡ value_in (seen words g (register_or_slot o (argument_slot k)))
         at k lt (Some r) e = refl
         at k lt None e =
             let i = slot_of k e in
@@ -114,7 +114,7 @@ module _ (words : ℕ) where
   target_apart (Reg r) s own k = absurd (cc)
   target_apart (Slot j) s own zero = refl
   target_apart (Slot j) s own (suc k) = by (argument_register k) where
-    by : (o : Option ℕ) → same_place (Slot j) (in_either o (words + argument_slot k)) ≡ false
+    by : (o : Option ℕ) → same_place (Slot j) (register_or_slot o (words + argument_slot k)) ≡ false
     by (Some r) = refl
     by None = let lt : j < words = ltb-true j words own in ne_eqb j (words + argument_slot k) (λ e. omega (arith, e, lt))
 

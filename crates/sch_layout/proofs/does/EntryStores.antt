@@ -8,7 +8,7 @@ use Rattle.sch_word.specs.values.Values.{Value}
 use Rattle.sch_control.specs.declared.body.Entry.{Entry}
 use Rattle.sch_control.specs.Meaning.{Result, Callee, entry_environment, nothing}
 use Rattle.sch_control.specs.Run as control_run
-use Rattle.sch_control.specs.Operations.{Procedure}
+use Rattle.sch_word.specs.runs.Procedures.{Procedure}
 use Rattle.sch_word.specs.declared.mark.MarkKind.{MarkKind}
 use Rattle.sch_word.specs.runs.Computation.{State}
 use Rattle.sch_frames.specs.declared.instruction.Instruction.{Instruction}
@@ -16,9 +16,9 @@ use Rattle.sch_frames.specs.declared.instruction.Instruction.TheVariants.{Copy}
 use Rattle.sch_frames.specs.Does.{EndsAs, world}
 use Rattle.sch_frames.specs.Meaning.{Cell, Frame, set, with_place, cell_of, execute_each, entry_places, beginning}
 use Rattle.sch_word.specs.values.Places.{same_place, link_place}
-use Rattle.sch_control.specs.flow.Places.{formals_of}
+use Rattle.sch_control.specs.flow.Places.{formals_of, variable_arrival}
 use Rattle.sch_frames.proofs.FramePlaces.{set_other, set_self}
-use Rattle.sch_layout.specs.BodyLayout.{Plan, arrived, under, spill, arrivals, entering}
+use Rattle.sch_layout.specs.BodyLayout.{Plan, under, spill, arrivals, entering}
 use Rattle.sch_layout.specs.SharedPlaces.{place_before, Arrives, entered_with}
 use Rattle.sch_layout.proofs.does.PlacesAgree.{Agrees, meant, same_meant}
 use Rattle.sch_layout.proofs.does.MovesDo.{under_does}
@@ -26,10 +26,10 @@ use Rattle.sch_word.proofs.facts.Places.{places_same}
 
 module _ (plan : Plan) where
   stands_placed : (before x : ℕ) → x < before → place_before plan before x ≡ plan.place x
-  stands_placed before x lt = ap (λ t. cond t (plan.place x) (arrived x)) (lt-ltb x before lt)
+  stands_placed before x lt = ap (λ t. cond t (plan.place x) (variable_arrival x)) (lt-ltb x before lt)
 
-  stands_arrived : (before x : ℕ) → before ≤ x → place_before plan before x ≡ arrived x
-  stands_arrived before x le = ap (λ t. cond t (plan.place x) (arrived x)) (le-ltb x before le)
+  stands_arrived : (before x : ℕ) → before ≤ x → place_before plan before x ≡ variable_arrival x
+  stands_arrived before x le = ap (λ t. cond t (plan.place x) (variable_arrival x)) (le-ltb x before le)
 
   -- bringing one into its place leaves the others where they stand
   stands_other : (y x : ℕ) → x ≢ y → place_before plan (suc y) x ≡ place_before plan y x
@@ -43,7 +43,7 @@ module _ (plan : Plan) (live : ℕ → Type 0) (count : ℕ) (come : Arrives pla
   abbrev Standing : (before : ℕ) → (Place → Cell) → Type 0
   Standing before places = (x : ℕ) (v : Value) → live x → x < count → entry_environment self arguments x ≡ Some v → places (place_before plan before x) ≡ meant x v
 
-  arrives : (x : ℕ) (v : Value) → entry_environment self arguments x ≡ Some v → entry_places self arguments (arrived x) ≡ meant x v
+  arrives : (x : ℕ) (v : Value) → entry_environment self arguments x ≡ Some v → entry_places self arguments (variable_arrival x) ≡ meant x v
   arrives zero v e = refl
   arrives (suc zero) v e = same_meant 1 self v e
   arrives (suc (suc zero)) v e = ap cell_of e
@@ -61,24 +61,24 @@ module _ (plan : Plan) (live : ℕ → Type 0) (count : ℕ) (come : Arrives pla
   first link (suc x) v l lt e = ap (entry_places self arguments) (stands_arrived plan 1 (suc x) (omega arith)) ∙ arrives (suc x) v e
 
   -- one that stays where it arrives
-  stays : (y : ℕ) (places : Place → Cell) → same_place (plan.place y) (arrived y) ≡ true → Standing y places → Standing (suc y) places
+  stays : (y : ℕ) (places : Place → Cell) → same_place (plan.place y) (variable_arrival y) ≡ true → Standing y places → Standing (suc y) places
   stays y places s a x v l lt e = by (cases_eq x y) where
     by : (x ≡ y) ⊎ (x ≡ y → ⊥) → places (place_before plan (suc y) x) ≡ meant x v
     by (inl i) =
-        ap places (stands_placed plan (suc y) x (omega (arith, i)) ∙ (ap plan.place i ∙ (places_same (plan.place y) (arrived y) s ∙ (ap arrived (sym i) ∙ sym (stands_arrived plan y x (omega (arith, i)))))))
+        ap places (stands_placed plan (suc y) x (omega (arith, i)) ∙ (ap plan.place i ∙ (places_same (plan.place y) (variable_arrival y) s ∙ (ap variable_arrival (sym i) ∙ sym (stands_arrived plan y x (omega (arith, i)))))))
         ∙ a x v l lt e
     by (inr n) = ap places (stands_other plan y x n) ∙ a x v l lt e
 
   -- one that is brought into its place
-  comes : (y : ℕ) (places : Place → Cell) → y < count → same_place (plan.place y) (arrived y) ≡ false → Standing y places → Standing (suc y) (set places (plan.place y) (places (arrived y)))
+  comes : (y : ℕ) (places : Place → Cell) → y < count → same_place (plan.place y) (variable_arrival y) ≡ false → Standing y places → Standing (suc y) (set places (plan.place y) (places (variable_arrival y)))
   comes y places few s a x v l lt e = by (cases_eq x y) where
-    by : (x ≡ y) ⊎ (x ≡ y → ⊥) → set places (plan.place y) (places (arrived y)) (place_before plan (suc y) x) ≡ meant x v
+    by : (x ≡ y) ⊎ (x ≡ y → ⊥) → set places (plan.place y) (places (variable_arrival y)) (place_before plan (suc y) x) ≡ meant x v
     by (inl i) =
-        ap (set places (plan.place y) (places (arrived y))) (stands_placed plan (suc y) x (omega (arith, i)) ∙ ap plan.place i)
-        ∙ (set_self places (plan.place y) (places (arrived y)) ∙ (ap places (ap arrived (sym i) ∙ sym (stands_arrived plan y x (omega (arith, i)))) ∙ a x v l lt e))
+        ap (set places (plan.place y) (places (variable_arrival y))) (stands_placed plan (suc y) x (omega (arith, i)) ∙ ap plan.place i)
+        ∙ (set_self places (plan.place y) (places (variable_arrival y)) ∙ (ap places (ap variable_arrival (sym i) ∙ sym (stands_arrived plan y x (omega (arith, i)))) ∙ a x v l lt e))
     by (inr n) =
-        ap (set places (plan.place y) (places (arrived y))) (stands_other plan y x n)
-        ∙ (set_other places (plan.place y) (place_before plan y x) (places (arrived y)) (come y few s x lt l n) ∙ a x v l lt e)
+        ap (set places (plan.place y) (places (variable_arrival y))) (stands_other plan y x n)
+        ∙ (set_other places (plan.place y) (place_before plan y x) (places (variable_arrival y)) (come y few s x lt l n) ∙ a x v l lt e)
 
   module _ (callee : Callee) (depth : ℕ) where
     arrive : (left from : ℕ) (rest : List Instruction) (f : Frame) (s : State Procedure) (r : Result) → from + left ≡ count → Standing from f.places
@@ -86,14 +86,14 @@ module _ (plan : Plan) (live : ℕ → Type 0) (count : ℕ) (come : Arrives pla
         → (marks : List MarkKind) → EndsAs r (execute_each callee depth (arrivals plan from left rest) None f (world s marks))
     arrive zero from rest f s r e a go marks = go f marks (subst (λ n. Standing n f.places) (omega (arith, e)) a)
     arrive (suc left) from rest f s r e a go marks =
-        by (same_place (plan.place from) (arrived from)) refl (λ f a marks. arrive left (suc from) rest f s r (omega (arith, e)) a go marks) where
-          by : (t : Bool) → same_place (plan.place from) (arrived from) ≡ t
+        by (same_place (plan.place from) (variable_arrival from)) refl (λ f a marks. arrive left (suc from) rest f s r (omega (arith, e)) a go marks) where
+          by : (t : Bool) → same_place (plan.place from) (variable_arrival from) ≡ t
               → ((f : Frame) → Standing (suc from) f.places → (marks : List MarkKind) → EndsAs r (execute_each callee depth (arrivals plan (suc from) left rest) None f (world s marks)))
-              → EndsAs r (execute_each callee depth (cond t (arrivals plan (suc from) left rest) (under (spill plan from) (Copy (plan.place from) (arrived from)) (arrivals plan (suc from) left rest))) None f (world s marks))
+              → EndsAs r (execute_each callee depth (cond t (arrivals plan (suc from) left rest) (under (spill plan from) (Copy (plan.place from) (variable_arrival from)) (arrivals plan (suc from) left rest))) None f (world s marks))
           by true i more = more f (stays from f.places i a) marks
           by false i more =
-              under_does plan.limit callee depth s (spill plan from) (Copy (plan.place from) (arrived from)) _ f r
-              (λ marks. more (with_place f (plan.place from) (f.places (arrived from))) (comes from f.places (omega (arith, e)) i a) marks) marks
+              under_does plan.limit callee depth s (spill plan from) (Copy (plan.place from) (variable_arrival from)) _ f r
+              (λ marks. more (with_place f (plan.place from) (f.places (variable_arrival from))) (comes from f.places (omega (arith, e)) i a) marks) marks
 
   agrees : (e : Entry) → count ≡ 2 + e.formals → length arguments ≡ e.formals → (places : Place → Cell) → Standing count places
       → {kept : ℕ → Type 0} → Agrees plan live kept (control_run.beginning (Some e) self arguments) nothing places

@@ -6,6 +6,7 @@ use Rattle.std.proofs.Common.{◌≡◌, ℕ, zero, suc, ◌+◌, ◌<◌, ◌�
 use Rattle.std.specs.Bool.{MatchBool}
 use Rattle.std.specs.Prelude.{filter, nat_eq, ◌||◌}
 use Rattle.std.proofs.lemmas.Bool.{eq-eqb, eqb-false, eqb-true, ne_eqb}
+use Rattle.sch_control.proofs.Environments.{after_value}
 use Rattle.sch_word.specs.declared.place.Place.{Place}
 use Rattle.sch_word.specs.declared.place.Place.TheVariants.{Slot}
 use Rattle.sch_word.specs.values.Values.{Value, is_true}
@@ -19,15 +20,12 @@ use Rattle.sch_word.specs.values.Registers.{argument_registers}
 use Rattle.sch_word.proofs.Lengths.{procedures_length}
 use Rattle.sch_control.specs.flow.Apart.{Around, EachHas}
 use Rattle.sch_control.specs.declared.operation.Application.{Application}
-use Rattle.sch_control.specs.declared.operation.Atom.TheVariants.{Constant, Literal, Variable}
-use Rattle.sch_control.specs.declared.operation.Operand.TheVariants as operand
-use Rattle.sch_control.specs.declared.operation.Operation.{Operation}
-use Rattle.sch_control.specs.declared.operation.Operation.TheVariants as operation
 use Rattle.sch_control.specs.declared.operation.Member.{Member}
 use Rattle.sch_control.specs.declared.operation.Source.{Source}
 use Rattle.sch_control.specs.Meaning as control
 use Rattle.sch_control.specs.Meaning.{World, Result, Environment, Then, Callee, marked, with_value, on_outcome, on_return, either, put, put_if, put_each, put_inside, binds, heads, with_region, save_each, on_ending, mark_each, mark_bound, mark_members, call_in, evaluate}
-use Rattle.sch_control.specs.Operations.{Procedure, Ending, operand_values, operate, member_bytes, members_made, with_procedures}
+use Rattle.sch_control.specs.Operations.{Ending, operand_values, operate, member_bytes, members_made, with_procedures}
+use Rattle.sch_word.specs.runs.Procedures.{Procedure}
 use Rattle.sch_control.specs.AtomsAndSites.{operation_atoms, application_atoms, member_atoms}
 use Rattle.sch_control.specs.Tree.{Expression, perform, bind, sequence, branch, fix, call, tail_call, return, end, save}
 use Rattle.sch_control.specs.Valid.{member_variables}
@@ -39,7 +37,7 @@ use Rattle.sch_frames.specs.Meaning.{Cell, Is, Frame, value_in, held, with_place
 use Rattle.sch_frames.proofs.EndsAlike.{onto_end, with_value_ends, on_outcome_ends, on_return_ends, call_in_ends, with_procedures_follow, either_ends}
 use Rattle.sch_layout.specs.BodyLayout.{Plan, sources_at, members_at, operation_at, spill, unmarked_reading, stored, loaded, leave, labels, lay}
 use Rattle.sch_layout.specs.Laws.{AtomsHave, Behind, MembersUse, Uses}
-use Rattle.sch_control.specs.flow.Live.{Mentions, Perhaps, AfterValue, Across, Later, Live}
+use Rattle.sch_control.specs.flow.Live.{Mentions, Perhaps, Across, Later, Live}
 use Rattle.sch_control.proofs.MarksAlone.{each_state, bound_state, members_state}
 use Rattle.sch_control.proofs.Results.{perhaps}
 use Rattle.sch_control.proofs.VariableLists.{heads_has}
@@ -121,27 +119,7 @@ group_saved inside (m ∷ members) (v ∷ vs) environment saved z l =
       by true true false eb et eh whole o =
           rw et (sym (o (filtered_out inside (member_variables members) z (ap inside (eqb-true z m.at et) ∙ eb) eh) ∙ ap (λ t. cond t (Some v) (environment z)) et))
 
--- ## What is live
-
-abbrev the_value : (none : Value) → Ending → Value
-the_value none (Some (gives v s)) = v
-the_value none _ = none
-
--- what is live behind the value that an operation gives is live behind the operation
-after_value : (o : Operation ℕ) (L : Bool → Type 0) (environment : Environment) (s s' : State Procedure) (v : Value) → operate environment o s ≡ Some (gives v s') → L (is_true v) → AfterValue o L
-after_value (operation.Operand (operand.Atom (Constant c))) L environment s s' v e l = subst (λ u. L (is_true u)) (sym (ap (the_value v) e)) l
-after_value (operation.Operand (operand.Atom (Literal n))) L environment s s' v e l = perhaps L (is_true v) l
-after_value (operation.Operand (operand.Atom (Variable x))) L environment s s' v e l = perhaps L (is_true v) l
-after_value (operation.Operand (operand.Read site which atoms)) L environment s s' v e l = perhaps L (is_true v) l
-after_value (operation.Prim site which operands) L environment s s' v e l = perhaps L (is_true v) l
-after_value (operation.Global g) L environment s s' v e l = perhaps L (is_true v) l
-after_value (operation.SetGlobal g o) L environment s s' v e l = perhaps L (is_true v) l
-after_value (operation.Field x k) L environment s s' v e l = perhaps L (is_true v) l
-after_value (operation.NewCell c) L environment s s' v e l = perhaps L (is_true v) l
-after_value operation.UnsetCell L environment s s' v e l = perhaps L (is_true v) l
-after_value (operation.CellGet c) L environment s s' v e l = perhaps L (is_true v) l
-after_value (operation.CellSet c o) L environment s s' v e l = perhaps L (is_true v) l
-after_value (operation.MakeClosure c) L environment s s' v e l = perhaps L (is_true v) l
+-- ## What is given
 
 -- ends that follow, where it is known what is given
 given_ends : (marks marks' : List MarkKind) (a b : Ending) (next next' : Value → World → Result) → Follows a b
@@ -426,7 +404,7 @@ module _ (plan : Plan) (homes : Homes plan) (callee callee' : Callee) (follow : 
       given_ends marks marks' (operate environment o s) (operate (held f) (operation_at plan.place o) s) _ _
       (operate_follows plan.place (Lives (λ x. Live x (perform o) (L x))) environment (held f) (found plan (λ x. Live x (perform o) (L x)) f r) o s (atoms_live _ (operation_atoms o) u (λ x l. inl l)))
       (λ v s' e. onto_end (next v environment saved (world s' marks)) _ _ (leaving test rest (record f { accumulator = Is v }) (world s' marks') v refl)
-      (h v environment saved (record f { accumulator = Is v }) s' marks marks' (agrees_less plan (λ x l. inr (after_value o (L x) environment s s' v e l)) r) refl))
+      (h v environment saved (record f { accumulator = Is v }) s' marks marks' (agrees_less plan (λ x l. inr (after_value environment o s s' v e (L x) l)) r) refl))
   same (bind x a b) inside L u p n test rest below environment saved f s marks marks' next r h =
       same a inside (λ z t. Across x z (Live z b (L z))) u.1.0 p.1.0 n None _ tt environment saved f s marks marks' _ r
       (λ v environment saved f s marks marks' r e.

@@ -15,7 +15,8 @@ use Rattle.sch_control.specs.declared.operation.Operand.{Operand}
 use Rattle.sch_control.specs.declared.operation.Operand.TheVariants as operand
 use Rattle.sch_control.specs.declared.operation.Operation.TheVariants as operation
 use Rattle.sch_control.specs.Meaning.{Result, Callee, on_ending}
-use Rattle.sch_control.specs.Operations.{Procedure, and_value, atom_value, atom_values, operand_value, read}
+use Rattle.sch_control.specs.Operations.{and_value, atom_value, atom_values, operand_value, read}
+use Rattle.sch_word.specs.runs.Procedures.{Procedure}
 use Rattle.sch_word.specs.values.Options.{when_some}
 use Rattle.sch_control.specs.AtomsAndSites.{operand_atoms}
 use Rattle.sch_frames.specs.declared.instruction.Instruction.{Instruction}

@@ -13,7 +13,8 @@ use Rattle.sch_control.specs.declared.operation.Source.TheVariants as source
 use Rattle.sch_control.specs.declared.operation.Member.{Member}
 use Rattle.sch_control.specs.declared.operation.Operation.{Operation}
 use Rattle.sch_control.specs.declared.operation.Operation.TheVariants as operation
-use Rattle.sch_control.specs.Operations.{Procedure, atom_value, atom_values, operand_value, operand_values, field, source_value, source_values, operate, members_made}
+use Rattle.sch_control.specs.Operations.{atom_value, atom_values, operand_value, operand_values, field, source_value, source_values, operate, members_made}
+use Rattle.sch_word.specs.runs.Procedures.{Procedure}
 use Rattle.sch_control.specs.AtomsAndSites.{operand_atoms, operands_atoms, source_atom, source_atoms, operation_atoms, member_atoms}
 use Rattle.sch_frames.specs.Does.{Follows}
 use Rattle.sch_frames.proofs.EndsAlike.{follows_same, onto, and_value_follows, read_follows, when_some_follows}

@@ -2,6 +2,7 @@
 use Rattle.std.proofs.Common.{◌≡◌, ℕ, suc, ◌+◌, ◌*◌, ◌≤◌, List, [], ◌∷◌, length, Option, Some, None, Bool, true, false, cond, refl, ap, arith}
 use Rattle.std.specs.Prelude.{filter}
 use Rattle.std.proofs.lemmas.List.{length-map}
+use Rattle.std.specs.Option.{unwrap_or}
 use Rattle.sch_word.specs.declared.mark.MarkKind.{MarkKind}
 use Rattle.sch_word.specs.declared.mark.MarkKind.TheVariants as mark
 use Rattle.sch_word.specs.declared.place.Place.{Place}
@@ -20,7 +21,8 @@ use Rattle.sch_word.specs.values.Places.{is_slot}
 use Rattle.sch_frames.specs.Sizes as frames
 use Rattle.sch_frames.specs.Sizes.{closures_in, codes_size, copies_of}
 use Rattle.sch_frames.specs.Tree as frame_tree
-use Rattle.sch_layout.specs.BodyLayout.{Plan, arrived, carried, entering, labels, lay, leave, loaded, member_at, spill, stored, under}
+use Rattle.sch_layout.specs.BodyLayout.{Plan, carried, entering, labels, lay, leave, loaded, member_at, spill, stored, under}
+use Rattle.sch_control.specs.flow.Places.{variable_arrival}
 use Rattle.sch_layout.specs.FewCopies.{Few, FewCopiesFit, MayStand, body_layout, in_registers, most_saved, work_in}
 use Rattle.sch_layout.proofs.EntryCopies.{entering_less, spill_has}
 use Rattle.sch_layout.proofs.layouts.LayoutSize.{members_kept, operation_kept}
@@ -88,12 +90,8 @@ module _ (plan : Plan) where
 
   -- ## Expressions
 
-  -- how many may be saved at the head of a region
-  abbrev room : Option ℕ → ℕ
-  room None = 0
-  room (Some most) = most
-
-  stands_within : (head : Option ℕ) (saved : ℕ) → MayStand plan head saved → saved ≤ room head
+  -- no more are saved at the head of a region than may be
+  stands_within : (head : Option ℕ) (saved : ℕ) → MayStand plan head saved → saved ≤ unwrap_or head 0
   stands_within None saved h = absurd h
   stands_within (Some most) saved h = h
 
@@ -131,7 +129,7 @@ module _ (plan : Plan) where
       omega (arith, h, carried_done mark.Save plan.home plan.place (heads e saves) (lay plan e (with_region saves inside) n test rest))
 
   lay_copies : (head : Option ℕ) (e : Expression) (inside : ℕ → Bool) (n : ℕ) (test : Option ℕ) (rest : List Instruction) → Few plan head e
-      → copies_of (lay plan e inside n test rest) ≤ room head + expression_copies e + copies_of rest
+      → copies_of (lay plan e inside n test rest) ≤ unwrap_or head 0 + expression_copies e + copies_of rest
   lay_copies head (perform o) inside n test rest f = let h = leave_copies test rest in omega (arith, h)
   lay_copies head (bind x a b) inside n test rest f =
       let after = lay plan b inside (n + labels a) test rest in
@@ -170,14 +168,14 @@ module _ (plan : Plan) where
   entering_done None rest = omega arith
   entering_done (Some e) rest =
       let h = entering_less plan (λ is. work_in is) 0
-      (λ x rest. spill_has (λ m. work_in (under m (Copy (plan.place x) (arrived x)) rest) ≤ 0 + work_in rest) plan x (omega arith) (omega arith)) (Some e) rest in
+      (λ x rest. spill_has (λ m. work_in (under m (Copy (plan.place x) (variable_arrival x)) rest) ≤ 0 + work_in rest) plan x (omega arith) (omega arith)) (Some e) rest in
       omega (arith, h)
 
   entering_copies : (entry : Option Entry) (rest : List Instruction) → most_saved plan entry + copies_of (entering plan entry rest) ≤ entry_copies entry + copies_of rest
   entering_copies None rest = omega arith
   entering_copies (Some e) rest =
       let h = entering_less plan (λ is. copies_of is) 1
-      (λ x rest. spill_has (λ m. copies_of (under m (Copy (plan.place x) (arrived x)) rest) ≤ 1 + copies_of rest) plan x (omega arith) (omega arith)) (Some e) rest in
+      (λ x rest. spill_has (λ m. copies_of (under m (Copy (plan.place x) (variable_arrival x)) rest) ≤ 1 + copies_of rest) plan x (omega arith) (omega arith)) (Some e) rest in
       omega (arith, h)
 
   body_done : (entry : Option Entry) (e : Expression) → Few plan (Some (most_saved plan entry)) e → work_in (body_layout plan entry e) + entry_done entry ≤ entry_done entry + expression_done e

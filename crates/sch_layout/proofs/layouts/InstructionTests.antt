@@ -29,12 +29,13 @@ use Rattle.sch_frames.specs.declared.instruction.Instruction.{Instruction}
 use Rattle.sch_frames.specs.declared.instruction.Instruction.TheVariants.{Do, Store, Copy, Pass, Fix, Call, Tail, Return, End, IfFalse, Jump, Label, Mark}
 use Rattle.sch_word.specs.values.Places.{same_place, is_slot}
 use Rattle.sch_frames.specs.Valid.{are_members, instruction_known, instruction_placed, instruction_shaped, is_atom, is_place}
-use Rattle.sch_layout.specs.BodyLayout.{Plan, arguments_at, source_at, sources_at, atom_at, atoms_at, operand_at, operands_at, members_at, operation_at, arrived, entering, spill, target, under, writing, move_all, stored, loaded, leave, labels, lay}
+use Rattle.sch_layout.specs.BodyLayout.{Plan, arguments_at, source_at, sources_at, atom_at, atoms_at, operand_at, operands_at, members_at, operation_at, entering, spill, target, under, writing, move_all, stored, loaded, leave, labels, lay}
+use Rattle.sch_control.specs.flow.Places.{variable_arrival}
 use Rattle.sch_layout.specs.Laws.{AtomHas, AtomsHave, MembersUse, Uses}
 use Rattle.sch_layout.specs.Moves.{EachMove}
 use Rattle.sch_layout.specs.SharedPlaces.{entered_with}
 use Rattle.sch_layout.proofs.CarriedCopies.{carried_has}
-use Rattle.sch_layout.proofs.EachCall.{EachCall}
+use Rattle.sch_control.specs.EachCall.{EachCall}
 use Rattle.sch_layout.proofs.EntryCopies.{entering_has, spill_has}
 use Rattle.sch_layout.proofs.MovesHave.{Fits, is_entry, is_target, moves_have, moves_valid, each_mapped}
 use Rattle.sch_layout.proofs.does.OperationsFollow.{have_left, have_right}
@@ -122,9 +123,9 @@ module _ (plan : Plan) (test : Instruction → Bool) (steers : Steers test) wher
   lay_passes k (save saves e) p inside n to rest h =
       stored_passes k (heads e saves) (lay plan e (with_region saves inside) n to rest) (lay_passes k e p (with_region saves inside) n to rest h)
 
-  pub entering_passes : (entry : Option Entry) → ((x : ℕ) → x < entered_with entry → same_place (plan.place x) (arrived x) ≡ false → test (Copy (plan.place x) (arrived x)) ≡ true)
+  pub entering_passes : (entry : Option Entry) → ((x : ℕ) → x < entered_with entry → same_place (plan.place x) (variable_arrival x) ≡ false → test (Copy (plan.place x) (variable_arrival x)) ≡ true)
       → (rest : List Instruction) → list_all test rest ≡ true → list_all test (entering plan entry rest) ≡ true
-  entering_passes entry f rest = entering_has plan (λ is. list_all test is ≡ true) entry (λ x lt e rest h. spill_passes x (Copy (plan.place x) (arrived x)) (f x lt e) rest h) rest
+  entering_passes entry f rest = entering_has plan (λ is. list_all test is ≡ true) entry (λ x lt e rest h. spill_passes x (Copy (plan.place x) (variable_arrival x)) (f x lt e) rest h) rest
 
 -- a test that does not look at where copies go, nor at a place that is read
 pub record Unplaced (test : Instruction → Bool) : Type 0 where

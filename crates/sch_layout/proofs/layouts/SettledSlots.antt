@@ -3,7 +3,7 @@
 use Rattle.std.proofs.Common.{◌≡◌, ◌<◌, ◌≤◌, ℕ, List, [], ◌∷◌, Option, Some, None, Bool, true, false, refl, ap, arith}
 use Rattle.std.specs.Prelude.{not, ◌&&◌, nat_lt, nat_le, nat_eq}
 use Rattle.std.specs.List.{list_all}
-use Rattle.std.proofs.lemmas.Bool.{and_parts, and_from, ltb-true, lt-ltb, leb-true}
+use Rattle.std.proofs.lemmas.Bool.{and_parts, and_from, ltb-true, lt-ltb, leb-true, false≢true}
 use Rattle.sch_word.specs.declared.place.Place.{Place}
 use Rattle.sch_word.specs.trees.Shape.{max_operands, max_free_variables}
 use Rattle.sch_control.specs.declared.body.Entry.{Entry}
@@ -39,9 +39,6 @@ stand_steers ends = record { if_false = λ l. refl; jump = λ l. refl; label = �
 
 pub stand_unplaced : (ends : Bool) → Unplaced (may_stand ends)
 stand_unplaced ends = record { copies = λ to from. refl; stores = λ to. refl; passes = λ k. refl; variables = λ p. refl }
-
-never : {ends : Bool} → false ≡ true → ends ≡ true
-never h = absurd cc
 
 -- ## Fields
 
@@ -101,15 +98,15 @@ module _ (plan : Plan) (takes : Takes plan) (ends : Bool) where
   -- an expression has the end of a form only where it may end one
   pub parts_stand : (e : Expression) (at : Position) → (ends_form at ≡ true → ends ≡ true) → positioned e at ≡ true → Passes plan (may_stand ends) (stand_steers ends) e
   parts_stand (perform o) at may h = refl
-  parts_stand (bind x a b) at may h = let p = and_parts _ _ h in (refl, (parts_stand a value never p.0, parts_stand b at may p.1))
-  parts_stand (sequence a b) at may h = let p = and_parts _ _ h in (parts_stand a no_call never p.0, parts_stand b at may p.1)
+  parts_stand (bind x a b) at may h = let p = and_parts _ _ h in (refl, (parts_stand a value (λ h. absurd (false≢true h)) p.0, parts_stand b at may p.1))
+  parts_stand (sequence a b) at may h = let p = and_parts _ _ h in (parts_stand a no_call (λ h. absurd (false≢true h)) p.0, parts_stand b at may p.1)
   parts_stand (branch a b c) at may h =
       let p = and_parts _ _ h in
       let q = and_parts _ _ p.1 in
-      (parts_stand a value never p.0, (parts_stand b at may q.0, parts_stand c at may q.1))
+      (parts_stand a value (λ h. absurd (false≢true h)) p.0, (parts_stand b at may q.0, parts_stand c at may q.1))
   parts_stand (fix members e) at may h = (refl, parts_stand e at may h)
-  parts_stand (return e) at may h = parts_stand e no_call never (and_parts _ _ h).1
-  parts_stand (end e) at may h = let p = and_parts _ _ h in (may p.0, parts_stand e value never p.1)
+  parts_stand (return e) at may h = parts_stand e no_call (λ h. absurd (false≢true h)) (and_parts _ _ h).1
+  parts_stand (end e) at may h = let p = and_parts _ _ h in (may p.0, parts_stand e value (λ h. absurd (false≢true h)) p.1)
   parts_stand (call a restores) at may h = (
     moves_pass plan takes (may_stand ends) (stand_steers ends) (stand_unplaced ends) false a
         (all_given plan takes (may_stand ends) (stand_steers ends) (stand_unplaced ends) (λ o. refl) (a.operator ∷ a.operands)),

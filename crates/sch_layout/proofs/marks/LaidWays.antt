@@ -18,7 +18,8 @@ use Rattle.sch_control.specs.declared.operation.Operation.TheVariants as operati
 use Rattle.sch_control.specs.declared.operation.Member.{Member}
 use Rattle.sch_control.specs.AtomsAndSites.{operation_atoms, application_atoms, member_atoms}
 use Rattle.sch_control.specs.Meaning.{heads, no_region, with_region}
-use Rattle.sch_control.specs.Operations.{Procedure, operate}
+use Rattle.sch_control.specs.Operations.{operate}
+use Rattle.sch_word.specs.runs.Procedures.{Procedure}
 use Rattle.sch_control.specs.Tree.{Expression, perform, bind, sequence, branch, fix, call, tail_call, return, end, save}
 use Rattle.sch_control.specs.Valid.{last_position, member_variables, Position, value, no_call, procedure_end, form_end, is_value, ends_procedure, ends_form, positioned}
 use Rattle.sch_frames.specs.declared.instruction.Instruction.{Instruction}
@@ -27,7 +28,8 @@ use Rattle.sch_frames.specs.Meaning.{Frame, Is, beginning, held, sought}
 use Rattle.sch_word.specs.values.Places.{same_place, is_slot}
 use Rattle.sch_word.proofs.facts.Lists.{some_same}
 use Rattle.sch_frames.specs.Ways.{way}
-use Rattle.sch_layout.specs.BodyLayout.{Plan, arrived, arrivals, entering, operation_at, under, spill, move_mark, writing, is_direct, move_into, move_all, carried, stored, loaded, leave, labels, lay}
+use Rattle.sch_layout.specs.BodyLayout.{Plan, arrivals, entering, operation_at, under, spill, move_mark, writing, is_direct, move_into, move_all, carried, stored, loaded, leave, labels, lay}
+use Rattle.sch_control.specs.flow.Places.{variable_arrival}
 use Rattle.sch_layout.specs.Laws.{WaysArePaths}
 use Rattle.sch_layout.specs.Moves.{Move}
 use Rattle.sch_control.specs.flow.Live.{named, AfterValue}
@@ -581,13 +583,13 @@ module _ (plan : Plan) where
       → way (arrivals plan from count rest) None f s marks → Leaving (arrival_marks plan from count) rest marks
   arrivals_done zero from rest f s marks w = (marks, (refl, (f, (s, w))))
   arrivals_done (suc count) from rest f s marks w =
-      let first = one (same_place (plan.place from) (arrived from)) w in
+      let first = one (same_place (plan.place from) (variable_arrival from)) w in
       let second = arrivals_done count (suc from) rest first.1.1.0 first.1.1.1.0 first.0 first.1.1.1.1 in
-      (second.0, (both (cond (same_place (plan.place from) (arrived from)) [] (if_any (spill plan from))) (arrival_marks plan (suc from) count) marks first.0 second.0 first.1.0 second.1.0, second.1.1)) where
-        one : (t : Bool) → way (cond t (arrivals plan (suc from) count rest) (under (spill plan from) (Copy (plan.place from) (arrived from)) (arrivals plan (suc from) count rest))) None f s marks
+      (second.0, (both (cond (same_place (plan.place from) (variable_arrival from)) [] (if_any (spill plan from))) (arrival_marks plan (suc from) count) marks first.0 second.0 first.1.0 second.1.0, second.1.1)) where
+        one : (t : Bool) → way (cond t (arrivals plan (suc from) count rest) (under (spill plan from) (Copy (plan.place from) (variable_arrival from)) (arrivals plan (suc from) count rest))) None f s marks
             → Leaving (cond t [] (if_any (spill plan from))) (arrivals plan (suc from) count rest) marks
         one true w = (marks, (refl, (f, (s, w))))
-        one false w = let on = under_done (spill plan from) (Copy (plan.place from) (arrived from)) (arrivals plan (suc from) count rest) f s marks w in (on.0, (on.1.0, (_, (s, on.1.1))))
+        one false w = let on = under_done (spill plan from) (Copy (plan.place from) (variable_arrival from)) (arrivals plan (suc from) count rest) f s marks w in (on.0, (on.1.0, (_, (s, on.1.1))))
 
   pub entering_done : (entry : Option Entry) (rest : List Instruction) (f : Frame) (s : State Procedure) (marks : List MarkKind)
       → way (entering plan entry rest) None f s marks → Leaving (entry_marks plan entry) rest marks

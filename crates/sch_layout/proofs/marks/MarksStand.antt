@@ -18,7 +18,8 @@ use Rattle.sch_frames.specs.declared.instruction.Instruction.{Instruction}
 use Rattle.sch_frames.specs.declared.instruction.Instruction.TheVariants.{Do, Store, Copy, Pass, Mark}
 use Rattle.sch_word.specs.values.Places.{same_place, is_slot}
 use Rattle.sch_frames.specs.Valid.{in_slots}
-use Rattle.sch_layout.specs.BodyLayout.{Plan, arrived, arrivals, entering, under, spill, members_at, writing, is_direct, move_into, move_all, stored, loaded, leave, labels, lay}
+use Rattle.sch_layout.specs.BodyLayout.{Plan, arrivals, entering, under, spill, members_at, writing, is_direct, move_into, move_all, stored, loaded, leave, labels, lay}
+use Rattle.sch_control.specs.flow.Places.{variable_arrival}
 use Rattle.sch_layout.specs.Laws.{EntersSlots, LaidMarksStand}
 use Rattle.sch_layout.specs.Moves.{Move}
 use Rattle.sch_layout.specs.SharedPlaces.{entered_with}
@@ -136,14 +137,14 @@ module _ (plan : Plan) (saved : (x : ℕ) → is_slot (plan.place x) ≡ false �
   entering_stands (Some e) go rest h = by (suc e.formals) 1 (omega arith) where
     by : (count from : ℕ) → from + count ≤ 2 + e.formals → Stand (arrivals plan from count rest)
     by zero from le = h
-    by (suc count) from le = one (same_place (plan.place from) (arrived from)) refl (by count (suc from) (omega (arith, le))) where
-      stands : (t : Bool) → is_slot (plan.place from) ≡ t → (is_slot (plan.place from) ≡ true → is_slot (arrived from) ≡ false)
-          → Stand (arrivals plan (suc from) count rest) → Stand (under (cond t (Some (mark.Spill from)) None) (Copy (plan.place from) (arrived from)) (arrivals plan (suc from) count rest))
+    by (suc count) from le = one (same_place (plan.place from) (variable_arrival from)) refl (by count (suc from) (omega (arith, le))) where
+      stands : (t : Bool) → is_slot (plan.place from) ≡ t → (is_slot (plan.place from) ≡ true → is_slot (variable_arrival from) ≡ false)
+          → Stand (arrivals plan (suc from) count rest) → Stand (under (cond t (Some (mark.Spill from)) None) (Copy (plan.place from) (variable_arrival from)) (arrivals plan (suc from) count rest))
       stands true i a more = and_from _ _ (and_from _ _ i (ap not (a i))) more
       stands false i a more = and_from _ _ (and_from _ _ (ap not i) refl) more
 
-      one : (t : Bool) → same_place (plan.place from) (arrived from) ≡ t → Stand (arrivals plan (suc from) count rest)
-          → Stand (cond t (arrivals plan (suc from) count rest) (under (spill plan from) (Copy (plan.place from) (arrived from)) (arrivals plan (suc from) count rest)))
+      one : (t : Bool) → same_place (plan.place from) (variable_arrival from) ≡ t → Stand (arrivals plan (suc from) count rest)
+          → Stand (cond t (arrivals plan (suc from) count rest) (under (spill plan from) (Copy (plan.place from) (variable_arrival from)) (arrivals plan (suc from) count rest)))
       one true i more = more
       one false i more = stands (is_slot (plan.place from)) refl (go from (omega (arith, le)) i) more
 

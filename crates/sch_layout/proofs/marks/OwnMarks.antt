@@ -11,7 +11,8 @@ use Rattle.sch_control.specs.declared.operation.Atom.TheVariants.{Constant, Lite
 use Rattle.sch_control.specs.declared.operation.Operand.{Operand}
 use Rattle.sch_control.specs.declared.operation.Operand.TheVariants as operand
 use Rattle.sch_word.specs.values.Places.{same_place, is_slot}
-use Rattle.sch_layout.specs.BodyLayout.{Plan, arrived, move_mark, spill}
+use Rattle.sch_layout.specs.BodyLayout.{Plan, move_mark, spill}
+use Rattle.sch_control.specs.flow.Places.{variable_arrival}
 use Rattle.sch_layout.specs.Moves.{Move}
 use Rattle.sch_word.specs.runs.Activations.{is_call}
 use Rattle.sch_layout.specs.OwnMarks.{has_call, SavesThenCalls, RestoresAfterCalls, OwnMarksStand}
@@ -169,7 +170,7 @@ module _ (plan : Plan) where
 
   arrivals_quiet : (count from : ℕ) → Quiet (arrival_marks plan from count)
   arrivals_quiet zero from = refl
-  arrivals_quiet (suc count) from = quiet_both (cond (same_place (plan.place from) (arrived from)) [] (if_any (spill plan from))) _ (by (same_place (plan.place from) (arrived from))) (arrivals_quiet count (suc from)) where
+  arrivals_quiet (suc count) from = quiet_both (cond (same_place (plan.place from) (variable_arrival from)) [] (if_any (spill plan from))) _ (by (same_place (plan.place from) (variable_arrival from))) (arrivals_quiet count (suc from)) where
     by : (t : Bool) → Quiet (cond t [] (if_any (spill plan from)))
     by true = refl
     by false = spill_quiet from

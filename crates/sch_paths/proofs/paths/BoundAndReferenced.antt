@@ -12,7 +12,8 @@ use Rattle.sch_control.specs.flow.Live.{named, Live, Later}
 use Rattle.sch_control.specs.flow.Paths.{Event, Binds, References, Saves, Calls, Tails, Returns, Ends, binding, grouping, IsPath, Act, Yes, No, On, decided, Meets, MayMeet, live, refers}
 use Rattle.sch_control.proofs.VariableLists.{among_is}
 use Rattle.sch_paths.proofs.paths.LiveByPaths.{itself, live_is}
-use Rattle.sch_paths.proofs.saves.LiveInScope.{Readable, Unbound, binds_is, live_scope}
+use Rattle.sch_paths.proofs.saves.LiveInScope.{Unbound, binds_is, live_scope}
+use Rattle.sch_paths.specs.Laws.{Readable}
 
 -- the events bind the variable
 abbrev pub bound_by : ℕ → List Event → Bool

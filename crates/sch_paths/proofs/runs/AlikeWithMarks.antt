@@ -15,7 +15,8 @@ use Rattle.sch_word.proofs.Lengths.{procedures_length}
 use Rattle.sch_control.specs.declared.operation.Member.{Member}
 use Rattle.sch_control.specs.AtomsAndSites.{member_atoms}
 use Rattle.sch_control.specs.Meaning.{World, Result, Environment, Then, Callee, Reading, plain, marked, marked_each, with_value, on_outcome, on_ending, on_return, on_checked, either, put, put_if, put_each, put_inside, after_call, binds, heads, no_region, nothing, with_region, save_each, mark_each, mark_bound, entered, call_in, falls_off, evaluate, do_body}
-use Rattle.sch_control.specs.Operations.{Procedure, Ending, part_values, operate, member_bytes, with_procedures}
+use Rattle.sch_control.specs.Operations.{Ending, part_values, operate, member_bytes, with_procedures}
+use Rattle.sch_word.specs.runs.Procedures.{Procedure}
 use Rattle.sch_control.specs.Tree.{Expression, perform, bind, sequence, branch, fix, call, tail_call, return, end, save}
 use Rattle.sch_control.specs.Valid.{member_variables}
 use Rattle.sch_control.specs.flow.Live.{Mentions, Across, MayGive, Live, Soon, Later, nothing_later}
@@ -24,7 +25,8 @@ use Rattle.sch_control.proofs.Results.{perhaps}
 use Rattle.sch_control.proofs.MarksAlone.{moves_state, each_state, bound_state, members_state}
 use Rattle.sch_control.proofs.VariableLists.{heads_has}
 use Rattle.sch_paths.specs.Conditions.{Saved, Restored, Fresh, Alike, CalleesAlike}
-use Rattle.sch_paths.proofs.runs.SameOperands.{parts_same, members_same, operate_same, after_value}
+use Rattle.sch_paths.proofs.runs.SameOperands.{parts_same, members_same, operate_same}
+use Rattle.sch_control.proofs.Environments.{after_value}
 
 -- ## Results that are alike
 

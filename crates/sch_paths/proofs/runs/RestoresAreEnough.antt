@@ -13,12 +13,13 @@ use Rattle.sch_control.specs.flow.Bare.{erased, unlisted}
 use Rattle.sch_control.specs.flow.Middle.{silent}
 use Rattle.sch_paths.specs.Conditions.{Saved, Fresh, Alike, CalleesAlike}
 use Rattle.sch_control.specs.flow.LiveSets.{LiveSets}
-use Rattle.sch_control.proofs.VariableLists.{each_passes}
+use Rattle.sch_word.proofs.facts.NumberSets.{each_passes}
 use Rattle.sch_paths.specs.Exact.{LazySaves, RestoresBetween}
 use Rattle.sch_paths.proofs.runs.AlikeWithMarks.{enough}
 use Rattle.sch_paths.proofs.saves.SavedAndRestored.{lazy_saved, all_restored}
 use Rattle.sch_paths.proofs.runs.SameWithoutMarks.{silently}
-use Rattle.sch_paths.proofs.saves.LiveInScope.{Readable, Unbound, fresh_body}
+use Rattle.sch_paths.proofs.saves.LiveInScope.{Unbound, fresh_body}
+use Rattle.sch_paths.specs.Laws.{Readable}
 use Rattle.sch_paths.proofs.paths.UnlistedTrees.{saved_alike}
 
 -- ## Valid bodies

@@ -1,11 +1,11 @@
 -- Operations that read the same values do the same.
-use Rattle.std.proofs.Common.{◌≡◌, ℕ, List, [], ◌∷◌, ◌++◌, Option, Some, Bool, true, false, refl, ap, sym, subst}
+use Rattle.std.proofs.Common.{◌≡◌, ℕ, List, [], ◌∷◌, ◌++◌, Option, Bool, true, false, refl, ap}
 use Rattle.std.specs.Prelude.{nat_eq, ◌||◌}
 use Rattle.std.proofs.lemmas.Bool.{eq-eqb}
 use Rattle.sch_word.specs.trees.NumberSets.{has}
-use Rattle.sch_word.specs.values.Values.{Value, is_true}
+use Rattle.sch_word.specs.values.Values.{Value}
 use Rattle.sch_word.specs.runs.Store.{Store}
-use Rattle.sch_word.specs.runs.Computation.{State, gives}
+use Rattle.sch_word.specs.runs.Computation.{State}
 use Rattle.sch_word.proofs.facts.Booleans.{or_left, or_right}
 use Rattle.sch_control.specs.declared.operation.Atom.{Atom}
 use Rattle.sch_control.specs.declared.operation.Atom.TheVariants.{Constant, Literal, Variable}
@@ -17,11 +17,10 @@ use Rattle.sch_control.specs.declared.operation.Member.{Member}
 use Rattle.sch_control.specs.declared.operation.Operation.{Operation}
 use Rattle.sch_control.specs.declared.operation.Operation.TheVariants as operation
 use Rattle.sch_control.specs.declared.operation.Application.{Application}
-use Rattle.sch_control.specs.Operations.{Procedure, read, atom_value, atom_values, operand_value, operand_values, part_values, field, source_value, source_values, operate, members_made}
+use Rattle.sch_control.specs.Operations.{read, atom_value, atom_values, operand_value, operand_values, part_values, field, source_value, source_values, operate, members_made}
+use Rattle.sch_word.specs.runs.Procedures.{Procedure}
 use Rattle.sch_control.specs.AtomsAndSites.{operand_atoms, operands_atoms, source_atom, source_atoms, operation_atoms, application_atoms, member_atoms}
-use Rattle.sch_control.specs.flow.Live.{named, Mentions, AfterValue}
-use Rattle.sch_control.proofs.Results.{perhaps}
-use Rattle.sch_control.proofs.Environments.{value_given}
+use Rattle.sch_control.specs.flow.Live.{named, Mentions}
 
 -- ## Atoms that are mentioned
 
@@ -125,22 +124,3 @@ module _ (at at' : ℕ → Option Value) where
   operate_same (operation.CellSet c o) s h =
       rw (source_same s c (same_one (source_atom c) (operand_atoms o) h), operand_same s.store o (same_more (source_atom c) (operand_atoms o) h)) refl
   operate_same (operation.MakeClosure c) s h = rw (sources_same s c.fields h) refl
-
--- ## What a value is known to be
-
--- what holds by the value that an operation gives
-pub after_value : (at : ℕ → Option Value) (o : Operation ℕ) (s s' : State Procedure) (v : Value) → operate at o s ≡ Some (gives v s')
-    → (P : Bool → Type 0) → P (is_true v) → AfterValue o P
-after_value at (operation.Operand (operand.Atom (Constant c))) s s' v e P p = subst (λ u. P (is_true u)) (sym (ap value_given e)) p
-after_value at (operation.Operand (operand.Atom (Literal n))) s s' v e P p = perhaps P (is_true v) p
-after_value at (operation.Operand (operand.Atom (Variable y))) s s' v e P p = perhaps P (is_true v) p
-after_value at (operation.Operand (operand.Read site which atoms)) s s' v e P p = perhaps P (is_true v) p
-after_value at (operation.Prim site which operands) s s' v e P p = perhaps P (is_true v) p
-after_value at (operation.Global g) s s' v e P p = perhaps P (is_true v) p
-after_value at (operation.SetGlobal g o) s s' v e P p = perhaps P (is_true v) p
-after_value at (operation.Field y k) s s' v e P p = perhaps P (is_true v) p
-after_value at (operation.NewCell c) s s' v e P p = perhaps P (is_true v) p
-after_value at operation.UnsetCell s s' v e P p = perhaps P (is_true v) p
-after_value at (operation.CellGet c) s s' v e P p = perhaps P (is_true v) p
-after_value at (operation.CellSet c o) s s' v e P p = perhaps P (is_true v) p
-after_value at (operation.MakeClosure c) s s' v e P p = perhaps P (is_true v) p

@@ -12,7 +12,8 @@ use Rattle.sch_word.proofs.Lengths.{procedures_length}
 use Rattle.sch_control.specs.declared.operation.Member.{Member}
 use Rattle.sch_control.specs.AtomsAndSites.{member_atoms}
 use Rattle.sch_control.specs.Meaning.{World, Result, Environment, Then, Callee, plain, marked, marked_if, with_value, on_outcome, on_ending, on_return, either, put, put_if, put_each, put_inside, after_call, heads, no_region, nothing, with_region, save_each, mark_each, mark_bound, mark_members, call_in, falls_off, evaluate, do_body}
-use Rattle.sch_control.specs.Operations.{Procedure, Ending, part_values, operate, member_bytes, with_procedures}
+use Rattle.sch_control.specs.Operations.{Ending, part_values, operate, member_bytes, with_procedures}
+use Rattle.sch_word.specs.runs.Procedures.{Procedure}
 use Rattle.sch_control.specs.Tree.{Expression, perform, bind, sequence, branch, fix, call, tail_call, return, end, save}
 use Rattle.sch_control.specs.flow.Live.{Mentions, Across, MayGive, Live, Soon, Later, nothing_later}
 use Rattle.sch_control.specs.flow.Bare.{erased, unlisted}
@@ -20,7 +21,8 @@ use Rattle.sch_paths.proofs.paths.UnlistedPaths.{heads_unlisted}
 use Rattle.sch_control.specs.flow.Middle.{silent}
 use Rattle.sch_control.proofs.Results.{perhaps}
 use Rattle.sch_paths.specs.Conditions.{Saved, Restored, Fresh}
-use Rattle.sch_paths.proofs.runs.SameOperands.{parts_same, members_same, operate_same, after_value}
+use Rattle.sch_paths.proofs.runs.SameOperands.{parts_same, members_same, operate_same}
+use Rattle.sch_control.proofs.Environments.{after_value}
 use Rattle.sch_paths.proofs.runs.AlikeWithMarks.{Holds, weaker, found, after_bound, after_group, called, at_head}
 
 -- ## Results that are the same

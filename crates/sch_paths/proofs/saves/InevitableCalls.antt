@@ -5,7 +5,7 @@ use Rattle.std.specs.Bool.{MatchBool}
 use Rattle.std.proofs.lemmas.Bool.{eqb-true, eqb-false, eq-eqb, ne_eqb}
 use Rattle.sch_word.specs.trees.NumberSets.{has, without_repeats}
 use Rattle.sch_word.proofs.facts.Booleans.{and_left, and_right, or_left, or_right, neither, not_left, not_right, not_true, never_true}
-use Rattle.sch_word.proofs.facts.NumberSets.{has_append}
+use Rattle.sch_word.proofs.facts.NumberSets.{has_append, distinct_left, distinct_right}
 use Rattle.sch_control.specs.declared.operation.Member.{Member}
 use Rattle.sch_control.specs.AtomsAndSites.{operation_atoms, application_atoms, member_atoms}
 use Rattle.sch_control.specs.Meaning.{binds, heads, with_region, no_region}
@@ -20,7 +20,8 @@ use Rattle.sch_paths.specs.Regions.{regions_stand}
 use Rattle.sch_paths.proofs.saves.SavedAndRestored.{in_first, in_second}
 use Rattle.sch_paths.proofs.saves.LiveHeads.{call_behind, head_is, NeedsRound, no_round}
 use Rattle.sch_paths.proofs.saves.TwoSets.{EveryPathCalls, needs_is, references_call, binding_calls, grouping_calls, saves_call, no_calls}
-use Rattle.sch_paths.proofs.saves.LiveInScope.{Readable, Unbound, live_scope, outer_scope, more_scope, one_more, binds_is, repeats_left, repeats_right, repeats_apart}
+use Rattle.sch_paths.proofs.saves.LiveInScope.{Unbound, live_scope, outer_scope, more_scope, one_more, binds_is, repeats_apart}
+use Rattle.sch_paths.specs.Laws.{Readable}
 
 -- ## What is not in scope is live after no call
 
@@ -159,7 +160,7 @@ followed inside (bind y a b) here s scope i r u Met L sets f arms n es t path re
     call_behind x (mid ++ behind) mid behind refl (binding_calls x inside y)
     (call_behind x (es ++ rest) path.0 (mid ++ behind) row (none_listed x inside a scope in_a b_is out Met _ sets.0 dead path.0 path.2 path.3) c) in
     subst SavesFollowed (sym row)
-    (followed inside a false (and_left (regions_stand false a) _ s) scope in_a (repeats_left (bound_in a) (bound_in b) once)
+    (followed inside a false (and_left (regions_stand false a) _ s) scope in_a (distinct_left (bound_in a) (bound_in b) once)
     (λ x m. u x (or_right (nat_eq x y) _ (has_append x (bound_in a) (bound_in b) ∙ or_left (has x (bound_in a)) _ m)))
     Met _ sets.0
     (λ x t w. elim (live_scope b (with_variable y scope) in_b x (L x) (λ t l. elim (f x t l) [ inl e ↦ inl e | inr v ↦ inr (or_right (nat_eq x y) _ v) ]) w.1) [
@@ -171,7 +172,7 @@ followed inside (bind y a b) here s scope i r u Met L sets f arms n es t path re
     (binding_followed inside y behind
     (λ in_it. past y (binds_is y a ∙ not_left (has y (bound_in a)) _ y_not) (u y (or_left (nat_eq y y) _ (eq-eqb y y refl))) (λ t w. w.0 refl)
     (h y in_it (or_left (nat_eq y y) _ (eq-eqb y y refl))))
-    (followed inside b false (and_right (regions_stand false a) _ s) (with_variable y scope) in_b (repeats_right (bound_in a) (bound_in b) once)
+    (followed inside b false (and_right (regions_stand false a) _ s) (with_variable y scope) in_b (distinct_right (bound_in a) (bound_in b) once)
     not_in_b Met L sets.1 (λ x t l. elim (f x t l) [ inl e ↦ inl e | inr v ↦ inr (or_right (nat_eq x y) _ v) ])
     arms.1 (no_round b (and_right (regions_stand false a) _ s)) path.1 t path.4 rest
     (λ x in_it m. past x (binds_is x a ∙ never_true (has x (bound_in a)) (λ k. repeats_apart (bound_in a) (bound_in b) once x k m)) (u x (in_bound x m))
@@ -185,11 +186,11 @@ followed inside (sequence a b) here s scope i r u Met L sets f arms n es t path 
     = λ x m. has_append x (bound_in a) (bound_in b) ∙ or_right (has x (bound_in a)) _ m in
     let row : es ++ rest ≡ path.0 ++ (path.1 ++ rest) = ap (λ l. l ++ rest) path.5 ∙ append_assoc path.0 path.1 rest in
     subst SavesFollowed (sym row)
-    (followed inside a false (and_left (regions_stand false a) _ s) scope in_a (repeats_left (bound_in a) (bound_in b) r)
+    (followed inside a false (and_left (regions_stand false a) _ s) scope in_a (distinct_left (bound_in a) (bound_in b) r)
     (λ x m. u x (has_append x (bound_in a) (bound_in b) ∙ or_left (has x (bound_in a)) _ m))
     Met _ sets.0 (λ x t. live_scope b scope in_b x (L x) (f x)) arms.0 (no_round a (and_left (regions_stand false a) _ s)) path.0 path.2 path.3 (path.1 ++ rest)
     (λ x in_it m. sym (ap (calls x) row) ∙ h x in_it (has_append x (bound_in a) (bound_in b) ∙ or_left (has x (bound_in a)) _ m))
-    (followed inside b false (and_right (regions_stand false a) _ s) scope in_b (repeats_right (bound_in a) (bound_in b) r) (λ x m. u x (in_bound x m))
+    (followed inside b false (and_right (regions_stand false a) _ s) scope in_b (distinct_right (bound_in a) (bound_in b) r) (λ x m. u x (in_bound x m))
     Met L sets.1 f arms.1 (no_round b (and_right (regions_stand false a) _ s)) path.1 t path.4 rest
     (λ x in_it m. call_behind x (es ++ rest) path.0 (path.1 ++ rest) row
     (none_listed x inside a scope in_a (binds_is x a ∙ never_true (has x (bound_in a)) (λ k. repeats_apart (bound_in a) (bound_in b) r x k m)) (u x (in_bound x m)) Met _ sets.0
@@ -202,7 +203,7 @@ followed inside (branch a b c) here s scope i r u Met L sets f arms n es t path 
     let in_b = and_left (in_scope b scope) _ in_arms in
     let in_c = and_right (in_scope b scope) _ in_arms in
     let more = and_right (regions_stand false a) _ s in
-    let twice = repeats_right (bound_in a) (bound_in b ++ bound_in c) r in
+    let twice = distinct_right (bound_in a) (bound_in b ++ bound_in c) r in
     let in_bound : (x : ℕ) → has x (bound_in b ++ bound_in c) ≡ true → has x (bound_in (branch a b c)) ≡ true
     = λ x m. has_append x (bound_in a) (bound_in b ++ bound_in c) ∙ or_right (has x (bound_in a)) _ m in
     let left : (x : ℕ) → has x (bound_in b) ≡ true → has x (bound_in b ++ bound_in c) ≡ true = λ x m. has_append x (bound_in b) (bound_in c) ∙ or_left (has x (bound_in b)) _ m in
@@ -218,7 +219,7 @@ followed inside (branch a b c) here s scope i r u Met L sets f arms n es t path 
       | false ↦ not_live c scope in_c x out (L x) (λ t l. out (f x t l))
     ]) path.0 path.2 path.3) k in
     subst SavesFollowed (sym row)
-    (followed inside a false (and_left (regions_stand false a) _ s) scope in_a (repeats_left (bound_in a) (bound_in b ++ bound_in c) r)
+    (followed inside a false (and_left (regions_stand false a) _ s) scope in_a (distinct_left (bound_in a) (bound_in b ++ bound_in c) r)
     (λ x m. u x (has_append x (bound_in a) (bound_in b ++ bound_in c) ∙ or_left (has x (bound_in a)) _ m))
     Met _ sets.0
     (λ x t. elim t as (λ t. MatchBool t (Live x b (L x)) (Live x c (L x)) → Readable scope x) [
@@ -229,10 +230,10 @@ followed inside (branch a b c) here s scope i r u Met L sets f arms n es t path 
     (λ x in_it m. sym (ap (calls x) row) ∙ h x in_it (has_append x (bound_in a) (bound_in b ++ bound_in c) ∙ or_left (has x (bound_in a)) _ m))
     (elim path.2 as (λ w. MatchBool w (IsPath inside b path.1 t) (IsPath inside c path.1 t) → SavesFollowed (path.1 ++ rest)) [
       | true ↦ λ at.
-          followed inside b true (and_left (regions_stand true b) _ more) scope in_b (repeats_left (bound_in b) (bound_in c) twice) (λ x m. u x (in_bound x (left x m)))
+          followed inside b true (and_left (regions_stand true b) _ more) scope in_b (distinct_left (bound_in b) (bound_in c) twice) (λ x m. u x (in_bound x (left x m)))
           _ L sets.1.0 f arms.1.0.1 (λ x m. ((arms.1.0.0 x).0 m).0) path.1 t at rest (λ x in_it m. past x (left x m) (h x in_it (in_bound x (left x m)))) g
       | false ↦ λ at.
-          followed inside c true (and_right (regions_stand true b) _ more) scope in_c (repeats_right (bound_in b) (bound_in c) twice) (λ x m. u x (in_bound x (right x m)))
+          followed inside c true (and_right (regions_stand true b) _ more) scope in_c (distinct_right (bound_in b) (bound_in c) twice) (λ x m. u x (in_bound x (right x m)))
           _ L sets.1.1 f arms.1.1.1 (λ x m. ((arms.1.1.0 x).0 m).0) path.1 t at rest (λ x in_it m. past x (right x m) (h x in_it (in_bound x (right x m)))) g
     ] path.4))
 followed inside (fix members e) here s scope i r u Met L sets f arms n es t path rest h g =
@@ -244,7 +245,7 @@ followed inside (fix members e) here s scope i r u Met L sets f arms n es t path
     = λ x c. call_behind x (es ++ rest) (grouping inside members) (path.0 ++ rest) row (grouping_calls x inside members) c in
     subst SavesFollowed (sym row)
     (grouping_followed inside members (path.0 ++ rest) (λ x in_it m. past x (h x in_it (has_append x ys (bound_in e) ∙ or_left (has x ys) _ m)))
-    (followed inside e false s (with_members members scope) in_e (repeats_right ys (bound_in e) r)
+    (followed inside e false s (with_members members scope) in_e (distinct_right ys (bound_in e) r)
     (λ x m w. u x (in_bound x m) (elim w [
       | inl z ↦ inl z
       | inr v ↦ inr (sym (outer_scope members scope x (never_true (has x ys) (λ k. repeats_apart ys (bound_in e) r x k m))) ∙ v)

@@ -17,7 +17,8 @@ use Rattle.sch_control.specs.flow.Bare.{erased}
 use Rattle.sch_control.specs.flow.Live.{Live, Later, nothing_later}
 use Rattle.sch_control.specs.flow.LiveSets.{LiveSets, HasLiveSets}
 use Rattle.sch_paths.proofs.runs.RestoresAreEnough.{scope_erased, bound_erased}
-use Rattle.sch_paths.proofs.saves.LiveInScope.{Readable, live_scope, more_scope}
+use Rattle.sch_paths.proofs.saves.LiveInScope.{live_scope, more_scope}
+use Rattle.sch_paths.specs.Laws.{Readable}
 
 abbrev pub ListsBelow : ℕ → Expression → Type 0
 ListsBelow n (bind y a b) = ListsBelow n a × ListsBelow n b

@@ -1,11 +1,12 @@
 -- What is live is in scope, so what is bound inside a region is not live before it.
-use Rattle.std.proofs.Common.{◌≡◌, ℕ, Bool, true, false, List, [], ◌∷◌, ◌++◌, refl, ap, sym, ◌∙◌, inl, inr, ◌⊎◌}
-use Rattle.std.specs.Prelude.{nat_eq, ◌||◌, ◌&&◌, not}
+use Rattle.std.proofs.Common.{◌≡◌, ℕ, Bool, true, false, List, [], ◌∷◌, ◌++◌, refl, ap, sym, ◌∙◌, inl, inr}
+use Rattle.std.specs.Prelude.{nat_eq, ◌||◌, not}
 use Rattle.std.specs.Bool.{MatchBool}
 use Rattle.std.proofs.lemmas.Bool.{eqb-true, ne_eqb}
+use Rattle.sch_paths.specs.Laws.{Readable}
 use Rattle.sch_word.specs.trees.NumberSets.{has, without_repeats}
 use Rattle.sch_word.proofs.facts.Booleans.{and_left, and_right, or_left, or_right, not_left, not_right, false_true, not_true, never_true}
-use Rattle.sch_word.proofs.facts.NumberSets.{has_append}
+use Rattle.sch_word.proofs.facts.NumberSets.{has_append, distinct_left, distinct_right}
 use Rattle.sch_control.specs.declared.operation.Atom.{Atom}
 use Rattle.sch_control.specs.declared.operation.Atom.TheVariants.{Constant, Literal, Variable}
 use Rattle.sch_control.specs.declared.operation.Member.{Member}
@@ -19,10 +20,6 @@ use Rattle.sch_control.proofs.VariableLists.{among_is}
 use Rattle.sch_paths.specs.Conditions.{Fresh}
 
 -- ## What is live is in scope
-
--- a variable that may be read: where to return, or one that is in scope
-abbrev pub Readable : (ℕ → Bool) → ℕ → Type 0
-Readable scope x = (x ≡ 0) ⊎ (scope x ≡ true)
 
 pub mentioned : (scope : ℕ → Bool) (atoms : List (Atom ℕ)) → in_scope_atoms scope atoms ≡ true → (x : ℕ) → Mentions x atoms → scope x ≡ true
 mentioned scope [] i x m = absurd (cc)
@@ -94,20 +91,6 @@ binds_is x (end e) = binds_is x e
 binds_is x (save saves e) = binds_is x e
 
 -- none of two lists is in the other
-pub repeats_left : (xs ys : List ℕ) → without_repeats (xs ++ ys) ≡ true → without_repeats xs ≡ true
-repeats_left [] ys h = refl
-repeats_left (x ∷ xs) ys h = by (has x xs) (has x (xs ++ ys)) (has_append x xs ys) h (repeats_left xs ys) where
-  by : (t u : Bool) → u ≡ (t || has x ys) → (not u && without_repeats (xs ++ ys)) ≡ true → (without_repeats (xs ++ ys) ≡ true → without_repeats xs ≡ true)
-      → (not t && without_repeats xs) ≡ true
-  by true true e h f = absurd (cc)
-  by true false e h f = absurd (cc)
-  by false true e h f = absurd (cc)
-  by false false e h f = f h
-
-pub repeats_right : (xs ys : List ℕ) → without_repeats (xs ++ ys) ≡ true → without_repeats ys ≡ true
-repeats_right [] ys h = h
-repeats_right (x ∷ xs) ys h = repeats_right xs ys (and_right (not (has x (xs ++ ys))) _ h)
-
 pub repeats_apart : (xs ys : List ℕ) → without_repeats (xs ++ ys) ≡ true → (x : ℕ) → has x xs ≡ true → has x ys ≡ true → ⊥
 repeats_apart [] ys h x p q = absurd (cc)
 repeats_apart (y ∷ xs) ys h x p q = by (nat_eq x y) refl (repeats_apart xs ys (and_right (not (has y (xs ++ ys))) _ h) x) p where
@@ -144,45 +127,45 @@ fresh (bind y a b) scope i r u L f =
     let once = and_right (not (has y (bound_in a ++ bound_in b))) _ r in
     let not_y : has y (bound_in a ++ bound_in b) ≡ false = not_true (has y (bound_in a ++ bound_in b)) (and_left (not (has y (bound_in a ++ bound_in b))) _ r) in
     let behind : (x : ℕ) (t : Bool) → L x t → Readable (with_variable y scope) x = λ x t l. elim (f x t l) [ inl e ↦ inl e | inr s ↦ inr (or_right (nat_eq x y) _ s) ] in (
-      fresh a scope in_a (repeats_left (bound_in a) (bound_in b) once)
+      fresh a scope in_a (distinct_left (bound_in a) (bound_in b) once)
           (λ x h. u x (or_right (nat_eq x y) _ (has_append x (bound_in a) (bound_in b) ∙ or_left (has x (bound_in a)) _ h)))
           _ (λ x t w. elim (live_scope b (with_variable y scope) in_b x (L x) (behind x) w.1) [
             | inl e ↦ inl e
             | inr s ↦ inr (sym (ap (λ t. t || scope x) (ne_eqb x y w.0)) ∙ s)
           ]),
-      fresh b (with_variable y scope) in_b (repeats_right (bound_in a) (bound_in b) once)
+      fresh b (with_variable y scope) in_b (distinct_right (bound_in a) (bound_in b) once)
           (λ x h. one_more scope y x (bound_in b) h (not_right (has y (bound_in a)) _ (sym (has_append y (bound_in a) (bound_in b)) ∙ not_y))
           (u x (or_right (nat_eq x y) _ (has_append x (bound_in a) (bound_in b) ∙ or_right (has x (bound_in a)) _ h)))) L behind,
     )
 fresh (sequence a b) scope i r u L f = (
-  fresh a scope (and_left (in_scope a scope) _ i) (repeats_left (bound_in a) (bound_in b) r)
+  fresh a scope (and_left (in_scope a scope) _ i) (distinct_left (bound_in a) (bound_in b) r)
       (λ x h. u x (has_append x (bound_in a) (bound_in b) ∙ or_left (has x (bound_in a)) _ h)) _
       (λ x t. live_scope b scope (and_right (in_scope a scope) _ i) x (L x) (f x)),
-  fresh b scope (and_right (in_scope a scope) _ i) (repeats_right (bound_in a) (bound_in b) r)
+  fresh b scope (and_right (in_scope a scope) _ i) (distinct_right (bound_in a) (bound_in b) r)
       (λ x h. u x (has_append x (bound_in a) (bound_in b) ∙ or_right (has x (bound_in a)) _ h)) L f,
 )
 fresh (branch a b c) scope i r u L f =
     let rest = and_right (in_scope a scope) _ i in
-    let more = repeats_right (bound_in a) (bound_in b ++ bound_in c) r in
+    let more = distinct_right (bound_in a) (bound_in b ++ bound_in c) r in
     let later : (x : ℕ) → has x (bound_in b ++ bound_in c) ≡ true → has x (bound_in (branch a b c)) ≡ true
     = λ x h. has_append x (bound_in a) (bound_in b ++ bound_in c) ∙ or_right (has x (bound_in a)) _ h in (
-      fresh a scope (and_left (in_scope a scope) _ i) (repeats_left (bound_in a) (bound_in b ++ bound_in c) r)
+      fresh a scope (and_left (in_scope a scope) _ i) (distinct_left (bound_in a) (bound_in b ++ bound_in c) r)
           (λ x h. u x (has_append x (bound_in a) (bound_in b ++ bound_in c) ∙ or_left (has x (bound_in a)) _ h)) _
           (λ x t. elim t as (λ t. MatchBool t (Live x b (L x)) (Live x c (L x)) → Readable scope x) [
             | true ↦ live_scope b scope (and_left (in_scope b scope) _ rest) x (L x) (f x)
             | false ↦ live_scope c scope (and_right (in_scope b scope) _ rest) x (L x) (f x)
           ]),
       (
-        fresh b scope (and_left (in_scope b scope) _ rest) (repeats_left (bound_in b) (bound_in c) more)
+        fresh b scope (and_left (in_scope b scope) _ rest) (distinct_left (bound_in b) (bound_in c) more)
             (λ x h. u x (later x (has_append x (bound_in b) (bound_in c) ∙ or_left (has x (bound_in b)) _ h))) L f,
-        fresh c scope (and_right (in_scope b scope) _ rest) (repeats_right (bound_in b) (bound_in c) more)
+        fresh c scope (and_right (in_scope b scope) _ rest) (distinct_right (bound_in b) (bound_in c) more)
             (λ x h. u x (later x (has_append x (bound_in b) (bound_in c) ∙ or_right (has x (bound_in b)) _ h))) L f,
       ),
     )
 fresh (fix members e) scope i r u L f =
     let ys : List ℕ = member_variables members in
     let apart : (x : ℕ) → has x (bound_in e) ≡ true → has x ys ≡ false = λ x h. never_true (has x ys) (λ m. repeats_apart ys (bound_in e) r x m h) in
-    fresh e (with_members members scope) (and_right (in_scope_atoms (with_members members scope) (member_atoms members)) _ i) (repeats_right ys (bound_in e) r)
+    fresh e (with_members members scope) (and_right (in_scope_atoms (with_members members scope) (member_atoms members)) _ i) (distinct_right ys (bound_in e) r)
     (λ x h w. u x (has_append x ys (bound_in e) ∙ or_right (has x ys) _ h) (elim w [
       | inl z ↦ inl z
       | inr s ↦ inr (sym (outer_scope members scope x (apart x h)) ∙ s)

@@ -1,8 +1,8 @@
 -- The two sets of an expression are what its paths need.
-use Rattle.std.proofs.Common.{◌≡◌, ℕ, Bool, true, false, List, [], ◌∷◌, ◌++◌, Option, Some, None, refl, ap, sym, ◌∙◌, inl, inr, ◌⊎◌, map}
+use Rattle.std.proofs.Common.{◌≡◌, ℕ, Bool, true, false, List, [], ◌∷◌, ◌++◌, Option, Some, None, refl, ap, sym, ◌∙◌, inl, inr, map}
 use Rattle.std.specs.Prelude.{◌↔◌, filter, ◌||◌, ◌&&◌}
 use Rattle.std.specs.Bool.{MatchBool}
-use Rattle.std.proofs.lemmas.Bool.{or_cases}
+use Rattle.std.proofs.lemmas.Bool.{or_cases, and_cases}
 use Rattle.sch_word.specs.trees.NumberSets.{has}
 use Rattle.sch_word.proofs.facts.Booleans.{and_left, and_right, or_left, neither, not_left, not_right}
 use Rattle.sch_control.specs.AtomsAndSites.{operation_atoms, application_atoms, member_atoms}
@@ -17,16 +17,12 @@ use Rattle.sch_paths.proofs.saves.SavedAndRestored.{calls_append, in_first, in_s
 
 -- ## Booleans
 
-one_false : (a b : Bool) → (a && b) ≡ false → (a ≡ false) ⊎ (b ≡ false)
-one_false true b h = inr h
-one_false false b h = inl refl
-
 by_both : (f : Bool → Bool) (t : Bool) → (f true && f false) ≡ true → f t ≡ true
 by_both f true h = and_left (f true) _ h
 by_both f false h = and_right (f true) _ h
 
 one_lacks : (f : Bool → Bool) → (f true && f false) ≡ false → (t : Bool) × (f t ≡ false)
-one_lacks f h = elim (one_false (f true) (f false) h) [ inl e ↦ (true, e) | inr e ↦ (false, e) ]
+one_lacks f h = elim (and_cases (f true) (f false) h) [ inl e ↦ (true, e) | inr e ↦ (false, e) ]
 
 -- ## Results that are known
 
@@ -122,7 +118,7 @@ complete x inside (sequence a b) r s =
     let first = complete x inside a lacks.0 lacks.1 in
     (_, ((first.0, rest.0, lacks.0, first.1.0, rest.1.0, refl), no_calls x first.0 rest.0 first.1.1 rest.1.1))
 complete x inside (branch a b c) r s =
-    elim (one_false (saved_by x a true || saved_by x b r) (saved_by x a false || saved_by x c r) s) [
+    elim (and_cases (saved_by x a true || saved_by x b r) (saved_by x a false || saved_by x c r) s) [
       | inl h ↦
           let first = complete x inside a true (not_left (saved_by x a true) _ h) in
           let rest = complete x inside b r (not_right (saved_by x a true) _ h) in

@@ -1,7 +1,8 @@
 -- The text of an atom is one lexeme, and the token of it is the atom.
-use Rattle.std.proofs.Common.{◌≡◌, ◌⊎◌, inl, inr, ℕ, List, [], ◌∷◌, ◌++◌, refl, ◌∙◌, ap, arith, Bool, true, false, append_assoc, eqb-true}
+use Rattle.std.proofs.Common.{◌≡◌, ◌⊎◌, inl, inr, ℕ, List, [], ◌∷◌, ◌++◌, refl, ◌∙◌, ap, arith, Bool, true, false, append_assoc}
 use Rattle.std.specs.Prelude.{◌==◌, ◌||◌, ◌&&◌, not, if◌then◌else◌, codes}
 use Rattle.std.specs.List.{list_all}
+use Rattle.std.proofs.lemmas.Bool.{and_right, or_parts}
 use Rattle.std.proofs.lemmas.Bool.Decides.{nat_tests}
 use Rattle.std.specs.Char.{is_ascii_alphabetic, is_ascii_digit}
 use Rattle.sch_word.specs.trees.NumberSets.{has}
@@ -10,7 +11,8 @@ use Rattle.sch_read.specs.Lexer.Lexeme.{is_lexeme, IsLongest}
 use Rattle.sch_read.specs.Grammar.{Plain, Atom}
 use Rattle.sch_read.specs.Lexer.Token.{token_at, word_at}
 use Rattle.sch_read.proofs.Longest.{end-longest, byte-longest}
-use Rattle.sch_word.proofs.facts.Booleans.{and_parts, neither, not_left, not_right, not_true}
+use Rattle.sch_word.proofs.facts.NumberSets.{each_passes}
+use Rattle.sch_word.proofs.facts.Booleans.{and_parts, neither, not_true}
 use Rattle.sch_read.proofs.Validity.{or-parts}
 
 -- the rest begins with a delimiter, if at all
@@ -22,15 +24,6 @@ pub record IsAtomText (a : Atom) (bytes : List ℕ) : Type 0 where
   pub lexeme : is_lexeme bytes ≡ true
   pub longest : (rest : List ℕ) → IsBroken rest → IsLongest bytes rest
   pub token : (at : ℕ) → token_at at bytes ≡ Plain at a ∷ []
-
--- what holds of each byte of a list holds of one of them
-one-of-all : (P : ℕ → Bool) (bytes : List ℕ) (b : ℕ) → has b bytes ≡ true → list_all P bytes ≡ true → P b ≡ true
-one-of-all P [] b h k = cc
-one-of-all P (c ∷ cs) b h k = go (or-parts (b == c) (has b cs) h) (λ e. one-of-all P cs b e (and_parts (P c) (list_all P cs) k).1)
-  where
-    go : (b == c ≡ true) ⊎ (has b cs ≡ true) → (has b cs ≡ true → P b ≡ true) → P b ≡ true
-    go (inl e) f = ap P (eqb-true b c e) ∙ (and_parts (P c) (list_all P cs) k).0
-    go (inr e) f = f e
 
 -- a byte that may begin a word: no delimiter, quote mark or `#`
 abbrev pub is_plain : ℕ → Bool
@@ -51,29 +44,22 @@ name-initial b h = go (or-parts (is_ascii_alphabetic b) _ h)
   where
     go : (is_ascii_alphabetic b ≡ true) ⊎ (has b (codes "!$%&*/:<=>?^_~") ≡ true) → begins_name b ≡ true
     go (inl e) = plain-letter b e
-    go (inr e) = one-of-all begins_name (codes "!$%&*/:<=>?^_~") b e refl
+    go (inr e) = each_passes begins_name (codes "!$%&*/:<=>?^_~") refl b e
 
 pub word-subsequent : (b : ℕ) → is_subsequent b ≡ true → is_word_byte b ≡ true
 word-subsequent b h = go (or-parts (is_initial b) _ h)
   where
     last : (is_ascii_digit b ≡ true) ⊎ (has b (codes "+-.@") ≡ true) → is_word_byte b ≡ true
     last (inl e) = (and_parts (is_word_byte b) _ (plain-digit b e)).0
-    last (inr e) = one-of-all is_word_byte (codes "+-.@") b e refl
+    last (inr e) = each_passes is_word_byte (codes "+-.@") refl b e
 
     go : (is_initial b ≡ true) ⊎ (is_ascii_digit b || has b (codes "+-.@") ≡ true) → is_word_byte b ≡ true
     go (inl e) = (and_parts (is_word_byte b) _ (and_parts (is_plain b) _ (name-initial b e)).0).0
     go (inr e) = last (or-parts (is_ascii_digit b) _ e)
 
-pub or-none : (a b : Bool) → a || b ≡ false → (a ≡ false) × (b ≡ false)
-or-none a b h = (not_left a b h, not_right a b h)
-
-and-false : (a b : Bool) → b ≡ false → a && b ≡ false
-and-false true b h = h
-and-false false b h = refl
-
 all-ends : (ps : List ℕ) (b : ℕ) → is_delimiter b ≡ true → list_all is_word_byte (ps ++ b ∷ []) ≡ false
 all-ends [] b h = ap (λ t. not t && true) h
-all-ends (p ∷ ps) b h = and-false (is_word_byte p) (list_all is_word_byte (ps ++ b ∷ [])) (all-ends ps b h)
+all-ends (p ∷ ps) b h = and_right (is_word_byte p) (list_all is_word_byte (ps ++ b ∷ [])) (all-ends ps b h)
 
 -- a lexeme that goes on with a word's bytes
 pub tail-atom : (first ps : List ℕ) (a : Atom) → ((bs : List ℕ) → is_lexeme (first ++ bs) ≡ list_all is_word_byte bs) → list_all is_word_byte ps ≡ true →
@@ -104,10 +90,10 @@ no-mark b h =
     let p = and_parts (is_word_byte b) _ h in
     let q = and_parts (not (b == 39)) (not (b == 35)) p.1 in
     let d = not_true (is_delimiter b) p.0 in
-    let o1 = or-none (is_white b) _ d in
-    let o2 = or-none (b == 40) _ o1.1 in
-    let o3 = or-none (b == 41) _ o2.1 in
-    let o4 = or-none (b == 34) (b == 59) o3.1 in
+    let o1 = or_parts (is_white b) _ d in
+    let o2 = or_parts (b == 40) _ o1.1 in
+    let o3 = or_parts (b == 41) _ o2.1 in
+    let o4 = or_parts (b == 34) (b == 59) o3.1 in
     record { white = o1.0; opening = o2.0; closing = o3.0; quote = o4.0; semicolon = o4.1; single = not_true (b == 39) q.0; hash = not_true (b == 35) q.1; delimiter = d }
 
 pub skip : {A : Type 0} (t : Bool) (x y : A) → t ≡ false → (if t then x else y) ≡ y

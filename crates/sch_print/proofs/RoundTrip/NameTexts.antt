@@ -4,6 +4,7 @@ use Rattle.std.specs.Prelude.{◌==◌, ◌||◌, ◌&&◌, not, if◌then◌els
 use Rattle.std.specs.List.{list_all}
 use Rattle.std.specs.Char.{is_ascii_digit, to_ascii_lowercase}
 use Rattle.std.specs.Str.{bytes_eq}
+use Rattle.std.proofs.lemmas.Bool.{or_parts}
 use Rattle.sch_word.specs.trees.NumberSets.{has}
 use Rattle.sch_read.specs.Lexer.Letters.{folded, is_word_byte, is_initial, is_subsequent}
 use Rattle.sch_read.specs.Lexer.Lexeme.{is_string_rest, is_lexeme}
@@ -16,7 +17,7 @@ use Rattle.sch_print.specs.Printed.{atom_text, escaped_text}
 use Rattle.std.proofs.lemmas.Slice.Eq.{bytes_eq-Decides}
 use Rattle.sch_word.proofs.facts.Booleans.{and_parts, neither, never_true, not_true}
 use Rattle.sch_read.proofs.Validity.{or-parts}
-use Rattle.sch_print.proofs.RoundTrip.AtomTexts.{IsAtomText, is_plain, begins_name, name-initial, word-subsequent, skip, tail-atom, word-atom, no-mark, or-none}
+use Rattle.sch_print.proofs.RoundTrip.AtomTexts.{IsAtomText, is_plain, begins_name, name-initial, word-subsequent, skip, tail-atom, word-atom, no-mark}
 
 pub boolean-text : (b : Bool) → IsAtomText (boolean b) (atom_text (boolean b))
 boolean-text true = tail-atom (codes "#t") [] (boolean true) (λ bs. refl) refl (λ at. refl)
@@ -119,7 +120,7 @@ string-tail (b ∷ bs) tail = go (b == 34 || b == 92) refl (string-tail bs tail)
     go : (t : Bool) → b == 34 || b == 92 ≡ t → is_string_rest (escaped_text bs ++ tail) ≡ is_string_rest tail →
         is_string_rest ((if t then 92 ∷ b ∷ escaped_text bs else b ∷ escaped_text bs) ++ tail) ≡ is_string_rest tail
     go true e h = h
-    go false e h = let o = or-none (b == 34) (b == 92) e in skip (b == 34) _ _ o.0 ∙ skip (b == 92) _ _ o.1 ∙ h
+    go false e h = let o = or_parts (b == 34) (b == 92) e in skip (b == 34) _ _ o.0 ∙ skip (b == 92) _ _ o.1 ∙ h
 
 escapes : (b : ℕ) → b == 34 || b == 92 ≡ true → (is_escape b ≡ true) × (escaped b ≡ b)
 escapes b h = go (or-parts (b == 34) (b == 92) h)
@@ -138,7 +139,7 @@ content-tail at (b ∷ bs) = go (b == 34 || b == 92) refl (content-tail (at + 1)
         let x = escapes b e in
         taken (is_escape b) _ _ x.0 ∙ ap (with_byte (escaped b)) k ∙ ap (λ v. Whole (v ∷ bs)) x.1
     go false e h k =
-        let o = or-none (b == 34) (b == 92) e in
+        let o = or_parts (b == 34) (b == 92) e in
         skip (b == 34) _ _ o.0 ∙ skip (b == 92) _ _ o.1 ∙ ap (with_byte b) h
 
 pub string-text : (bs : List ℕ) → IsAtomText (text bs) (atom_text (text bs))

@@ -4,7 +4,7 @@
 use Rattle.std.proofs.Common.{◌≡◌, ℕ, suc, ◌+◌, ◌*◌, ◌≤◌, List, [], ◌∷◌, length, length-append, Bool, true, false, cond, Option, Some, None, refl, arith, ◌&&◌}
 use Rattle.std.specs.Prelude.{not, nat_le, nat_lt, pos}
 use Rattle.std.specs.List.{list_all}
-use Rattle.std.proofs.lemmas.Bool.{and_parts}
+use Rattle.std.proofs.lemmas.Bool.{and_parts, false≢true}
 use Rattle.sch_word.specs.values.Literals.{count_literals}
 use Rattle.sch_word.specs.declared.place.Place.{Place}
 use Rattle.sch_word.specs.declared.primitive.Primitive.{Primitive}
@@ -59,7 +59,6 @@ use Rattle.sch_asm.specs.Codes.{instructions_in}
 use Rattle.sch_select.specs.Sizes.{steps_size}
 use Rattle.sch_select.proofs.items.ProgramLabels.{last_code}
 use Rattle.sch_select.proofs.items.TextSize.{sources_counts}
-use Rattle.sch_select_memory.proofs.Sound.{impossible}
 use Rattle.sch_select_operations.proofs.simulation.SelectedPrograms.{atom_selected, read_selected, operand_selected}
 use Rattle.sch_select_operations.proofs.simulation.SelectedPrograms.{primitive_selected, operation_selected, source_selected}
 use Rattle.sch_select_operations.proofs.simulation.SelectedPrograms.{instruction_selected, three_selected, form_selected, selects}
@@ -84,7 +83,7 @@ unary_adds n IsChar e rest = omega arith
 unary_adds n IsString e rest = omega arith
 unary_adds n IsVector e rest = omega arith
 unary_adds n IsProcedure e rest = omega arith
-unary_adds n _ e rest = impossible e
+unary_adds n _ e rest = absurd (false≢true e)
 
 binary_keeps : (n : ℕ) (which : Primitive) (rest : List Item)
     → instructions_in rest ≤ instructions_in (binary_code n which rest)
@@ -161,7 +160,7 @@ module _ (words globals symbols literals : ℕ) where
   read_adds : (n : ℕ) (which : Primitive) (atoms : List (Atom Place)) → read_selected words globals symbols literals which atoms ≡ true
       → (rest : List Item)
       → 2 + suc (length atoms) + 3 * instructions_in rest ≤ 3 * instructions_in (read_code n which atoms rest)
-  read_adds n which [] e rest = impossible e
+  read_adds n which [] e rest = absurd (false≢true e)
   read_adds n which (a ∷ []) e rest =
       let p = and_parts (only_reads which && takes 1 which) (atom_selected words globals symbols literals a) e in
       let h = atom_adds 0 a p.1 (unary_code n which rest) in
@@ -175,7 +174,7 @@ module _ (words globals symbols literals : ℕ) where
       let k = atom_adds 1 b q.1 (binary_code n which rest) in
       let l = binary_keeps n which rest in
       omega (arith, h, k, l)
-  read_adds n which (a ∷ (b ∷ (c ∷ atoms))) e rest = impossible e
+  read_adds n which (a ∷ (b ∷ (c ∷ atoms))) e rest = absurd (false≢true e)
 
   operand_adds : (n : ℕ) (o : Operand Place) → operand_selected words globals symbols literals o ≡ true → (rest : List Item)
       → 2 + operand_size o + 3 * instructions_in rest ≤ 3 * instructions_in (operand_code n o rest)
@@ -193,10 +192,10 @@ module _ (words globals symbols literals : ℕ) where
   index_adds : (o : Operand Place) → operand_selected words globals symbols literals o ≡ true → (rest : List Item)
       → operand_size o + 3 * instructions_in rest ≤ 3 * instructions_in (index_operand o rest)
   index_adds (operand.Atom a) e rest = let h = atom_adds 1 a e rest in omega (arith, h)
-  index_adds (operand.Read site which []) e rest = impossible e
+  index_adds (operand.Read site which []) e rest = absurd (false≢true e)
   index_adds (operand.Read site which (a ∷ [])) e rest = omega arith
   index_adds (operand.Read site which (a ∷ (b ∷ []))) e rest = omega arith
-  index_adds (operand.Read site which (a ∷ (b ∷ (c ∷ atoms)))) e rest = impossible e
+  index_adds (operand.Read site which (a ∷ (b ∷ (c ∷ atoms)))) e rest = absurd (false≢true e)
 
   -- ## Operations
 
@@ -204,7 +203,7 @@ module _ (words globals symbols literals : ℕ) where
       → primitive_selected words globals symbols literals which operands ≡ true → (rest : List Item)
       → 2 + operands_size operands + 3 * instructions_in rest
       ≤ 3 * instructions_in (primitive_code heap_end n which operands rest)
-  primitive_adds heap_end n which [] e rest = impossible e
+  primitive_adds heap_end n which [] e rest = absurd (false≢true e)
   primitive_adds heap_end n which (o ∷ []) e rest =
       let p = and_parts (takes 1 which) (operand_selected words globals symbols literals o) e in
       let h = operand_adds n o p.1 (unary_code (n + 8) which rest) in
@@ -227,7 +226,7 @@ module _ (words globals symbols literals : ℕ) where
       let l = index_adds q t.1.0 last in
       let m = ternary_keeps which rest in
       omega (arith, h, k, l, m)
-  primitive_adds heap_end n which (o ∷ (q ∷ (r ∷ (s ∷ operands)))) e rest = impossible e
+  primitive_adds heap_end n which (o ∷ (q ∷ (r ∷ (s ∷ operands)))) e rest = absurd (false≢true e)
 
   operation_adds : (heap_end n : ℕ) (o : Operation Place) → operation_selected words globals symbols literals o ≡ true → (rest : List Item)
       → 2 + operation_size o + 3 * instructions_in rest ≤ 3 * instructions_in (operation_code heap_end literals n o rest)
@@ -264,7 +263,7 @@ module _ (words globals symbols literals : ℕ) where
   -- ## Bodies: where a mark waits there is room for one unit more
 
   none_waits : (b : Bool) → not b ≡ true → cond b 1 0 ≤ 0
-  none_waits true e = impossible e
+  none_waits true e = absurd (false≢true e)
   none_waits false e = omega arith
 
   body_adds : (base out heap_end n : ℕ) (is : List Instruction) (b : Bool)

@@ -18,7 +18,7 @@ use Rattle.sch_word.specs.declared.primitive.Primitive.TheVariants.{VectorLength
 use Rattle.sch_word.specs.declared.primitive.Primitive.TheVariants.{SymbolRef, MakeString, MakeVector}
 use Rattle.sch_word.specs.values.Literals.{count_literals}
 use Rattle.sch_word.specs.trees.NumberSets.{has, without_repeats}
-use Rattle.sch_word.proofs.facts.NumberSets.{in_here, in_more}
+use Rattle.sch_word.proofs.facts.NumberSets.{in_here, in_more, append_left, append_right}
 use Rattle.sch_control.specs.declared.body.Entry.{Entry}
 use Rattle.sch_control.specs.declared.operation.Atom.{Atom}
 use Rattle.sch_control.specs.declared.operation.Atom.TheVariants.{Constant, Literal, Variable}
@@ -55,7 +55,7 @@ use Rattle.sch_select_data.specs.Data.{heap_of}
 use Rattle.sch_select.specs.Jumps.{goes_ahead, jumps_ahead}
 use Rattle.sch_select_operations.proofs.simulation.SelectedPrograms.{members_few, operation_few, labels_few}
 use Rattle.sch_select.proofs.items.ProgramLabels.{body_labels, body_labelled}
-use Rattle.sch_select.proofs.items.ProgramKnown.{left_in, right_in, label_in}
+use Rattle.sch_select.proofs.items.ProgramKnown.{label_in}
 use Rattle.sch_select_memory.proofs.Sound.{in_front}
 
 module _ (count : ℕ) where
@@ -255,12 +255,12 @@ module _ (count : ℕ) where
   behind_body : (base out words heap_end literals n l : ℕ) (is : List Instruction) (rest : List Item)
       → has l (labels_in rest) ≡ true → has l (labels_in (body_code base out words heap_end literals n is rest)) ≡ true
   behind_body base out words heap_end literals n l is rest e = ap (has l)
-      (body_labelled base out words heap_end literals n is rest) ∙ right_in (body_labels base n is) (labels_in rest) l e
+      (body_labelled base out words heap_end literals n is rest) ∙ append_right l (body_labels base n is) (labels_in rest) e
 
   within_body : (base out words heap_end literals n l : ℕ) (is : List Instruction) (rest : List Item)
       → has l (frames.labels_in is) ≡ true → has (base + l) (labels_in (body_code base out words heap_end literals n is rest)) ≡ true
   within_body base out words heap_end literals n l is rest e = ap (has (base + l))
-      (body_labelled base out words heap_end literals n is rest) ∙ left_in (body_labels base n is) (labels_in rest) (base + l)
+      (body_labelled base out words heap_end literals n is rest) ∙ append_left (base + l) (body_labels base n is) (labels_in rest)
       (label_in base n l is e)
 
   body_ahead : (base out words heap_end literals n : ℕ) (is : List Instruction) (rest : List Item)

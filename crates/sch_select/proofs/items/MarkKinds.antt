@@ -2,7 +2,7 @@
 use Rattle.std.proofs.Common.{◌≡◌, ℕ, suc, ◌+◌, List, [], ◌∷◌, ◌++◌, length, map, true, cond, ◌&&◌, refl, sym, ap, ◌∙◌, append-nil, append_assoc, arith}
 use Rattle.std.specs.Prelude.{nat_eq, nat_le}
 use Rattle.std.specs.List.{list_all}
-use Rattle.std.proofs.lemmas.Bool.{and_parts, eqb-true}
+use Rattle.std.proofs.lemmas.Bool.{and_parts, eqb-true, false≢true}
 use Rattle.sch_word.specs.declared.place.Place.{Place}
 use Rattle.sch_word.specs.declared.place.Place.TheVariants.{Reg as Register, Slot}
 use Rattle.sch_word.specs.trees.Shape.{max_operands}
@@ -23,7 +23,6 @@ use Rattle.sch_insn.specs.declared.insn.Insn.TheVariants.{MovTo}
 use Rattle.sch_select_memory.specs.Addresses.{place_operand}
 use Rattle.sch_select_operations.proofs.simulation.SelectedPrograms.{form_selected, instruction_selected, members_selected, selects}
 use Rattle.sch_select.proofs.items.BareItems.{is_bare, behind_entry, behind_operation, behind_passed, behind_records}
-use Rattle.sch_select_memory.proofs.Sound.{impossible}
 use Rattle.sch_select_operations.specs.ClosureCode.{closure_bytes, places_code, spill_code, spills_behind}
 use Rattle.sch_select.specs.Select.{labels_needed, instruction_code, body_code}
 use Rattle.sch_select.specs.Program.{forms_code, labels_end, own_label, selected_code}
@@ -31,7 +30,7 @@ use Rattle.sch_select_data.specs.Data.{heap_of}
 use Rattle.sch_select.specs.Sizes.{kinds_among, kinds_in, kinds_of}
 
 unseen : (i : Item) (is : List Item) → is_bare i ≡ true → kinds_in (i ∷ is) ≡ kinds_in is
-unseen (item.Mark m) is e = impossible e
+unseen (item.Mark m) is e = absurd (false≢true e)
 unseen _ is e = refl
 
 -- each member in a slot has the mark of its variable

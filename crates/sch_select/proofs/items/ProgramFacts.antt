@@ -8,7 +8,7 @@ use Rattle.std.proofs.lemmas.List.Elements.{All-from_recursion}
 use Rattle.sch_word.specs.trees.NumberSets.{has}
 use Rattle.sch_word.proofs.facts.NumberSets.{in_here, in_more}
 use Rattle.sch_word.specs.values.Literals.{count_literals, literals_known}
-use Rattle.sch_word.specs.runs.ProgramLayout.{max_data_size}
+use Rattle.sch_word.specs.runs.ProgramLayout.{max_data_size, data_address}
 use Rattle.sch_word.specs.runs.Runs.{max_statics, statics_size, statics_valid, statics_in_range, library_known}
 use Rattle.sch_word.specs.declared.place.Place.{Place}
 use Rattle.sch_control.specs.declared.operation.Operand.{Operand}
@@ -29,13 +29,14 @@ use Rattle.sch_asm.specs.Items.{AreOwn, labels_in}
 use Rattle.sch_asm.specs.Narrow.{narrowed}
 use Rattle.sch_select_data.specs.Data.{heap_of, max_heap_address}
 use Rattle.sch_word.proofs.values.NameSizes.{names_few}
+use Rattle.sch_word.specs.declared.limits.TheConstants.{MAX_HEAP}
 use Rattle.sch_select_data.proofs.StaticSizes.{literals_few}
 use Rattle.sch_select.specs.Program.{laid_code, program_code, selected_code, program_zeros, max_stack, own_label}
 use Rattle.sch_select.specs.Program.{stack_bytes}
 use Rattle.sch_select.specs.Select.{all_labels_needed, operand_needs, operation_needs}
 use Rattle.sch_select.proofs.items.ProgramLabels.{labels_low, forms_labels, forms_labelled, last_code}
 
-pub words_few : (p : FrameProgram) → p.words ≤ 2048
+pub words_few : (p : FrameProgram) → p.words ≤ max_words
 words_few p = leb-true p.words max_words (and_parts (nat_le p.words max_words)
     (list_all (λ c. nat_le c.words p.words) (codes_of p.bodies)) p.within).0
 
@@ -47,14 +48,14 @@ statics_small p =
     (literals_known (length s.symbols) s.literals && library_known (length p.library) s.globals) valid).0
 
 pub statics_few : (p : FrameProgram)
-    → count_literals (source p).statics.literals + length (source p).statics.globals ≤ 29360128
+    → count_literals (source p).statics.literals + length (source p).statics.globals ≤ max_statics
 statics_few p =
     let s = (source p).statics in
     let small = statics_small p in
     let l = literals_few s.literals in
     omega (arith, small, l)
 
-pub symbols_few : (p : FrameProgram) → length (source p).statics.symbols ≤ 29360128
+pub symbols_few : (p : FrameProgram) → length (source p).statics.symbols ≤ max_statics
 symbols_few p =
     let small = statics_small p in
     let n = names_few (source p).statics.symbols in
@@ -145,6 +146,6 @@ bodies_count (b ∷ bodies) = ap suc (bodies_count bodies)
 
 -- the words end where the heap begins
 pub data_end : (p : Source) (limit depth count : ℕ) → stack_bytes p.words depth ≤ max_stack + 16384
-    → 0x10000000 + 8 * count ≡ heap_of p → heap_of p ≤ max_heap_address → limit ≤ 1073741824
+    → data_address + 8 * count ≡ heap_of p → heap_of p ≤ max_heap_address → limit ≤ MAX_HEAP
     → 8 * count + program_zeros p limit depth ≤ max_data_size
 data_end p limit depth count stack words low heap = omega (arith, stack, words, low, heap)

@@ -8,8 +8,7 @@ use Rattle.std.proofs.lemmas.List.Elements.{All-from_recursion}
 use Rattle.std.proofs.Math.Bool.{or-true}
 use Rattle.sch_word.specs.values.Literals.{count_literals}
 use Rattle.sch_word.specs.trees.NumberSets.{has, without_repeats}
-use Rattle.sch_word.proofs.facts.Booleans.{or_left, or_right}
-use Rattle.sch_word.proofs.facts.NumberSets.{has_append, in_here, in_more}
+use Rattle.sch_word.proofs.facts.NumberSets.{in_here, in_more, append_left, append_right}
 use Rattle.sch_word.specs.declared.place.Place.{Place}
 use Rattle.sch_word.specs.declared.primitive.Primitive.{Primitive}
 use Rattle.sch_word.specs.declared.primitive.Primitive.TheVariants.{Eq, Eqv, IsBoolean, IsPair, IsNull, IsSymbol}
@@ -64,12 +63,6 @@ use Rattle.sch_select.proofs.items.ProgramLabels.{forms_labels, forms_labelled, 
 use Rattle.sch_select.proofs.items.AppendedItems.{spill_same}
 use Rattle.sch_select_memory.proofs.Sound.{in_front}
 
-pub left_in : (xs ys : List ℕ) (y : ℕ) → has y xs ≡ true → has y (xs ++ ys) ≡ true
-left_in xs ys y e = has_append y xs ys ∙ or_left (has y xs) (has y ys) e
-
-pub right_in : (xs ys : List ℕ) (y : ℕ) → has y ys ≡ true → has y (xs ++ ys) ≡ true
-right_in xs ys y e = has_append y xs ys ∙ or_right (has y xs) (has y ys) e
-
 -- a label that stands in a body
 pub label_in : (base n l : ℕ) (instructions : List Instruction) → has l (frames.labels_in instructions) ≡ true
     → has (base + l) (body_labels base n instructions) ≡ true
@@ -87,8 +80,7 @@ label_in base n l (Label k ∷ instructions) e =
     by false q e rec =
         in_more (base + l) (base + k) (body_labels base (n + labels_needed (Label k)) instructions) (rec e)
 label_in base n l (Do o ∷ instructions) e =
-    right_in (operation_labels n o) (body_labels base (n + labels_needed (Do o)) instructions)
-    (base + l) (label_in base (n + labels_needed (Do o)) l instructions e)
+    append_right (base + l) (operation_labels n o) (body_labels base (n + labels_needed (Do o)) instructions) (label_in base (n + labels_needed (Do o)) l instructions e)
 label_in base n l (Store q ∷ instructions) e = label_in base (n + labels_needed (Store q)) l instructions e
 label_in base n l (Copy to from ∷ instructions) e = label_in base (n + labels_needed (Copy to from)) l instructions e
 label_in base n l (Pass j ∷ instructions) e = label_in base (n + labels_needed (Pass j)) l instructions e
@@ -113,10 +105,10 @@ module _ (all : List ℕ) where
   Among ls = (y : ℕ) → has y ls ≡ true → has y all ≡ true
 
   among_left : (xs ys : List ℕ) → Among (xs ++ ys) → Among xs
-  among_left xs ys h y e = h y (left_in xs ys y e)
+  among_left xs ys h y e = h y (append_left y xs ys e)
 
   among_right : (xs ys : List ℕ) → Among (xs ++ ys) → Among ys
-  among_right xs ys h y e = h y (right_in xs ys y e)
+  among_right xs ys h y e = h y (append_right y xs ys e)
 
   is_known : (l : ℕ) → has l all ≡ true → known l ≡ true
   is_known l e = ap (λ b. is_routine l || b) e ∙ or-true (is_routine l)
@@ -325,7 +317,7 @@ module _ (all : List ℕ) where
         let whole : Among (labels_behind n c) = among_right (body_label label ∷ []) (labels_behind n c) h in
         let list = n + c.labels + 1 in
         let own : Among (inner_labels n c) = among_right (entry_labels c.entry list) (inner_labels n c) whole in
-        let out_in = own (n + c.labels) (right_in body ((n + c.labels) ∷ []) (n + c.labels)
+        let out_in = own (n + c.labels) (append_right (n + c.labels) body ((n + c.labels) ∷ [])
         (in_here (n + c.labels) [])) in
         let p = and_parts (list_all (λ l. nat_lt l c.labels) (frames.labels_in c.instructions))
         (without_repeats (frames.labels_in c.instructions) && jumps_ahead c.instructions) e in
@@ -417,7 +409,7 @@ body_in label n (c ∷ cs) zero lt = ap (λ b. b || has (body_label (label + 0))
     (eq-eqb (body_label (label + 0)) (body_label label) (omega arith))
 body_in label n (c ∷ cs) (suc j) lt =
     let z : suc label + j ≡ label + suc j = omega arith in
-    right_in (form_labels label n c) (forms_labels (suc label) (labels_end n c) cs) (body_label (label + suc j))
+    append_right (body_label (label + suc j)) (form_labels label n c) (forms_labels (suc label) (labels_end n c) cs)
     (ap (λ l. has (body_label l) (forms_labels (suc label) (labels_end n c) cs)) (sym z)
     ∙ body_in (suc label) (labels_end n c) cs j (omega (arith, lt)))
 
@@ -432,7 +424,7 @@ program_known p limit depth e f g =
     let forms = forms_labels 0 (own_label p) p.bodies in
     let all : List ℕ = labels_in (selected_code p limit depth) in
     let is : all ≡ forms ++ [] = forms_labelled p.words heap_end literals 0 (own_label p) p.bodies last_code in
-    let at : (y : ℕ) → has y forms ≡ true → has y all ≡ true = λ y h. ap (has y) is ∙ left_in forms [] y h in
+    let at : (y : ℕ) → has y forms ≡ true → has y all ≡ true = λ y h. ap (has y) is ∙ append_left y forms [] h in
     let bodies_in : (l : ℕ) → l < length p.bodies → has (body_label l) all ≡ true = λ l lt. at (body_label l)
     (let z : 0 + l ≡ l = omega arith in ap (λ l. has (body_label l) forms) (sym z) ∙ body_in 0 (own_label p) p.bodies l lt) in
     let uses : list_all (known all) (uses_in (selected_code p limit depth)) ≡ true =

@@ -2,7 +2,7 @@
 use Rattle.std.proofs.Common.{◌≡◌, ℕ, suc, ◌+◌, List, [], ◌∷◌, length, Option, Some, None, Bool, true, false, refl, ◌∙◌, ◌&&◌}
 use Rattle.std.specs.Prelude.{not, nat_eq, nat_lt, nat_le, IsTrue}
 use Rattle.std.specs.List.{list_all}
-use Rattle.std.proofs.lemmas.Bool.{and_parts}
+use Rattle.std.proofs.lemmas.Bool.{and_parts, false≢true}
 use Rattle.sch_word.specs.values.Literals.{count_literals}
 use Rattle.sch_word.specs.declared.place.Place.{Place}
 use Rattle.sch_word.specs.declared.place.Place.TheVariants.{Reg as Register, Slot}
@@ -44,7 +44,7 @@ use Rattle.sch_select.specs.Select.{labels_needed, instruction_code, body_code}
 use Rattle.sch_select.specs.Program.{passed_code, entry_code, forms_code, labels_end, selected_code, own_label}
 use Rattle.sch_select_data.specs.Data.{heap_of}
 use Rattle.sch_select.proofs.items.ProgramLabels.{last_code}
-use Rattle.sch_select_memory.proofs.Sound.{in_front, impossible}
+use Rattle.sch_select_memory.proofs.Sound.{in_front}
 use Rattle.sch_select_operations.proofs.simulation.SelectedPrograms.{atom_selected, read_selected, operand_selected, source_selected}
 use Rattle.sch_select_operations.proofs.simulation.SelectedPrograms.{closure_selected, members_selected, operation_selected}
 use Rattle.sch_select_operations.proofs.simulation.SelectedPrograms.{three_selected, instruction_selected, form_selected, selects}
@@ -84,7 +84,7 @@ module _ (words globals symbols literals heap_end : ℕ) where
 
   read_arrives : (n : ℕ) (which : Primitive) (atoms : List (Atom Place))
       → read_selected words globals symbols literals which atoms ≡ true → Arrives (read_code n which atoms)
-  read_arrives n which [] e b rest = impossible e
+  read_arrives n which [] e b rest = absurd (false≢true e)
   read_arrives n which (a ∷ []) e b rest = let p = and_parts (only_reads which && takes 1 which)
       (atom_selected words globals symbols literals a) e in atom_arrives 0 a p.1 b (unary_code n which rest) ∙ unary_quiet n which rest
   read_arrives n which (a ∷ (c ∷ [])) e b rest =
@@ -93,7 +93,7 @@ module _ (words globals symbols literals heap_end : ℕ) where
       let q = and_parts (atom_selected words globals symbols literals a) (atom_selected words globals symbols literals c) p.1 in
       atom_arrives 0 a q.0 b (atom_code 1 c (binary_code n which rest))
       ∙ atom_arrives 1 c q.1 false (binary_code n which rest) ∙ binary_quiet n which rest
-  read_arrives n which (a ∷ (c ∷ (d ∷ atoms))) e b rest = impossible e
+  read_arrives n which (a ∷ (c ∷ (d ∷ atoms))) e b rest = absurd (false≢true e)
 
   operand_arrives : (n : ℕ) (o : Operand Place) → operand_selected words globals symbols literals o ≡ true → Arrives (operand_code n o)
   operand_arrives n (operand.Atom a) e b rest = atom_arrives 0 a e b rest
@@ -146,7 +146,7 @@ module _ (words globals symbols literals heap_end : ℕ) where
   operation_arrives : (n : ℕ) (o : Operation Place) → operation_selected words globals symbols literals o ≡ true
       → Arrives (operation_code heap_end literals n o)
   operation_arrives n (operation.Operand o) e b rest = operand_arrives n o e b rest
-  operation_arrives n (operation.Prim site which []) e b rest = impossible e
+  operation_arrives n (operation.Prim site which []) e b rest = absurd (false≢true e)
   operation_arrives n (operation.Prim site which (o ∷ [])) e b rest =
       let p = and_parts (takes 1 which) (operand_selected words globals symbols literals o) e in operand_arrives n o p.1 b
       (unary_code (n + 8) which rest) ∙ unary_quiet (n + 8) which rest
@@ -158,7 +158,7 @@ module _ (words globals symbols literals heap_end : ℕ) where
       let t = three_selected words globals symbols literals which o q r e in
       operand_arrives n r t.1.1 b _ ∙ operand_arrives (n + 4) o t.0 false _ ∙ index_arrives q t.1.0 false _
       ∙ ternary_quiet which rest
-  operation_arrives n (operation.Prim site which (o ∷ (q ∷ (r ∷ (s ∷ operands))))) e b rest = impossible e
+  operation_arrives n (operation.Prim site which (o ∷ (q ∷ (r ∷ (s ∷ operands))))) e b rest = absurd (false≢true e)
   operation_arrives n (operation.Global g) e b rest = refl
   operation_arrives n (operation.SetGlobal g o) e b rest = let p = and_parts (nat_lt g globals)
       (operand_selected words globals symbols literals o) e in operand_arrives n o p.1 b _

@@ -36,8 +36,10 @@ use Rattle.sch_frames.specs.declared.instruction.Instruction.TheVariants.{Mark}
 use Rattle.sch_frames.specs.Tree.{Code}
 use Rattle.sch_frames.specs.Tree as tree
 use Rattle.sch_word.specs.trees.Shape.{max_operands}
+use Rattle.sch_word.specs.runs.Runs.{max_statics}
+use Rattle.sch_word.specs.declared.limits.TheConstants.{MAX_DEPTH}
 use Rattle.sch_control.specs.flow.Places.{formals_of}
-use Rattle.sch_frames.specs.Valid.{handed_over, in_slots, is_place, is_register}
+use Rattle.sch_frames.specs.Valid.{handed_over, in_slots, is_place, is_register, max_words}
 use Rattle.sch_asm.specs.declared.item.Item.{Item}
 use Rattle.sch_asm.specs.declared.item.Item.TheVariants as item
 use Rattle.sch_asm.specs.Items.{AreItems}
@@ -62,6 +64,7 @@ use Rattle.sch_select_operations.proofs.simulation.SelectedPrograms.{closure_sel
 use Rattle.sch_select_operations.proofs.simulation.SelectedPrograms.{three_selected, instruction_selected, form_selected, selects}
 use Rattle.sch_select_operations.proofs.simulation.SelectedPrograms.{takes}
 use Rattle.sch_select_operations.proofs.simulation.Closures.{group_small}
+use Rattle.sch_select_operations.specs.Reach.{max_record_bytes}
 use Rattle.sch_frames.specs.Covered.{marks_settled}
 use Rattle.sch_control.specs.Valid.{only_reads}
 
@@ -69,7 +72,7 @@ fits_word : (n : ℤ) → negsuc 9223372036854775807 ≤ℤ n → n ≤ℤ pos 9
 fits_word n a b = and_from (int_le (negsuc 9223372036854775807) n) (int_le n (pos 9223372036854775807))
     (is_at_most (negsuc 9223372036854775807) n a) (is_at_most n (pos 9223372036854775807) b)
 
-constant_fits : (symbols : ℕ) (c : Const) → symbols ≤ 29360128 → constant_known symbols c ≡ true → is_constant c ≡ true
+constant_fits : (symbols : ℕ) (c : Const) → symbols ≤ max_statics → constant_known symbols c ≡ true → is_constant c ≡ true
     → fits_64 (constant_number c) ≡ true
 constant_fits symbols (Fixnum n) few k e =
     let h = is_fixnum_says n e in
@@ -105,16 +108,16 @@ register_small r e = ⊎_elim (λ lt. lt-ltb r 16 lt) (λ le. absurd
         other : (k : ℕ) → k < 16 → nat_eq r k ≡ false
         other k lt = ne_eqb r k (λ e. omega (arith, e, lt, le))
 
-module _ (words globals symbols literals heap_end : ℕ) (narrow : words ≤ 2048) (few : literals + globals ≤ 29360128)
-    (named : symbols ≤ 29360128) (near : heap_end ≤ max_heap_end) where
+module _ (words globals symbols literals heap_end : ℕ) (narrow : words ≤ max_words) (few : literals + globals ≤ max_statics)
+    (named : symbols ≤ max_statics) (near : heap_end ≤ max_heap_end) where
   place_valid : (p : Place) → is_place words p ≡ true → arg_valid (place_operand p) ≡ true
   place_valid (Reg r) e = register_small r e
   place_valid (Slot j) e = let lt = ltb-true j words e in fits_short (8 * j) (omega (arith, lt, narrow))
 
-  global_valid : (g : ℕ) → nat_lt g globals ≡ true → (nat_le 0x10000000 (global_address literals g) && nat_le
+  global_valid : (g : ℕ) → nat_lt g globals ≡ true → (nat_le data_address (global_address literals g) && nat_le
       (global_address literals g) 0x7FFFFFF8) ≡ true
-  global_valid g e = let lt = ltb-true g globals e in and_from (nat_le 0x10000000 (global_address literals g))
-      (nat_le (global_address literals g) 0x7FFFFFF8) (le-leb 0x10000000 (global_address literals g) (omega arith))
+  global_valid g e = let lt = ltb-true g globals e in and_from (nat_le data_address (global_address literals g))
+      (nat_le (global_address literals g) 0x7FFFFFF8) (le-leb data_address (global_address literals g) (omega arith))
       (le-leb (global_address literals g) 0x7FFFFFF8 (omega (arith, lt, few)))
 
   -- what an item list keeps in front of others
@@ -130,11 +133,11 @@ module _ (words globals symbols literals heap_end : ℕ) (narrow : words ≤ 204
       (and_from (arg_valid (place_operand p)) (nat_lt r 16) (place_valid p e) low)
   atom_valid r (Literal n) low e rest =
       let lt = ltb-true n literals e in
-      let there = and_from (nat_le 0x10000000 (literal_address n)) (nat_le (literal_address n) 0x7FFFFFF8)
-      (le-leb 0x10000000 (literal_address n) (omega arith))
+      let there = and_from (nat_le data_address (literal_address n)) (nat_le (literal_address n) 0x7FFFFFF8)
+      (le-leb data_address (literal_address n) (omega arith))
       (le-leb (literal_address n) 0x7FFFFFF8 (omega (arith, lt, few))) in
-      in_front (nat_lt r 16 && (nat_le 0x10000000 (literal_address n) && nat_le (literal_address n) 0x7FFFFFF8))
-      (items_valid rest) (and_from (nat_lt r 16) (nat_le 0x10000000 (literal_address n) && nat_le (literal_address n)
+      in_front (nat_lt r 16 && (nat_le data_address (literal_address n) && nat_le (literal_address n) 0x7FFFFFF8))
+      (items_valid rest) (and_from (nat_lt r 16) (nat_le data_address (literal_address n) && nat_le (literal_address n)
       0x7FFFFFF8) low there)
 
   unary_valid : (n : ℕ) (which : Primitive) → Valid (unary_code n which)
@@ -226,10 +229,10 @@ module _ (words globals symbols literals heap_end : ℕ) (narrow : words ≤ 204
       stored_valid offset 1 (omega (arith, lt)) refl (fields_code (offset + 8) c.fields rest)
       ∙ fields_valid (offset + 8) c.fields (omega (arith, lt, n)) f.1 rest
 
-  closure_small : (c : Closure Place) → closure_selected words globals symbols literals c ≡ true → closure_bytes c ≤ 8016
+  closure_small : (c : Closure Place) → closure_selected words globals symbols literals c ≡ true → closure_bytes c ≤ max_record_bytes
   closure_small c e = let n = (closure_fields c e).0 in omega (arith, n)
 
-  places_valid : (offset : ℕ) (members : List (Member Place)) (spills : List ℕ) → offset + 8016 * length members < 1073741824
+  places_valid : (offset : ℕ) (members : List (Member Place)) (spills : List ℕ) → offset + max_record_bytes * length members < 1073741824
       → members_selected words globals symbols literals members ≡ true → Valid (places_code offset members spills)
   places_valid offset [] spills lt e rest = refl
   places_valid offset (m ∷ members) spills lt e rest =
@@ -242,7 +245,7 @@ module _ (words globals symbols literals heap_end : ℕ) (narrow : words ≤ 204
       (and_from (arg_valid (place_operand m.at)) true (place_valid m.at p.0) refl)
       ∙ places_valid (offset + closure_bytes m.closure) members (spills_behind m.at spills) (omega (arith, lt, b)) q.1 rest
 
-  records_valid : (offset : ℕ) (members : List (Member Place)) → offset + 8016 * length members < 1073741824
+  records_valid : (offset : ℕ) (members : List (Member Place)) → offset + max_record_bytes * length members < 1073741824
       → members_selected words globals symbols literals members ≡ true → Valid (records_code offset members)
   records_valid offset [] lt e rest = refl
   records_valid offset (m ∷ members) lt e rest =
@@ -283,11 +286,11 @@ module _ (words globals symbols literals heap_end : ℕ) (narrow : words ≤ 204
       operand_valid n r t.1.1 _ ∙ operand_valid (n + 4) o t.0 _ ∙ index_valid q t.1.0 _ ∙ ternary_valid which rest
   operation_valid n (operation.Prim site which (o ∷ (q ∷ (r ∷ (s ∷ operands))))) e rest = refl
   operation_valid n (operation.Global g) e rest = in_front
-      (nat_le 0x10000000 (global_address literals g) && nat_le (global_address literals g) 0x7FFFFFF8) (items_valid rest)
+      (nat_le data_address (global_address literals g) && nat_le (global_address literals g) 0x7FFFFFF8) (items_valid rest)
       (global_valid g e)
   operation_valid n (operation.SetGlobal g o) e rest =
       let p = and_parts (nat_lt g globals) (operand_selected words globals symbols literals o) e in
-      operand_valid n o p.1 _ ∙ in_front (nat_le 0x10000000 (global_address literals g) && nat_le (global_address literals g)
+      operand_valid n o p.1 _ ∙ in_front (nat_le data_address (global_address literals g) && nat_le (global_address literals g)
       0x7FFFFFF8) (items_valid rest) (global_valid g p.0)
   operation_valid n (operation.Field p k) e rest = source_valid 0 (source.Field p k) refl e rest
   operation_valid n (operation.NewCell x) e rest = source_valid 0 x refl e _
@@ -375,9 +378,9 @@ module _ (words globals symbols literals heap_end : ℕ) (narrow : words ≤ 204
       ∙ body_valid n (n + c.labels) (n + c.labels + 2) c.instructions q.1 _
       ∙ forms_valid (suc label) (labels_end n c) cs p.1 rest
 
-pub program_sound : (p : tree.Source) (limit depth : ℕ) → p.words ≤ 2048
-    → count_literals p.statics.literals + length p.statics.globals ≤ 29360128 → length p.statics.symbols ≤ 29360128
-    → heap_of p + limit ≤ max_heap_end → depth ≤ 10000000 → selects p ≡ true → AreItems (selected_code p limit depth)
+pub program_sound : (p : tree.Source) (limit depth : ℕ) → p.words ≤ max_words
+    → count_literals p.statics.literals + length p.statics.globals ≤ max_statics → length p.statics.symbols ≤ max_statics
+    → heap_of p + limit ≤ max_heap_end → depth ≤ MAX_DEPTH → selects p ≡ true → AreItems (selected_code p limit depth)
 program_sound p limit depth narrow few named near deep e =
     let globals = length p.statics.globals in
     let symbols = length p.statics.symbols in

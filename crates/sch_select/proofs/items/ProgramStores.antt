@@ -1,7 +1,7 @@
 -- Each write of a word of a frame stands behind its mark, where the instructions of bodies have their marks.
 use Rattle.std.proofs.Common.{◌≡◌, ℕ, suc, ◌+◌, List, [], ◌∷◌, length, true, cond, Option, Some, None, refl, subst, ◌∙◌, ◌&&◌, arith}
 use Rattle.std.specs.Prelude.{not, IsTrue}
-use Rattle.std.proofs.lemmas.Bool.{and_parts, eqb-true}
+use Rattle.std.proofs.lemmas.Bool.{and_parts, eqb-true, false≢true}
 use Rattle.sch_word.specs.values.Literals.{count_literals}
 use Rattle.sch_word.specs.declared.mark.MarkKind.{MarkKind}
 use Rattle.sch_word.specs.declared.mark.MarkKind.TheVariants as mark
@@ -26,7 +26,7 @@ use Rattle.sch_select.specs.Select.{labels_needed, instruction_code, body_code}
 use Rattle.sch_select.specs.Program.{forms_code, labels_end, own_label, selected_code}
 use Rattle.sch_select.proofs.items.BareItems.{is_bare, behind_entry, behind_operation, behind_passed, behind_records}
 use Rattle.sch_select.proofs.items.ProgramLabels.{last_code}
-use Rattle.sch_select_memory.proofs.Sound.{impossible, in_front}
+use Rattle.sch_select_memory.proofs.Sound.{in_front}
 
 -- they stand so in what follows
 abbrev Stand : List Item → Type 0
@@ -34,7 +34,7 @@ Stand rest = stores_marked None rest ≡ true
 
 unseen : (i : Item) (is : List Item) → is_bare i ≡ true → stores_marked None (i ∷ is) ≡ stores_marked None is
 unseen (item.Plain i) is e = in_front (not (writes_frame (item.Plain i))) (stores_marked None is) e
-unseen (item.Mark m) is e = impossible e
+unseen (item.Mark m) is e = absurd (false≢true e)
 unseen (item.Label l) is e = refl
 unseen (item.Jump l) is e = refl
 unseen (item.JumpIf c l) is e = refl
@@ -78,16 +78,16 @@ module _ (base out words heap_end literals : ℕ) where
   unmarked : (n : ℕ) (i : Instruction) → is_unmarked i ≡ true → (rest : List Item) → stores_marked (waits (before_next i)) rest ≡ true → Stand (code n i rest)
   unmarked n (instruction.Do o) e rest h = behind_operation (stores_marked None) unseen heap_end literals n o rest ∙ h
   unmarked n (instruction.Store (Register r)) e rest h = h
-  unmarked n (instruction.Store (Slot j)) e rest h = impossible e
+  unmarked n (instruction.Store (Slot j)) e rest h = absurd (false≢true e)
   unmarked n (instruction.Copy (Register r) (Register q)) e rest h = h
   unmarked n (instruction.Copy (Register r) (Slot j)) e rest h = h
-  unmarked n (instruction.Copy (Slot j) from) e rest h = impossible e
+  unmarked n (instruction.Copy (Slot j) from) e rest h = absurd (false≢true e)
   unmarked n (instruction.Fix members spills) e rest h =
       places_stand 0 members spills (eqb-true (length spills) (in_slots members) e) _ (behind_records (stores_marked None) unseen 0 members _ ∙ h)
-  unmarked n (instruction.Pass k) e rest h = impossible e
-  unmarked n (instruction.Call spread count) e rest h = impossible e
-  unmarked n (instruction.Tail spread count) e rest h = impossible e
-  unmarked n instruction.Return e rest h = impossible e
+  unmarked n (instruction.Pass k) e rest h = absurd (false≢true e)
+  unmarked n (instruction.Call spread count) e rest h = absurd (false≢true e)
+  unmarked n (instruction.Tail spread count) e rest h = absurd (false≢true e)
+  unmarked n instruction.Return e rest h = absurd (false≢true e)
   unmarked n instruction.End e rest h = h
   unmarked n (instruction.IfFalse l) e rest h = h
   unmarked n (instruction.Jump l) e rest h = h
@@ -98,12 +98,12 @@ module _ (base out words heap_end literals : ℕ) where
   stored : (m : MarkKind) → ((i : Item) → writes_frame i ≡ true → stands_before m i ≡ true) → (n : ℕ) (i : Instruction) → stores i ≡ true
       → (rest : List Item) → Stand rest → stores_marked (Some m) (code n i rest) ≡ true
   stored m fits n (instruction.Store (Slot j)) b rest h = in_front _ (stores_marked None rest) (fits (item.Plain (MovTo (place_operand (Slot j)) 0)) refl) ∙ h
-  stored m fits n (instruction.Store (Register r)) b rest h = impossible b
+  stored m fits n (instruction.Store (Register r)) b rest h = absurd (false≢true b)
   stored m fits n (instruction.Copy (Slot j) (Register r)) b rest h = in_front _ (stores_marked None rest) (fits (item.Plain (MovTo (place_operand (Slot j)) r)) refl) ∙ h
-  stored m fits n (instruction.Copy (Slot j) (Slot i)) b rest h = impossible b
-  stored m fits n (instruction.Copy (Register r) from) b rest h = impossible b
+  stored m fits n (instruction.Copy (Slot j) (Slot i)) b rest h = absurd (false≢true b)
+  stored m fits n (instruction.Copy (Register r) from) b rest h = absurd (false≢true b)
   stored m fits n (instruction.Pass k) b rest h = in_front _ (stores_marked None rest) (fits (item.Plain (MovTo (place_operand (Slot (words + k))) 0)) refl) ∙ h
-  stored m fits n _ b rest h = impossible b
+  stored m fits n _ b rest h = absurd (false≢true b)
 
   -- what stands behind a mark
   under : (m : MarkKind) (n : ℕ) (i : Instruction) → belongs m i ≡ true → (rest : List Item) → Stand rest → stores_marked (waiting_mark m) (code n i rest) ≡ true
@@ -115,34 +115,34 @@ module _ (base out words heap_end literals : ℕ) where
     by (instruction.Store p) b = h
     by (instruction.Copy to (Register r)) b = h
     by (instruction.Copy (Register r) (Slot j)) b = h
-    by (instruction.Copy (Slot i) (Slot j)) b = impossible b
+    by (instruction.Copy (Slot i) (Slot j)) b = absurd (false≢true b)
     by (instruction.Pass k) b = h
-    by _ b = impossible b
+    by _ b = absurd (false≢true b)
   under (mark.Restore x) n i b rest h = by i b where
     by : (i : Instruction) → loads i ≡ true → stores_marked (Some (mark.Restore x)) (code n i rest) ≡ true
     by (instruction.Copy (Register r) (Slot j)) b = h
-    by (instruction.Copy (Register r) (Register q)) b = impossible b
-    by (instruction.Copy (Slot i) from) b = impossible b
-    by _ b = impossible b
+    by (instruction.Copy (Register r) (Register q)) b = absurd (false≢true b)
+    by (instruction.Copy (Slot i) from) b = absurd (false≢true b)
+    by _ b = absurd (false≢true b)
   under (mark.Call site) n i b rest h = by i b where
     by : (i : Instruction) → belongs (mark.Call site) i ≡ true → stores_marked (Some (mark.Call site)) (code n i rest) ≡ true
     by (instruction.Call spread count) b = h
-    by _ b = impossible b
+    by _ b = absurd (false≢true b)
   under (mark.Tail site) n i b rest h = by i b where
     by : (i : Instruction) → belongs (mark.Tail site) i ≡ true → stores_marked (Some (mark.Tail site)) (code n i rest) ≡ true
     by (instruction.Tail spread count) b = h
-    by _ b = impossible b
+    by _ b = absurd (false≢true b)
   under mark.Return n i b rest h = by i b where
     by : (i : Instruction) → belongs mark.Return i ≡ true → stores_marked (Some mark.Return) (code n i rest) ≡ true
     by instruction.Return b = h
-    by _ b = impossible b
-  under (mark.Enter l) n i b rest h = impossible b
+    by _ b = absurd (false≢true b)
+  under (mark.Enter l) n i b rest h = absurd (false≢true b)
 
   -- ## Bodies
 
   body_stands : (before : Before) (n : ℕ) (is : List Instruction) → marks_stand before is ≡ true → (rest : List Item) → Stand rest
       → stores_marked (waits before) (body_code base out words heap_end literals n is rest) ≡ true
-  body_stands (Marked m) n [] e rest h = impossible e
+  body_stands (Marked m) n [] e rest h = absurd (false≢true e)
   body_stands Called n [] e rest h = h
   body_stands Other n [] e rest h = h
   body_stands (Marked m) n (i ∷ is) e rest h =

@@ -29,7 +29,7 @@ use Rattle.sch_frames.specs.Tree.{Code}
 use Rattle.sch_frames.specs.Tree as tree
 use Rattle.sch_word.specs.trees.NumberSets.{has}
 use Rattle.sch_control.specs.flow.Places.{formals_of}
-use Rattle.sch_frames.specs.Valid.{forward, handed_over, in_slots, is_place, jumps_ahead, labels_in}
+use Rattle.sch_frames.specs.Valid.{forward, handed_over, in_slots, is_place, jumps_ahead, labels_in, max_words}
 use Rattle.sch_word.specs.values.Literals.{count_literals}
 use Rattle.sch_select_memory.specs.Addresses.{max_labels}
 use Rattle.sch_select_memory.specs.Reach.{is_reached_label, is_reached_place}
@@ -40,7 +40,7 @@ use Rattle.sch_select_operations.proofs.simulation.SelectedPrograms.{source_sele
 use Rattle.sch_select_operations.proofs.simulation.SelectedPrograms.{instruction_selected, form_selected, labels_few, members_few, operation_few, selects, takes, three_selected}
 use Rattle.sch_select.specs.Reach.{is_reached_code, is_reached_entry, is_reached_instruction, names_below}
 
-module _ (words globals symbols literals count : ℕ) (narrow : words ≤ 2048) (low : count ≤ max_labels) where
+module _ (words globals symbols literals count : ℕ) (narrow : words ≤ max_words) (low : count ≤ max_labels) where
   place_reached : (p : Place) → is_place words p ≡ true → is_reached_place p ≡ true
   place_reached (Reg r) e = refl
   place_reached (Slot j) e = let lt = ltb-true j words e in lt-ltb j 4096 (omega (arith, lt, narrow))
@@ -189,7 +189,7 @@ module _ (words globals symbols literals count : ℕ) (narrow : words ≤ 2048) 
       (and_from (is_reached_entry c.entry) (list_all is_reached_instruction c.instructions) (entry_reached c.entry q.0)
       (instructions_reached c.instructions q.1 r.0)) (codes_reached cs p.1 r.1)
 
-pub program_reached : (p : tree.Source) → p.words ≤ 2048 → length p.bodies ≤ max_labels → selects p ≡ true
+pub program_reached : (p : tree.Source) → p.words ≤ max_words → length p.bodies ≤ max_labels → selects p ≡ true
     → list_all (λ c. list_all (labels_few (length p.bodies)) c.instructions) p.bodies ≡ true → list_all is_reached_code p.bodies ≡ true
 program_reached p narrow low e f =
     let globals = length p.statics.globals in

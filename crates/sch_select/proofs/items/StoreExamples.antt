@@ -23,7 +23,7 @@ use Rattle.sch_select.specs.Program.{program_code}
 use Rattle.sch_select.specs.Select.{copy_insn}
 use Rattle.sch_select.specs.Sizes.{kinds_in, kinds_of, steps_size}
 
--- a word of the frame, whose address RBP has, and one of the heap
+-- a word of the frame, and one of the heap, by the registers that have their addresses
 abbrev pub slot : Arg
 slot = Base32 5 (pos 8)
 

@@ -52,7 +52,7 @@ use Rattle.sch_frames.specs.ProgramView as view
 use Rattle.sch_frames.specs.SourceView.{code_of, codes_of}
 use Rattle.sch_word.specs.values.Places.{is_slot}
 use Rattle.sch_control.specs.flow.Places.{formals_of}
-use Rattle.sch_frames.specs.Valid.{is_place, is_atom, are_members, call_shaped, handed_over, in_slots}
+use Rattle.sch_frames.specs.Valid.{is_place, is_atom, are_members, call_shaped, handed_over, in_slots, max_words}
 use Rattle.sch_frames.specs.Valid.{instruction_placed, instruction_shaped, instruction_known, names_of}
 
 -- ## Counts of operands
@@ -478,14 +478,14 @@ literals_named p =
 pub entries_selected : (p : FrameProgram)
     → list_all (λ c. entry_selected p.words c.entry) (view.source p).bodies ≡ true
 entries_selected p =
-    let within = and_parts (nat_le p.words 2048) (list_all (λ c. nat_le c.words p.words) (view.source p).bodies) p.within in
+    let within = and_parts (nat_le p.words max_words) (list_all (λ c. nat_le c.words p.words) (view.source p).bodies) p.within in
     entries_taken p.words p.bodies within.1
 
 pub covered_selected : (p : FrameProgram) → is_covered_program (view.source p) ≡ true
     → selects (view.source p) ≡ true
 covered_selected p s =
     let q = view.source p in
-    let within = and_parts (nat_le p.words 2048) (list_all (λ c. nat_le c.words p.words) q.bodies) p.within in
+    let within = and_parts (nat_le p.words max_words) (list_all (λ c. nat_le c.words p.words) q.bodies) p.within in
     and_from (list_all (form_selected p.words (length p.statics.globals) (length p.statics.symbols) (count_literals q.statics.literals)) q.bodies)
     (list_all (λ c. marks_settled true c.instructions) q.bodies)
     (forms_taken p.words (names_of q) p.bodies (codes_free p s) p.known within.1)

@@ -11,14 +11,15 @@ use Rattle.sch_word.specs.values.PrimitiveRows.{primitive}
 use Rattle.sch_word.specs.values.Values.{Value, fixnum, character, boolean, nil, unspecified, symbol, object, procedure, cell, is_true}
 use Rattle.sch_word.specs.runs.Charges.{cell_bytes, charge, charge_each, fit, procedure_bytes}
 use Rattle.sch_word.specs.runs.Store.{Store}
-use Rattle.sch_word.specs.runs.Computation.{Outcome, State, Action, gives, stops, spent, in_store, with_rest, on_value, checked_call, taken, set_or_stop, read_cell, write_cell, with_rest, procedures_from}
+use Rattle.sch_word.specs.runs.Computation.{Outcome, State, Action, gives, stops, spent, in_store, with_rest, on_value, checked_call, taken, set_or_stop, read_cell, write_cell, procedures_from}
 use Rattle.sch_word.proofs.Steady.{Steady, outcome_with, steady_charge, steady_charge_each, steady_fit, steady_primitive, steady_read_global, steady_write_global}
 use Rattle.sch_control.specs.declared.body.Entry.{Entry}
 use Rattle.sch_word.specs.declared.mark.MarkKind.{MarkKind}
 use Rattle.sch_word.specs.declared.mark.MarkKind.TheVariants.{Enter, Spill}
 use Rattle.sch_control.specs.declared.operation.Operation.{Operation}
 use Rattle.sch_control.specs.declared.operation.Operation.TheVariants as operation
-use Rattle.sch_control.specs.Operations.{Procedure, Ending, field, member_bytes, members_made, new_cell, operand_value, operand_values, operate, source_value, source_values, with_cell, with_procedures}
+use Rattle.sch_control.specs.Operations.{Ending, field, member_bytes, members_made, new_cell, operand_value, operand_values, operate, source_value, source_values, with_cell, with_procedures}
+use Rattle.sch_word.specs.runs.Procedures.{Procedure}
 use Rattle.sch_word.specs.values.Options.{when_some}
 use Rattle.sch_control.specs.Meaning.{World, Result, Callee, call_in, either, entered, marked, on_checked, on_ending, on_outcome, on_return, with_value}
 use Rattle.sch_control.specs.Run.{enter, enter_body, entry_at}
@@ -31,8 +32,8 @@ use Rattle.sch_frames.specs.Tree.{Code}
 use Rattle.sch_frames.specs.Covered.{is_covered_code, plain_instruction}
 use Rattle.sch_word.specs.runs.Activations.{is_enter}
 use Rattle.sch_word.proofs.EntriesAhead.{entries_of as left_in}
+use Rattle.sch_word.proofs.facts.Lists.{each_at}
 use Rattle.sch_select.proofs.programs.FreeCodes.{code_parts}
-use Rattle.sch_frames.proofs.OwnWays.{passes_at}
 
 -- ---- no operation takes an entry
 
@@ -208,7 +209,7 @@ module _ (codes : List Code) (covered : list_all is_covered_code codes ≡ true)
     where
       by : (o : Option Code) → slice_get codes label ≡ o → Kept (do_known o callee depth self vs w)
       by None e = tt
-      by (Some c) e = body_kept callee keeps depth c.instructions (code_parts c (passes_at is_covered_code codes label c covered e)).plain None (beginning c.entry self vs) w p
+      by (Some c) e = body_kept callee keeps depth c.instructions (code_parts c (each_at is_covered_code codes label c covered e)).plain None (beginning c.entry self vs) w p
 
   module _ (n : ℕ) (keeps : CalleeKeeps (callee_of codes n)) where
     into_kept : (label depth : ℕ) (self : Value) (e : Entry) → entry_at (entries_of codes) label ≡ Some e → (arguments : List Value) (u : World) → P u → (k : ℕ) → u.state.store.entries ≡ k

@@ -37,7 +37,8 @@ use Rattle.sch_select_memory.specs.MakeCode.{make_vector_code, make_string_code}
 use Rattle.sch_word.specs.values.Values.{are_bytes}
 use Rattle.sch_word.specs.values.Literals.{count_literals, literals_known, literals_in_range}
 use Rattle.sch_select_data.proofs.literals.WordBytes.{word_bytes, word_bytes_length}
-use Rattle.sch_word.specs.runs.ProgramLayout.{max_text_size}
+use Rattle.sch_word.specs.runs.ProgramLayout.{max_text_size, data_address, text_address}
+use Rattle.sch_word.specs.declared.limits.TheConstants.{MAX_HEAP, MAX_DEPTH}
 use Rattle.sch_asm.specs.Stands.{marks_at}
 use Rattle.sch_select.specs.Ends.{EndsWithin}
 use Rattle.sch_select.specs.Sizes.{steps_bound}
@@ -54,6 +55,7 @@ use Rattle.sch_select.proofs.programs.EnterCounts.{counts_entries}
 use Rattle.sch_select.proofs.programs.Whole.{Starts, program_ends, program_follows, program_passes}
 use Rattle.sch_select_operations.proofs.simulation.SelectedPrograms.{form_selected, entry_selected, selects}
 use Rattle.sch_frames.specs.Covered.{is_covered_code, marks_settled}
+use Rattle.sch_frames.specs.Valid.{max_words}
 
 -- what items, with the words and the zeros of data, do of a program
 pub record IsSelected (p : Source) (heap depth : ℕ) (items : List Item) (data_words : List Word) (zeros : ℕ) : Type
@@ -107,11 +109,11 @@ values_stand setting heap_end a routines front h =
 
 -- ---- where things lie
 
-size_by : (n heap zeros : ℕ) → n + 0x10000000 ≡ heap + zeros → n ≡ heap + zeros - 0x10000000
+size_by : (n heap zeros : ℕ) → n + data_address ≡ heap + zeros → n ≡ heap + zeros - data_address
 size_by n heap zeros e = omega (arith, e)
 
-module _ (p : Source) (limit depth : ℕ) (words_few : p.words ≤ 2048) (low : heap_of p ≤ max_heap_address)
-    (limit_few : limit ≤ 1073741824) (depth_few : depth ≤ 10000000)
+module _ (p : Source) (limit depth : ℕ) (words_few : p.words ≤ max_words) (low : heap_of p ≤ max_heap_address)
+    (limit_few : limit ≤ MAX_HEAP) (depth_few : depth ≤ MAX_DEPTH)
     (stack_few : stack_bytes p.words depth ≤ max_stack + 16384)
     (texts : list_all are_bytes p.statics.symbols ≡ true) where
   abbrev globals : ℕ
@@ -140,7 +142,7 @@ module _ (p : Source) (limit depth : ℕ) (words_few : p.words ≤ 2048) (low : 
   plan_of : (setting : Setting) → ((l : ℕ) → setting.place_of l < 2 ^ 31) → Plan
   plan_of setting labels = record {
     setting = setting;
-    size = heap_of p + program_zeros p limit depth - 0x10000000;
+    size = heap_of p + program_zeros p limit depth - data_address;
     words = p.words;
     literals = literals;
     globals = globals;
@@ -164,12 +166,12 @@ module _ (p : Source) (limit depth : ℕ) (words_few : p.words ≤ 2048) (low : 
   -- A text that the items and the routines resolve to does what the program does, in few steps, and passes its marks.
   record Done (bytes : List ℕ) (code : List Insn) (marks : List mark.Mark) : Type 0 where
     follows : (runs : List Answer → ℕ → Run) → AreRuns p limit depth runs
-        → FollowsRuns 0x400000 (text_at (flat_map spelling code) ∷ data_at
+        → FollowsRuns text_address (text_at (flat_map spelling code) ∷ data_at
         (bytes ++ replicate (program_zeros p limit depth) 0) ∷ []) runs
     ends : (runs : List Answer → ℕ → Run) → AreRuns p limit depth runs
-        → EndsWithin 0x400000 (text_at (flat_map spelling code) ∷ data_at
+        → EndsWithin text_address (text_at (flat_map spelling code) ∷ data_at
         (bytes ++ replicate (program_zeros p limit depth) 0) ∷ []) runs (steps_bound p)
-    passes : PassesMarks 0x400000 (text_at (flat_map spelling code) ∷ data_at
+    passes : PassesMarks text_address (text_at (flat_map spelling code) ∷ data_at
         (bytes ++ replicate (program_zeros p limit depth) 0) ∷ []) (marks_at marks) (marks_passed p limit depth)
 
   module _ (selected : selects p ≡ true) (covered : list_all is_covered_code p.bodies ≡ true)
@@ -190,7 +192,7 @@ module _ (p : Source) (limit depth : ℕ) (words_few : p.words ≤ 2048) (low : 
         let j = joined (program_code p limit depth) routines (program_words p) code marks words r valid small arrive
         arrive' in
         let setting = setting_of (text_at (flat_map spelling code)) r.place_of marks j.apart in
-        let stand = stands_wide setting (selected_code p limit depth) [] 0x400000 j.first in
+        let stand = stands_wide setting (selected_code p limit depth) [] text_address j.first in
         let plan = plan_of setting r.small in
         let zeros = program_zeros p limit depth in
         let heap_end = heap_of p + limit in
@@ -257,7 +259,7 @@ module _ (p : Source) (limit depth : ℕ) (words_few : p.words ≤ 2048) (low : 
       enters = record {
         enters = λ routines code marks words front effective arrive arrive' r valid small runs are.
             let d = done routines code marks words front effective arrive arrive' r valid small in
-            counts_entries p limit depth covered 0x400000
+            counts_entries p limit depth covered text_address
             (text_at (flat_map spelling code) ∷ data_at (words ++ replicate (program_zeros p limit depth) 0) ∷ [])
             (marks_at marks) runs d.passes (d.follows runs are) are;
       };

@@ -14,7 +14,7 @@ use Rattle.sch_word.specs.runs.Store.{Store}
 use Rattle.sch_word.specs.runs.Stops.{status_of}
 use Rattle.sch_word.specs.runs.Computation.{Outcome, State, gives, stops, spent, in_store, require, take_entry, taken, with_rest}
 use Rattle.sch_control.specs.declared.body.Entry.{Entry}
-use Rattle.sch_control.specs.Operations.{Procedure}
+use Rattle.sch_word.specs.runs.Procedures.{Procedure}
 use Rattle.sch_control.specs.Meaning.{World, Result, Callee, marked, on_outcome}
 use Rattle.sch_control.specs.Run.{enter, enter_body, entry_at}
 use Rattle.sch_control.specs.CoveredOperands.{is_form}
@@ -32,7 +32,7 @@ use Rattle.sch_asm.specs.declared.item.Item.{Item}
 use Rattle.sch_asm.specs.declared.item.Item.TheVariants as item
 use Rattle.sch_word.specs.declared.mark.MarkKind.{MarkKind}
 use Rattle.sch_word.specs.declared.mark.MarkKind.TheVariants.{Enter}
-use Rattle.sch_frames.proofs.OwnWays.{passes_at}
+use Rattle.sch_word.proofs.facts.Lists.{each_at}
 use Rattle.sch_asm.specs.Stands.{Stands}
 use Rattle.sch_asm.specs.Data.{word_in}
 use Rattle.sch_asm.specs.Views.{View, Leads, full}
@@ -48,7 +48,7 @@ use Rattle.sch_select_operations.specs.CallCode.{check_count}
 use Rattle.sch_select_memory.specs.Addresses.{stop_label}
 use Rattle.sch_select_memory.proofs.Straight.{Halts}
 use Rattle.sch_select_memory.proofs.Places.{Plan, code_of, Activation, StoreAt, PlacesAt}
-use Rattle.sch_select_memory.proofs.simulation.Outcomes.{Ends, Goes_on, Lands, Sim, Laid, after, ends_after}
+use Rattle.sch_select_memory.proofs.simulation.Outcomes.{Ends, Goes_on, Lands, Sim, Laid, after, ends_after, no_entries}
 use Rattle.sch_select_memory.proofs.simulation.Outcomes.{goes_on_after, stops_here, paid}
 use Rattle.sch_select_memory.proofs.simulation.ProcedureEntries.{Enters}
 use Rattle.sch_select.proofs.programs.Bodies.{body_cost, body_sim}
@@ -169,20 +169,6 @@ module _ (plan : Plan) (body_steps : ℕ) (laid : Laid plan body_steps) where
     abbrev callee : ℕ → Callee
     callee n = enter (entry_at (entries_of codes)) (bodies_of codes) n
 
-    no_entries : (before : List MarkKind) (w : World) (x : View) → x.output ≡ w.state.store.output
-        → w.marks ≡ before → w.state.store.entries ≡ 0 → Goes_on plan body_steps before w.state.store x w
-    no_entries before w x printed m none = record {
-      last = x;
-      events = [];
-      least = 0;
-      steps = 0;
-      ahead = [];
-      leads = leads_here setting.marks (full setting x);
-      long = omega (arith, none);
-      output_is = printed;
-      marked = m ∙ sym (append-nil before);
-    }
-
     -- a body that is entered, with one entry less to be nested in it
     module _ (n : ℕ) (enters : Enters plan body_steps (callee n) n) (act : Activation plan)
         (nested_is : act.nested ≡ suc n) (is_entered : act.entered ≡ true) (self : Value) (p : Procedure)
@@ -214,7 +200,7 @@ module _ (plan : Plan) (body_steps : ℕ) (laid : Laid plan body_steps) where
             (item.Label out ∷ b.following)
 
         kept : IsFree c
-        kept = code_parts c (passes_at is_covered_code codes p.label c covered is)
+        kept = code_parts c (each_at is_covered_code codes p.label c covered is)
 
         there : Stands setting [] x.place (count_code e.rest e.formals (out + 1) body)
         there = subst (λ a. Stands setting [] a (count_code e.rest e.formals (out + 1) body)) (sym at) b.stands
@@ -223,7 +209,7 @@ module _ (plan : Plan) (body_steps : ℕ) (laid : Laid plan body_steps) where
             × (list_all (instruction_selected words globals (length symbols) literals) c.instructions ≡ true)
         checks = and_parts (nat_le (formals_of c.entry) max_operands)
             (list_all (instruction_selected words globals (length symbols) literals) c.instructions)
-            (passes_at (form_selected words globals (length symbols) literals) codes p.label c selected is)
+            (each_at (form_selected words globals (length symbols) literals) codes p.label c selected is)
 
         formals_few : e.formals ≤ max_operands
         formals_few = leb-true e.formals max_operands (subst (λ o. nat_le (formals_of o) max_operands ≡ true) entry_of
@@ -231,7 +217,7 @@ module _ (plan : Plan) (body_steps : ℕ) (laid : Laid plan body_steps) where
 
         placed : (nat_le 1 e.formals || not e.rest) && nat_le e.formals (6 + words) ≡ true
         placed = subst (λ o. entry_selected words o ≡ true) entry_of
-            (passes_at (λ c. entry_selected words c.entry) codes p.label c entered_so is)
+            (each_at (λ c. entry_selected words c.entry) codes p.label c entered_so is)
 
         -- the body itself, with the arguments, in the state in which it begins: an entry is taken
         module _ (us : List Value) (parts' : Parts) (words' : Words parts parts') (u0 : World) (y : View) (a b' : ℕ)
@@ -406,7 +392,7 @@ module _ (plan : Plan) (body_steps : ℕ) (laid : Laid plan body_steps) where
           (sym (entry_is codes p.label)) (by_code (slice_get codes p.label) refl)
 
     pub enter_sim : (n : ℕ) → Enters plan body_steps (callee n) n
-    enter_sim zero act nested_is en self p vs parts before w x at counted small many pl g m = λ few. no_entries before w x
-        g.printed m (omega (arith, few, nested_is))
+    enter_sim zero act nested_is en self p vs parts before w x at counted small many pl g m = λ few. no_entries plan body_steps before
+        [] w x g.printed (m ∙ sym (append-nil before)) (omega (arith, few, nested_is))
     enter_sim (suc n) act nested_is en self p vs parts before w x at counted small many pl g m = entered n (enter_sim n)
         act nested_is en self p vs parts before w x at counted small many pl g m

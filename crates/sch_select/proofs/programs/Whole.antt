@@ -12,7 +12,8 @@ use Rattle.sch_word.proofs.values.LiteralObjects.{literal_values_length}
 use Rattle.sch_word.specs.runs.Computation.{gives, stops, spent}
 use Rattle.sch_word.specs.runs.Runs.{Run, ended, going, run_with, starting_store, starting_value, starting_values}
 use Rattle.sch_control.specs.Meaning.{World, Result, Callee}
-use Rattle.sch_control.specs.Run.{seen_of, do_forms, enter, entry_at, starting_world, library_procedures}
+use Rattle.sch_control.specs.Run.{seen_of, do_forms, enter, entry_at, starting_world}
+use Rattle.sch_word.specs.runs.Procedures.{library_procedures}
 use Rattle.sch_control.specs.declared.body.Entry.{Entry}
 use Rattle.sch_frames.specs.Tree.{Code, Source}
 use Rattle.sch_frames.specs.Run.{bodies_of, entries_of}
@@ -32,12 +33,14 @@ use Rattle.sch_asm.specs.Stands.{Stands}
 use Rattle.sch_asm.specs.Data.{data_at, word_in}
 use Rattle.sch_asm.specs.Views.{View, Leads, full}
 use Rattle.sch_asm.proofs.EachItem.{goes}
+use Rattle.sch_asm.specs.Effects.{own_size}
 use Rattle.sch_select_memory.specs.Parts.{Parts, end_of}
 use Rattle.sch_select_memory.specs.Encoded.{IsWord, IsHeld}
 use Rattle.sch_select_memory.specs.Heap.{HeapAt, AreNew}
 use Rattle.sch_select_memory.specs.Addresses.{table_address, literal_address, global_address, names_address}
 use Rattle.sch_select.specs.Program.{own_label, forms_code}
 use Rattle.sch_word.specs.declared.mark.MarkKind.{MarkKind}
+use Rattle.sch_word.specs.runs.ProgramLayout.{data_address, text_address}
 use Rattle.sch_select.specs.Ends.{EndsWithin}
 use Rattle.sch_select.specs.Sizes.{steps_bound}
 use Rattle.sch_select.proofs.programs.Steps.{steps_within}
@@ -74,7 +77,7 @@ values_count (g ∷ gs) = ap suc (values_count gs)
 module _ (plan : Plan) (body_steps : ℕ) (laid : Laid plan body_steps) (depth : ℕ) (room : Room plan plan.stack depth) where
   open plan use {setting, size, words, literals, globals, symbols, names, closures, heap, stack, static, labels}
 
-  -- RBP, R12 and R13 are set, and the forms follow
+  -- the registers of the frame, the heap and the depth are set, and the forms follow
   abbrev pub started : List Item → List Item
   started rest = item.Plain (MovWord 5 (pos stack)) ∷
       (item.Plain (MovWord 12 (pos heap)) ∷ (item.Plain (MovWord 13 (pos depth)) ∷ rest))
@@ -205,7 +208,7 @@ module _ (plan : Plan) (body_steps : ℕ) (laid : Laid plan body_steps) (depth :
   -- the data of a program at its start, with the records of the library's procedures
   pub record Starts (parts : Parts) (p : Source) (limit : ℕ) (bytes : List ℕ) : Type 0 where
     pub size_is : length bytes ≡ size
-    pub texts : take 288 (drop 512 bytes) ≡ static
+    pub texts : take 288 (drop own_size bytes) ≡ static
     pub table : word_in bytes table_address ≡ names_address literals globals
     pub literal_count : count_literals p.statics.literals ≡ literals
     pub literal : (n : ℕ) (v : Value) → slice_get (literal_values p.statics.literals 0) n ≡ Some v
@@ -215,7 +218,7 @@ module _ (plan : Plan) (body_steps : ℕ) (laid : Laid plan body_steps) (depth :
         → IsHeld parts (starting_value o) (word_in bytes (global_address literals g))
     pub symbols_are : p.statics.symbols ≡ symbols
     pub known : parts.symbols ≡ length symbols
-    pub names_are : take (length names) (drop (names_address literals globals - 0x10000000) bytes) ≡ names
+    pub names_are : take (length names) (drop (names_address literals globals - data_address) bytes) ≡ names
     pub first : 16 * parts.first ≡ closures
     pub next : 16 * end_of parts ≡ heap
     pub limited : heap + limit ≡ stack
@@ -227,7 +230,7 @@ module _ (plan : Plan) (body_steps : ℕ) (laid : Laid plan body_steps) (depth :
       (covered : list_all is_covered_code p.bodies ≡ true)
       (entered_so : list_all (λ c. entry_selected words c.entry) p.bodies ≡ true)
       (short : bodies_cost p.bodies ≤ body_steps)
-      (h : Stands setting [] 0x400000
+      (h : Stands setting [] text_address
       (started (forms_code words stack literals 0 (own_label p) p.bodies (item.Jump (label_of routine.End) ∷ rest))))
       (s : Starts parts p limit bytes) where
     stood : (label : ℕ) (c : Code) (e : Entry) → slice_get p.bodies label ≡ Some c → c.entry ≡ Some e
@@ -248,7 +251,7 @@ module _ (plan : Plan) (body_steps : ℕ) (laid : Laid plan body_steps) (depth :
     first g answers = record {
       registers = g.registers;
       flags = g.flags;
-      place = 0x400000;
+      place = text_address;
       bytes = bytes;
       output = [];
       answers = answers;
@@ -259,7 +262,7 @@ module _ (plan : Plan) (body_steps : ℕ) (laid : Laid plan body_steps) (depth :
     ready g answers = record (first g answers) {
       registers = set_register
           (set_register (set_register g.registers 5 stack) 12 heap) 13 depth;
-      place = 0x400000 + h.0 + h.2.0 + h.2.2.0;
+      place = text_address + h.0 + h.2.0 + h.2.2.0;
     }
 
     abbrev outcome : List Answer → ℕ → Result
@@ -308,14 +311,14 @@ module _ (plan : Plan) (body_steps : ℕ) (laid : Laid plan body_steps) (depth :
         (record { parts = parts; frame = refl; deep = refl; few = omega arith; free = free; world = world }) refl
 
     pub program_follows : (runs : List Answer → ℕ → Run) → AreRuns p limit depth runs
-        → FollowsRuns 0x400000 (setting.text ∷ data_at bytes ∷ []) runs
-    program_follows runs r = follows 0x400000 (setting.text ∷ data_at bytes ∷ []) runs (λ g answers n.
+        → FollowsRuns text_address (setting.text ∷ data_at bytes ∷ []) runs
+    program_follows runs r = follows text_address (setting.text ∷ data_at bytes ∷ []) runs (λ g answers n.
         seen_does p n (callee n) (enters n) (starting_store p.statics limit answers n) (first g answers)
         (ready g answers) (forms_cost p.bodies) answers (outcome answers n) (runs answers n) refl
         (gets_ready g answers) (forms_done g answers n) (r.are answers n))
 
     pub program_ends : bodies_cost p.bodies ≡ body_steps → (runs : List Answer → ℕ → Run) → AreRuns p limit depth runs
-        → EndsWithin 0x400000 (setting.text ∷ data_at bytes ∷ []) runs (steps_bound p)
+        → EndsWithin text_address (setting.text ∷ data_at bytes ∷ []) runs (steps_bound p)
     program_ends all runs r = record {
       within = λ g answers n status e.
           ends_does p n (callee n) (enters n) all (starting_store p.statics limit answers n) (first g answers)
@@ -323,7 +326,7 @@ module _ (plan : Plan) (body_steps : ℕ) (laid : Laid plan body_steps) (depth :
           (forms_done g answers n) (r.are answers n) status e;
     }
 
-    pub program_passes : PassesMarks 0x400000 (setting.text ∷ data_at bytes ∷ []) setting.marks
+    pub program_passes : PassesMarks text_address (setting.text ∷ data_at bytes ∷ []) setting.marks
         (marks_passed p limit depth)
     program_passes = record {
       along = λ g answers m marks e. (traces setting.marks (full setting (first g answers)) m marks

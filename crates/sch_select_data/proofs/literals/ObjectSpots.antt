@@ -6,20 +6,20 @@ use Rattle.std.proofs.lemmas.Option.{same_Some}
 use Rattle.sch_word.specs.values.Values.{Object, pair, vector, string}
 use Rattle.sch_word.specs.values.PrimitiveRows.{is_pair, is_vector, is_string}
 use Rattle.sch_select_memory.specs.Parts.{Owner, a_procedure, a_cell, a_pair, a_vector, a_string, same_owner, Part, Parts, units, Spot, spot_from}
-use Rattle.sch_select_memory.specs.Heap.{AreKinds}
+use Rattle.sch_select_memory.specs.Heap.{AreKinds, owner_of}
 use Rattle.sch_select_memory.proofs.heap.Spots.{found_first, found_behind}
-use Rattle.sch_select_data.specs.ObjectParts.{object_owner, object_more, object_part, object_parts, parts_at, AreSpotted, is_no_object, have_no_object}
+use Rattle.sch_select_data.specs.ObjectParts.{object_more, object_part, object_parts, parts_at, AreSpotted, is_no_object, have_no_object}
 
 -- ---- the first part, and those behind it
 
 -- ---- each object has its part
 
-same_itself : (n : ℕ) (o : Object) → same_owner (object_owner n o) (object_owner n o) ≡ true
+same_itself : (n : ℕ) (o : Object) → same_owner (owner_of n o) (owner_of n o) ≡ true
 same_itself n (pair a d) = eq-eqb n n refl
 same_itself n (vector es) = eq-eqb n n refl
 same_itself n (string bytes) = eq-eqb n n refl
 
-other_number : (m n : ℕ) (x o : Object) → (m ≡ n → ⊥) → same_owner (object_owner m x) (object_owner n o) ≡ false
+other_number : (m n : ℕ) (x o : Object) → (m ≡ n → ⊥) → same_owner (owner_of m x) (owner_of n o) ≡ false
 other_number m n (pair a d) (pair b e) ne = ne_eqb m n ne
 other_number m n (pair a d) (vector es) ne = refl
 other_number m n (pair a d) (string bytes) ne = refl
@@ -31,23 +31,23 @@ other_number m n (string bytes) (vector es) ne = refl
 other_number m n (string bytes) (string more) ne = ne_eqb m n ne
 
 pub object_spot : (unit m : ℕ) (objects : List Object) (k : ℕ) (o : Object) → slice_get objects k ≡ Some o
-    → spot_from unit (object_parts m objects) (object_owner (m + k) o) ≡ Some (record { unit = unit + units (object_parts m (take k objects)); more = object_more o })
+    → spot_from unit (object_parts m objects) (owner_of (m + k) o) ≡ Some (record { unit = unit + units (object_parts m (take k objects)); more = object_more o })
 object_spot unit m [] k o e = absurd (let bad : None ≡ Some o = e in cc)
 object_spot unit m (x ∷ xs) zero o e =
     let same : x ≡ o = same_Some x o e in
     let n : m + 0 ≡ m = omega arith in
     let u : unit ≡ unit + 0 = omega arith in
-    ap (λ n. spot_from unit (object_parts m (x ∷ xs)) (object_owner n o)) n
-    ∙ ap (λ y. spot_from unit (object_parts m (x ∷ xs)) (object_owner m y)) (sym same)
-    ∙ found_first unit (object_part m x) (object_parts (suc m) xs) (object_owner m x) (same_itself m x)
+    ap (λ n. spot_from unit (object_parts m (x ∷ xs)) (owner_of n o)) n
+    ∙ ap (λ y. spot_from unit (object_parts m (x ∷ xs)) (owner_of m y)) (sym same)
+    ∙ found_first unit (object_part m x) (object_parts (suc m) xs) (owner_of m x) (same_itself m x)
     ∙ ap (λ y. Some (record { unit = unit; more = object_more y })) same
     ∙ ap (λ u. Some (record { unit = u; more = object_more o })) u
 object_spot unit m (x ∷ xs) (suc k) o e =
     let other = other_number m (m + suc k) x o (λ s. omega (arith, s)) in
     let n : m + suc k ≡ suc m + k = omega arith in
     let u : unit + suc (object_more x) + units (object_parts (suc m) (take k xs)) ≡ unit + units (object_parts m (x ∷ take k xs)) = omega arith in
-    found_behind unit (object_part m x) (object_parts (suc m) xs) (object_owner (m + suc k) o) other
-    ∙ ap (λ n. spot_from (unit + suc (object_more x)) (object_parts (suc m) xs) (object_owner n o)) n
+    found_behind unit (object_part m x) (object_parts (suc m) xs) (owner_of (m + suc k) o) other
+    ∙ ap (λ n. spot_from (unit + suc (object_more x)) (object_parts (suc m) xs) (owner_of n o)) n
     ∙ object_spot (unit + suc (object_more x)) (suc m) xs k o e
     ∙ ap (λ u. Some (record { unit = u; more = object_more o })) u
 
@@ -61,31 +61,31 @@ units_within m (x ∷ xs) (suc k) o e = let h = units_within (suc m) xs k o e in
 -- ---- each part is an object's
 
 pub part_owner : (unit m : ℕ) (objects : List Object) (w : Owner) (at : Spot) → spot_from unit (object_parts m objects) w ≡ Some at
-    → (k : ℕ) × (o : Object) × (slice_get objects k ≡ Some o) × (same_owner (object_owner (m + k) o) w ≡ true)
+    → (k : ℕ) × (o : Object) × (slice_get objects k ≡ Some o) × (same_owner (owner_of (m + k) o) w ≡ true)
 part_owner unit m [] w at e = absurd (let bad : None ≡ Some at = e in cc)
-part_owner unit m (x ∷ xs) w at e = by (same_owner (object_owner m x) w) refl (part_owner (unit + suc (object_more x)) (suc m) xs w at)
+part_owner unit m (x ∷ xs) w at e = by (same_owner (owner_of m x) w) refl (part_owner (unit + suc (object_more x)) (suc m) xs w at)
   where
-    by : (b : Bool) → same_owner (object_owner m x) w ≡ b
-        → (spot_from (unit + suc (object_more x)) (object_parts (suc m) xs) w ≡ Some at → (k : ℕ) × (o : Object) × (slice_get xs k ≡ Some o) × (same_owner (object_owner (suc m + k) o) w ≡ true))
-        → (k : ℕ) × (o : Object) × (slice_get (x ∷ xs) k ≡ Some o) × (same_owner (object_owner (m + k) o) w ≡ true)
-    by true s behind = let n : m ≡ m + 0 = omega arith in (zero, x, refl, subst (λ n. same_owner (object_owner n x) w ≡ true) n s)
+    by : (b : Bool) → same_owner (owner_of m x) w ≡ b
+        → (spot_from (unit + suc (object_more x)) (object_parts (suc m) xs) w ≡ Some at → (k : ℕ) × (o : Object) × (slice_get xs k ≡ Some o) × (same_owner (owner_of (suc m + k) o) w ≡ true))
+        → (k : ℕ) × (o : Object) × (slice_get (x ∷ xs) k ≡ Some o) × (same_owner (owner_of (m + k) o) w ≡ true)
+    by true s behind = let n : m ≡ m + 0 = omega arith in (zero, x, refl, subst (λ n. same_owner (owner_of n x) w ≡ true) n s)
     by false s behind =
         let r = behind (sym (found_behind unit (object_part m x) (object_parts (suc m) xs) w s) ∙ e) in
         let n : suc m + r.0 ≡ m + suc r.0 = omega arith in
-        (suc r.0, r.1, r.2, subst (λ n. same_owner (object_owner n r.1) w ≡ true) n r.3)
+        (suc r.0, r.1, r.2, subst (λ n. same_owner (owner_of n r.1) w ≡ true) n r.3)
 
 module _ (first : ℕ) (objects : List Object) where
-  own_pair : (n k : ℕ) (o : Object) → slice_get objects k ≡ Some o → same_owner (object_owner (0 + k) o) (a_pair n) ≡ true → is_pair (slice_get objects n) ≡ true
+  own_pair : (n k : ℕ) (o : Object) → slice_get objects k ≡ Some o → same_owner (owner_of (0 + k) o) (a_pair n) ≡ true → is_pair (slice_get objects n) ≡ true
   own_pair n k (pair a d) e s = let same : k ≡ n = let h = eqb-true (0 + k) n s in omega (arith, h) in subst (λ k. is_pair (slice_get objects k) ≡ true) same (ap is_pair e)
   own_pair n k (vector es) e s = absurd (let bad : false ≡ true = s in cc)
   own_pair n k (string bytes) e s = absurd (let bad : false ≡ true = s in cc)
 
-  own_vector : (n k : ℕ) (o : Object) → slice_get objects k ≡ Some o → same_owner (object_owner (0 + k) o) (a_vector n) ≡ true → is_vector (slice_get objects n) ≡ true
+  own_vector : (n k : ℕ) (o : Object) → slice_get objects k ≡ Some o → same_owner (owner_of (0 + k) o) (a_vector n) ≡ true → is_vector (slice_get objects n) ≡ true
   own_vector n k (pair a d) e s = absurd (let bad : false ≡ true = s in cc)
   own_vector n k (vector es) e s = let same : k ≡ n = let h = eqb-true (0 + k) n s in omega (arith, h) in subst (λ k. is_vector (slice_get objects k) ≡ true) same (ap is_vector e)
   own_vector n k (string bytes) e s = absurd (let bad : false ≡ true = s in cc)
 
-  own_string : (n k : ℕ) (o : Object) → slice_get objects k ≡ Some o → same_owner (object_owner (0 + k) o) (a_string n) ≡ true → is_string (slice_get objects n) ≡ true
+  own_string : (n k : ℕ) (o : Object) → slice_get objects k ≡ Some o → same_owner (owner_of (0 + k) o) (a_string n) ≡ true → is_string (slice_get objects n) ≡ true
   own_string n k (pair a d) e s = absurd (let bad : false ≡ true = s in cc)
   own_string n k (vector es) e s = absurd (let bad : false ≡ true = s in cc)
   own_string n k (string bytes) e s = let same : k ≡ n = let h = eqb-true (0 + k) n s in omega (arith, h) in subst (λ k. is_string (slice_get objects k) ≡ true) same (ap is_string e)
@@ -161,7 +161,7 @@ spotted_behind symbols first front objects h = record {
 
 -- ---- procedures and cells
 
-no_object_here : (n : ℕ) (x : Object) (o : Owner) → is_no_object o ≡ true → same_owner (object_owner n x) o ≡ false
+no_object_here : (n : ℕ) (x : Object) (o : Owner) → is_no_object o ≡ true → same_owner (owner_of n x) o ≡ false
 no_object_here n (pair a d) (a_procedure k) h = refl
 no_object_here n (pair a d) (a_cell k) h = refl
 no_object_here n (vector es) (a_procedure k) h = refl

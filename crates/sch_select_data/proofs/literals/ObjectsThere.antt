@@ -21,9 +21,9 @@ use Rattle.sch_asm.specs.Data.{word_in, PieceAt}
 use Rattle.sch_asm.proofs.Pieces.{piece_later}
 use Rattle.sch_select_memory.specs.Parts.{Part, Parts, units, spot}
 use Rattle.sch_select_memory.specs.Encoded.{max_symbols, NamesObject, IsWord}
-use Rattle.sch_select_memory.specs.Heap.{ObjectAt, AreKinds}
+use Rattle.sch_select_memory.specs.Heap.{ObjectAt, AreKinds, owner_of}
 use Rattle.sch_select_memory.proofs.heap.Encodings.{fits, constant_word}
-use Rattle.sch_select_data.specs.ObjectParts.{have_no_object, object_owner, object_more, object_parts, parts_at, AreSpotted}
+use Rattle.sch_select_data.specs.ObjectParts.{have_no_object, object_more, object_parts, parts_at, AreSpotted}
 use Rattle.sch_select_data.specs.ObjectWords.{object_word, value_word, text_words, in_units, object_contents, objects_contents, objects_words}
 use Rattle.sch_select_data.proofs.literals.ObjectSpots.{units_within, spotted_kinds, spotted_behind}
 use Rattle.sch_select_data.proofs.literals.OwnWords.{spot_of, pair_word, vector_word, string_word}
@@ -83,7 +83,7 @@ filled (a ∷ []) = (0 ∷ [], refl)
 filled (a ∷ (b ∷ ws)) = let r = filled ws in (r.0, ap (λ l. a ∷ (b ∷ l)) r.1)
 
 text_at : (bytes : List ℕ) (unit : ℕ) (text : List ℕ) → PieceAt bytes (16 * unit) (word_bytes (in_units (8 * length text ∷ text_words ((length text + 7) / 8) text))) → are_bytes text ≡ true
-    → take (length text) (drop (16 * unit + 8 - 0x10000000) bytes) ≡ text
+    → take (length text) (drop (16 * unit + 8 - data_address) bytes) ≡ text
 text_at bytes unit text at h =
     let count = (length text + 7) / 8 in
     let words = text_words count text in
@@ -151,7 +151,7 @@ module _ (parts : Parts) (first : ℕ) (objects : List Object) (spotted : AreSpo
   -- ---- objects
 
   object_at : (bytes : List ℕ) (unit n : ℕ) (o : Object) → Holds parts.symbols (length objects) o → PieceAt bytes (16 * unit) (word_bytes (object_contents (parts_at first objects) o))
-      → spot parts (object_owner n o) ≡ Some (record { unit = unit; more = object_more o }) → 16 * unit + 16 * suc (object_more o) ≤ 2 ^ 31 → ObjectAt parts bytes n o
+      → spot parts (owner_of n o) ≡ Some (record { unit = unit; more = object_more o }) → 16 * unit + 16 * suc (object_more o) ≤ 2 ^ 31 → ObjectAt parts bytes n o
   object_at bytes unit n (pair a d) h at s le = record {
     at = record { unit = unit; more = object_more (pair a d) };
     there = s;
@@ -191,7 +191,7 @@ module _ (parts : Parts) (first : ℕ) (objects : List Object) (spotted : AreSpo
         are_bytes = h;
       }
 
-  spot_in : (n : ℕ) (o : Object) → slice_get objects n ≡ Some o → spot parts (object_owner n o) ≡ Some (record { unit = first + units (object_parts 0 (take n objects)); more = object_more o })
+  spot_in : (n : ℕ) (o : Object) → slice_get objects n ≡ Some o → spot parts (owner_of n o) ≡ Some (record { unit = first + units (object_parts 0 (take n objects)); more = object_more o })
   spot_in n (pair a d) e = spotted.pairs n ∙ spot_of first objects n (pair a d) e
   spot_in n (vector es) e = spotted.vectors n ∙ spot_of first objects n (vector es) e
   spot_in n (string text) e = spotted.strings n ∙ spot_of first objects n (string text) e

@@ -5,7 +5,8 @@ use Rattle.sch_word.specs.values.Values.{Value, Object, pair, vector, string}
 use Rattle.sch_word.specs.values.PrimitiveRows.{is_pair, is_vector}
 use Rattle.sch_select_memory.specs.Parts.{Owner, a_pair, a_vector, a_string, Parts, units, Spot, spot_from, spot}
 use Rattle.sch_select_memory.specs.Encoded.{pair_tag, vector_tag, string_tag}
-use Rattle.sch_select_data.specs.ObjectParts.{object_owner, object_more, object_parts, parts_at}
+use Rattle.sch_select_memory.specs.Heap.{owner_of}
+use Rattle.sch_select_data.specs.ObjectParts.{object_more, object_parts, parts_at}
 use Rattle.sch_select_data.specs.ObjectWords.{word_at_spot, object_word}
 use Rattle.sch_select_data.proofs.literals.ObjectSpots.{object_spot, own_kinds}
 
@@ -19,8 +20,8 @@ absent parts o none = by (spot parts o) refl
 
 module _ (first : ℕ) (objects : List Object) where
   pub spot_of : (n : ℕ) (o : Object) → slice_get objects n ≡ Some o
-      → spot (parts_at first objects) (object_owner n o) ≡ Some (record { unit = first + units (object_parts 0 (take n objects)); more = object_more o })
-  spot_of n o e = let z : 0 + n ≡ n = omega arith in ap (λ n. spot_from first (object_parts 0 objects) (object_owner n o)) (sym z) ∙ object_spot first 0 objects n o e
+      → spot (parts_at first objects) (owner_of n o) ≡ Some (record { unit = first + units (object_parts 0 (take n objects)); more = object_more o })
+  spot_of n o e = let z : 0 + n ≡ n = omega arith in ap (λ n. spot_from first (object_parts 0 objects) (owner_of n o)) (sym z) ∙ object_spot first 0 objects n o e
 
   no_pair : (n : ℕ) → is_pair (slice_get objects n) ≡ false → spot (parts_at first objects) (a_pair n) ≡ None
   no_pair n h = absent (parts_at first objects) (a_pair n) (λ at e. let g = (own_kinds first objects).pairs n at e in let bad : false ≡ true = sym h ∙ g in absurd cc)

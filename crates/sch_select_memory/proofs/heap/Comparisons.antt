@@ -1,7 +1,7 @@
 -- The flags of a comparison of two fixnums' words: each condition of signed numbers tests what its name says.
 use Rattle.std.proofs.Common.{◌≡◌, ℕ, Bool, true, false, Some, refl, sym, ap, ◌∙◌, arith, ⊎_elim, ◌&&◌}
 use Rattle.std.specs.Prelude.{ℤ, pos, negsuc, ◌≤ℤ◌, ◌<ℤ◌, not, ◌||◌, ◌==◌, int_lt, int_le}
-use Rattle.std.proofs.lemmas.Bool.{cases_lt, ne_eqb}
+use Rattle.std.proofs.lemmas.Bool.{cases_lt, ne_eqb, and_right}
 use Rattle.std.proofs.Common.{eq-eqb}
 use Rattle.std.proofs.lemmas.Int.{ints}
 use Rattle.sch_insn.specs.Machine.{is_negative, differ, sub64, difference_of, condition, test_of}
@@ -45,10 +45,6 @@ at_most_is a b = by (int_lt a b) refl
     by : (t : Bool) → int_lt a b ≡ t → int_le b a ≡ not t
     by true e = is_above b a (omega (arith, ints))
     by false e = is_at_most b a (omega (arith, ints))
-
-and_false : (s t : Bool) → t ≡ false → (s && t) ≡ false
-and_false true t e = e
-and_false false t e = refl
 
 or_true : (s : Bool) → ((true && s) || true) ≡ true
 or_true true = refl
@@ -155,7 +151,7 @@ module _ (a b : ℤ) (x y : ℕ) (u : FixnumWord a x) (v : FixnumWord b y) where
           let less : int_le b a ≡ false = at_most_is a b ∙ ap not e in
           let fx = u.fits in let fy = v.fits in
           ne_eqb (sub64 x y) 0 (λ z. let same : a ≡ b = same_numbers.0 (omega (arith, z, fx, fy)) in absurd (omega (arith, ints, e, same)))
-          ∙ sym (and_false (int_le a b) (int_le b a) less)
+          ∙ sym (and_right (int_le a b) (int_le b a) less)
       by false true e f =
           let more : int_le a b ≡ false = at_most_is b a ∙ ap not f in
           let fx = u.fits in let fy = v.fits in

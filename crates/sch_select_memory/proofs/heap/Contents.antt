@@ -6,8 +6,9 @@ use Rattle.std.proofs.lemmas.Bool.{eqb-true, eqb-false, cases_lt, ne_eqb}
 use Rattle.std.proofs.lemmas.Option.{slice_get_within}
 use Rattle.sch_word.specs.values.Values.{Value, fixnum, character, boolean, nil, unspecified, symbol, object, procedure, cell, Object, pair, vector, string}
 use Rattle.sch_word.specs.values.PrimitiveRows.{is_pair, is_vector, is_string}
-use Rattle.sch_word.proofs.facts.Lists.{set_here, set_elsewhere, get_front, get_behind}
-use Rattle.sch_control.specs.Operations.{Procedure}
+use Rattle.sch_word.proofs.facts.Lists.{set_here, set_elsewhere, get_front, get_behind, get_grown}
+use Rattle.sch_word.specs.runs.Procedures.{Procedure}
+use Rattle.sch_word.specs.runs.ProgramLayout.{data_address}
 use Rattle.sch_asm.specs.Data.{Inside, word_in, with_word}
 use Rattle.sch_asm.proofs.Words.{word_same}
 use Rattle.sch_select_memory.specs.Parts.{Owner, a_procedure, a_cell, a_pair, a_vector, a_string, same_owner, Part, Parts, end_of, Spot, spot, grown}
@@ -213,7 +214,7 @@ heap_grows code_of parts others cells procedures objects bytes none h =
 -- ---- more objects, whose parts are filled
 
 pub objects_stay : (objects more : List Object) → StayObjects objects (objects ++ more)
-objects_stay objects more n o e = get_front objects more n (slice_get_within objects n o e) ∙ e
+objects_stay objects more n o e = get_grown objects more n o e
 
 -- ---- more cells, and more procedures, whose parts are filled
 
@@ -242,13 +243,24 @@ procedures_added code_of parts cells procedures made objects bytes filled h =
 -- ---- one word of a part is written
 
 -- a part of another owner
-other_part : (parts : Parts) (o w : Owner) (s t : Spot) (bytes : List ℕ) (a v : ℕ) → spot parts o ≡ Some s → spot parts w ≡ Some t → same_owner o w ≡ false → 0x10000000 ≤ 16 * parts.first
+other_part : (parts : Parts) (o w : Owner) (s t : Spot) (bytes : List ℕ) (a v : ℕ) → spot parts o ≡ Some s → spot parts w ≡ Some t → same_owner o w ≡ false → data_address ≤ 16 * parts.first
     → Inside (length bytes) a → 16 * t.unit ≤ a → a + 8 ≤ 16 * t.unit + 16 * suc t.more
     → BytesStay (16 * s.unit) (16 * s.unit + 16 * suc s.more) bytes (with_word bytes a v)
 other_part parts o w s t bytes a v e f other low within lo hi b n from to =
     let first = (spot_within parts o s e).0 in
     piece_beside bytes a v b n within (omega (arith, low, first, from))
     (⊎_elim (λ le. inl (omega (arith, le, lo, to))) (λ le. inr (omega (arith, le, hi, from))) (spots_apart parts o w s t e f other))
+
+-- an object is no cell and no procedure
+pub object_no_cell : (n k : ℕ) (o : Object) → same_owner (owner_of n o) (a_cell k) ≡ false
+object_no_cell n k (pair a d) = refl
+object_no_cell n k (vector vs) = refl
+object_no_cell n k (string bs) = refl
+
+pub object_no_procedure : (n k : ℕ) (o : Object) → same_owner (owner_of n o) (a_procedure k) ≡ false
+object_no_procedure n k (pair a d) = refl
+object_no_procedure n k (vector vs) = refl
+object_no_procedure n k (string bs) = refl
 
 -- what is not the owner's stays
 pub record OthersStay (code_of : ℕ → ℕ) (parts : Parts) (w : Owner) (cells : List (Option Value)) (procedures : List Procedure) (objects : List Object) (before after : List ℕ) : Type 0 where
@@ -308,13 +320,13 @@ others_stay code_of parts w cells procedures objects before after stay = record 
 -- ---- a cell is set
 
 pub cell_set : (code_of : ℕ → ℕ) (parts : Parts) (cells : List (Option Value)) (procedures : List Procedure) (objects : List Object) (bytes : List ℕ) (n : ℕ) (contents : Option Value) (at : Spot)
-    (x : ℕ) → n < length cells → spot parts (a_cell n) ≡ Some at → IsHeld parts contents x → Inside (length bytes) (16 * at.unit) → 0x10000000 ≤ 16 * parts.first
+    (x : ℕ) → n < length cells → spot parts (a_cell n) ≡ Some at → IsHeld parts contents x → Inside (length bytes) (16 * at.unit) → data_address ≤ 16 * parts.first
     → HeapAt code_of parts cells procedures objects bytes → HeapAt code_of parts (slice_set cells n contents) procedures objects (with_word bytes (16 * at.unit) x)
 cell_set code_of parts cells procedures objects bytes n contents at x lt there held within low h =
     record {
       cell = λ k c e. by k c e (k == n) refl;
       procedure = λ k p e. rest.procedure k p refl (h.procedure k p e);
-      object = λ k o e. rest.object k o (no_cell k o) (h.object k o e);
+      object = λ k o e. rest.object k o (object_no_cell k n o) (h.object k o e);
       kinds = h.kinds;
     }
   where
@@ -324,11 +336,6 @@ cell_set code_of parts cells procedures objects bytes n contents at x lt there h
     rest : OthersStay code_of parts (a_cell n) cells procedures objects bytes after
     rest = others_stay code_of parts (a_cell n) cells procedures objects bytes after
         (λ o s e other. other_part parts o (a_cell n) s at bytes (16 * at.unit) x e there other low within (omega arith) (omega arith))
-
-    no_cell : (k : ℕ) (o : Object) → same_owner (owner_of k o) (a_cell n) ≡ false
-    no_cell k (pair a d) = refl
-    no_cell k (vector vs) = refl
-    no_cell k (string bs) = refl
 
     by : (k : ℕ) (c : Option Value) → slice_get (slice_set cells n contents) k ≡ Some c → (b : Bool) → (k == n) ≡ b → CellAt parts after k c
     by k c e true b =

@@ -7,7 +7,7 @@ use Rattle.sch_word.specs.values.Values.{Value, fixnum, character, boolean, nil,
 use Rattle.sch_word.specs.values.PrimitiveRows.{is_pair, is_vector, is_string, object_at, pair_or_stop, vector_or_stop, string_or_stop}
 use Rattle.sch_word.specs.runs.Store.{Store}
 use Rattle.sch_word.specs.runs.Computation.{Action, stops}
-use Rattle.sch_control.specs.Operations.{Procedure}
+use Rattle.sch_word.specs.runs.Procedures.{Procedure}
 use Rattle.sch_select_memory.specs.Parts.{Owner, a_procedure, a_cell, a_pair, a_vector, a_string, same_owner, Parts, Spot, spot}
 use Rattle.sch_select_memory.specs.Encoded.{IsWord, Names}
 use Rattle.sch_select_memory.specs.Heap.{ObjectAt, AreKinds, HeapAt, owner_of}

@@ -15,6 +15,7 @@ use Rattle.sch_asm.specs.declared.item.Item.{Item}
 use Rattle.sch_asm.specs.Stands.{Stands}
 use Rattle.sch_asm.specs.Data.{Inside, word_in, with_word}
 use Rattle.sch_word.specs.declared.registers.TheConstants.{HEAP_REGISTER}
+use Rattle.sch_word.specs.runs.ProgramLayout.{data_address}
 use Rattle.sch_asm.specs.Effects.{is_scratch}
 use Rattle.sch_asm.specs.Views.{View, Leads}
 use Rattle.sch_asm.proofs.EachItem.{goes, branches, jumps, loads_word, stores_word, stores_number}
@@ -34,7 +35,7 @@ use Rattle.sch_select_memory.proofs.HeapWrites.{heap_inside}
 abbrev pub changed : View → (ℕ → ℕ) → Flags → (place : ℕ) → List ℕ → View
 changed x registers flags place bytes = record x { registers = registers; flags = flags; place = place; bytes = bytes }
 
--- the scratch registers and R12 are free for the routine
+-- the scratch registers and the heap's register are free for the routine
 abbrev pub is_loose : ℕ → Bool
 is_loose r = cond (r == HEAP_REGISTER) true (is_scratch r)
 
@@ -116,7 +117,7 @@ module _ (plan : Plan) (act : Activation plan) (parts : Parts) where
 
   -- ---- from one pair to the next
 
-  -- a pair is linked to the next one, where R12 goes on, and one operand less is left
+  -- a pair is linked to the next one, where the heap's register goes on, and one operand less is left
   pub record Next (x : View) (a : ℕ) (n : ℕ) (rest : List Item) : Type 0 where
     pub registers : ℕ → ℕ
     pub flags : Flags
@@ -261,7 +262,7 @@ module _ (plan : Plan) (act : Activation plan) (parts : Parts) where
 
     pub loop_here : (vs : List Value) (v : Value) (x : View) (a p : ℕ) → x.place ≡ setting.place_of loop_label
         → x.registers 0 ≡ suc (length vs) → length vs < 2 ^ 31 → x.registers 1 ≡ p → x.registers 12 ≡ a → stack ≤ p
-        → p + 8 * length vs ≤ 0x10000000 + size → closures ≤ a → a + 16 * length vs + 16 ≤ stack
+        → p + 8 * length vs ≤ data_address + size → closures ≤ a → a + 16 * length vs + 16 ≤ stack
         → length x.bytes ≡ size → IsWord parts v (word_in x.bytes a) → InSlots x.bytes p vs → Made x a v vs 5
     loop_here [] v x a p here left few slot at above inside low high sized hv hs = last_here v x a (next_pair (slot_pair (done_code rest))) left at low
         (omega (arith, high)) sized hv (subst (λ a. Stands setting [] a (loop_code rest)) (sym here) stands).2

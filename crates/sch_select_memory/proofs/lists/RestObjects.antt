@@ -11,7 +11,7 @@ use Rattle.sch_word.specs.values.PrimitiveRows.{is_pair}
 use Rattle.sch_word.specs.runs.Charges.{linked, list_value}
 use Rattle.sch_word.specs.runs.Computation.{State}
 use Rattle.sch_word.proofs.facts.Lists.{get_behind}
-use Rattle.sch_control.specs.Operations.{Procedure}
+use Rattle.sch_word.specs.runs.Procedures.{Procedure}
 use Rattle.sch_asm.specs.Data.{word_in}
 use Rattle.sch_select_memory.specs.Parts.{a_procedure, a_cell, a_pair, a_vector, a_string, Part, Parts, Spot, end_of, units}
 use Rattle.sch_select_memory.specs.Parts.{spot, grown}

@@ -6,7 +6,8 @@ use Rattle.sch_asm.specs.Data.{word_in}
 use Rattle.std.proofs.lemmas.Bool.{ne_eqb, cases_lt}
 use Rattle.sch_word.specs.declared.place.Place.TheVariants.{Reg, Slot}
 use Rattle.sch_word.specs.values.Values.{Value}
-use Rattle.sch_frames.specs.Meaning.{Junk, cell_of, entry_places, argument_register, argument_slot}
+use Rattle.sch_frames.specs.Meaning.{Junk, cell_of, entry_places}
+use Rattle.sch_control.specs.flow.Places.{argument_register, argument_slot, register_or_slot}
 use Rattle.sch_word.specs.values.Places.{same_place}
 use Rattle.sch_frames.proofs.FramePlaces.{slot_of}
 use Rattle.sch_asm.specs.Views.{View}
@@ -16,7 +17,7 @@ use Rattle.sch_select_memory.proofs.Places.{Plan, Activation, PlacesAt, Holds, h
 use Rattle.sch_select_memory.proofs.simulation.ProcedureEntries.{each_register}
 use Rattle.sch_select_memory.proofs.lists.RestLoop.{is_loose}
 use Rattle.sch_select_memory.proofs.lists.RestRegisters.{Listed, list_word, word_of}
-use Rattle.sch_select_memory.proofs.lists.RestRoutine.{place_by, argument_place}
+use Rattle.sch_select_memory.proofs.lists.RestRoutine.{argument_place}
 
 -- ---- arguments in front of the list, the list, and none behind it
 
@@ -60,7 +61,7 @@ other_register : (m k r : ℕ) → argument_register k ≡ Some r → (k ≡ m �
     → same_place (argument_place m) (Reg r) ≡ false
 other_register m k r e ne = by (argument_register m) refl
   where
-    by : (o : Option ℕ) → argument_register m ≡ o → same_place (place_by o (argument_slot m)) (Reg r) ≡ false
+    by : (o : Option ℕ) → argument_register m ≡ o → same_place (register_or_slot o (argument_slot m)) (Reg r) ≡ false
     by None f = refl
     by (Some q) f = ne_eqb q r
         (λ same. ne (sym (register_index k r e).0 ∙ ap index_of (sym same) ∙ (register_index m q f).0))
@@ -70,7 +71,7 @@ other_slot : (m k i : ℕ) → argument_register k ≡ None → (k ≡ m → ⊥
     → argument_slot k ≡ i → ⊥
 other_slot m k i e ne at same = by (argument_register m) refl at
   where
-    by : (o : Option ℕ) → argument_register m ≡ o → place_by o (argument_slot m) ≡ Slot i → ⊥
+    by : (o : Option ℕ) → argument_register m ≡ o → register_or_slot o (argument_slot m) ≡ Slot i → ⊥
     by (Some q) f g = absurd (let bad : Reg q ≡ Slot i = g in cc)
     by None f g =
         let j : argument_slot m ≡ i = cc in
@@ -109,8 +110,8 @@ module _ (plan : Plan) (act : Activation plan) (parts parts' : Parts) (words_sta
           (λ ge. absurd (other (omega (arith, le, ge)))) (cases_lt i (argument_slot k))) (cases_lt (argument_slot k) i)
 
       by : (o : Option ℕ) → argument_register k ≡ o
-          → word_of plan act parts (place_by o (argument_slot k)) l.registers l.bytes
-          ≡ word_of plan act parts (place_by o (argument_slot k)) x.registers x.bytes
+          → word_of plan act parts (register_or_slot o (argument_slot k)) l.registers l.bytes
+          ≡ word_of plan act parts (register_or_slot o (argument_slot k)) x.registers x.bytes
       by (Some r) e = l.kept r (register_index k r e).1 (other_register m k r e ne)
       by None e = let lo = act.room.low in l.slots (act.frame + 8 * argument_slot k) (omega (arith, lo))
           (λ i at. apart i (other_slot m k i e ne at))

@@ -7,8 +7,9 @@ use Rattle.sch_word.specs.declared.place.Place.{Place}
 use Rattle.sch_word.specs.declared.place.Place.TheVariants.{Reg, Slot}
 use Rattle.sch_word.specs.values.Values.{Value}
 use Rattle.sch_word.specs.runs.Computation.{State}
-use Rattle.sch_control.specs.Operations.{Procedure}
+use Rattle.sch_word.specs.runs.Procedures.{Procedure}
 use Rattle.sch_word.specs.values.Places.{same_place}
+use Rattle.sch_word.specs.runs.ProgramLayout.{data_address}
 use Rattle.sch_insn.specs.declared.condition.TheConstants.{NE}
 use Rattle.sch_insn.specs.declared.insn.Arg.TheVariants as arg
 use Rattle.sch_insn.specs.declared.insn.Insn.TheVariants.{MovTo, MovFrom, MovNumber, AddNumber, CmpNumber, JumpTo}
@@ -136,7 +137,7 @@ module _ (plan : Plan) (act : Activation plan) (parts : Parts) where
         → Stands setting [] x.place (registers_code m rs (slots_code rest)) → x.registers 0 ≡ suc (length vs)
         → length vs < 2 ^ 31 → x.registers 12 ≡ a → x.registers 5 ≡ act.frame → closures ≤ a
         → a + 16 * length vs + 16 ≤ stack → length x.bytes ≡ size → length vs ≤ length rs + n
-        → act.frame + 8 * n ≤ 0x10000000 + size → IsWord parts v (word_in x.bytes a)
+        → act.frame + 8 * n ≤ data_address + size → IsWord parts v (word_in x.bytes a)
         → AtPlaces rs x.registers x.bytes act.frame vs → Made plan act parts x a v vs 6
     more_here m [] out vs v x a n st left few at framed low high sized many room hv hs =
         let h = st.2 in
@@ -239,7 +240,7 @@ module _ (plan : Plan) (act : Activation plan) (parts : Parts) where
         → Stands setting [] (setting.place_of (more_label (suc m))) (registers_code (suc m) rs (slots_code rest))
         → x.registers 0 ≡ length vs → length vs < 2 ^ 31 → x.registers 12 ≡ a → x.registers 5 ≡ act.frame
         → closures ≤ a → a + 16 * length vs ≤ stack → length x.bytes ≡ size → length vs ≤ suc (length rs) + n
-        → act.frame + 8 * n ≤ 0x10000000 + size → AtPlaces (r ∷ rs) x.registers x.bytes act.frame vs
+        → act.frame + 8 * n ≤ data_address + size → AtPlaces (r ∷ rs) x.registers x.bytes act.frame vs
         → Listed x a (Reg r) vs 12
     first_register m r rs tail firm no_frame out more [] x a n st behind left few at framed low high sized many room hs =
         let h = st.2 in
@@ -354,8 +355,8 @@ module _ (plan : Plan) (act : Activation plan) (parts : Parts) where
     pub first_slot : (j : ℕ) (tail : List Item) (vs : List Value) (x : View) (a : ℕ)
         → Stands setting [] x.place (first_slot_code tail) → x.registers 0 ≡ length vs → length vs < 2 ^ 31
         → x.registers 1 ≡ act.frame + 8 * j → x.registers 12 ≡ a → closures ≤ a → a + 16 * length vs ≤ stack
-        → length x.bytes ≡ size → act.frame + 8 * j + 8 ≤ 0x10000000 + size
-        → act.frame + 8 * j + 8 * length vs ≤ 0x10000000 + size → InSlots plan act parts x.bytes (act.frame + 8 * j) vs
+        → length x.bytes ≡ size → act.frame + 8 * j + 8 ≤ data_address + size
+        → act.frame + 8 * j + 8 * length vs ≤ data_address + size → InSlots plan act parts x.bytes (act.frame + 8 * j) vs
         → Listed x a (Slot j) vs 12
     first_slot j tail [] x a st left few slot at low high sized one room hs =
         let h = st.2 in

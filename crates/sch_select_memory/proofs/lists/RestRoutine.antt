@@ -5,7 +5,8 @@ use Rattle.std.specs.Prelude.{slice_get}
 use Rattle.sch_word.specs.declared.place.Place.{Place}
 use Rattle.sch_word.specs.declared.place.Place.TheVariants.{Reg, Slot}
 use Rattle.sch_word.specs.values.Values.{Value}
-use Rattle.sch_frames.specs.Meaning.{Junk, cell_of, entry_places, argument_register, argument_slot}
+use Rattle.sch_frames.specs.Meaning.{Junk, cell_of, entry_places}
+use Rattle.sch_control.specs.flow.Places.{argument_register, argument_slot, register_or_slot}
 use Rattle.sch_asm.specs.declared.item.Item.{Item}
 use Rattle.sch_asm.specs.declared.item.Item.TheVariants as item
 use Rattle.sch_asm.specs.Stands.{Stands}
@@ -15,6 +16,7 @@ use Rattle.sch_select_memory.specs.Parts.{Parts}
 use Rattle.sch_select_memory.specs.Encoded.{IsWord}
 use Rattle.sch_select_memory.specs.RestCode.{loop_code, loop_label, slots_code, more_label, registers_code, rest_label}
 use Rattle.sch_word.specs.values.Registers.{argument_registers}
+use Rattle.sch_word.specs.runs.ProgramLayout.{data_address}
 use Rattle.sch_select_memory.specs.RestCode.{first_code, firsts_code, first_slot_code, more_code, later_registers}
 use Rattle.sch_select_memory.specs.RestCode.{rest_routine, list_label, check_pairs, slot_address}
 use Rattle.sch_select_memory.proofs.Places.{Plan, Activation, PlacesAt, Holds}
@@ -22,12 +24,8 @@ use Rattle.sch_select_memory.proofs.lists.RestLoop.{is_loose, InSlots}
 use Rattle.sch_select_memory.proofs.lists.RestRegisters.{Outside, or_one, AtPlaces, Listed, first_register, first_slot}
 
 -- where the operand with m before it is
-abbrev pub place_by : Option ℕ → ℕ → Place
-place_by (Some r) j = Reg r
-place_by None j = Slot j
-
 abbrev pub argument_place : ℕ → Place
-argument_place m = place_by (argument_register m) (argument_slot m)
+argument_place m = register_or_slot (argument_register m) (argument_slot m)
 
 module _ (plan : Plan) where
   open plan use {setting, size, words, closures, heap, stack, near, small, closures_low, heap_low, stack_low}
@@ -167,7 +165,7 @@ module _ (plan : Plan) where
     module _ (act : Activation plan) (parts : Parts) (vs : List Value) (x : View) (a : ℕ)
         (counted : x.registers 0 ≡ length vs) (few : length vs < 2 ^ 31) (at : x.registers 12 ≡ a)
         (low : closures ≤ a) (high : a + 16 * length vs ≤ stack) (sized : length x.bytes ≡ size) where
-      from_register : (n : ℕ) → x.registers 5 ≡ act.frame → act.frame + 8 * n ≤ 0x10000000 + size → (m r : ℕ)
+      from_register : (n : ℕ) → x.registers 5 ≡ act.frame → act.frame + 8 * n ≤ data_address + size → (m r : ℕ)
           (rs : List ℕ) (tail : List Item) → is_loose r ≡ false → (5 == r) ≡ false → Outside is_loose rs
           → Outside (or_one r is_loose) rs → (b : ℕ) → Stands setting [] b (first_code m r tail)
           → Stands setting [] (setting.place_of (more_label (suc m))) (registers_code (suc m) rs slots)
@@ -180,7 +178,7 @@ module _ (plan : Plan) where
           high sized many room h
 
       -- the first operand is in a register
-      pub by_register : (n : ℕ) → x.registers 5 ≡ act.frame → act.frame + 8 * n ≤ 0x10000000 + size → (m : ℕ)
+      pub by_register : (n : ℕ) → x.registers 5 ≡ act.frame → act.frame + 8 * n ≤ data_address + size → (m : ℕ)
           → m < 6 → x.place ≡ setting.place_of (rest_label m) → m + length vs ≤ 6 + n
           → AtPlaces plan act parts (drop m argument_registers) x.registers x.bytes act.frame vs
           → Listed plan act parts x a (argument_place m) vs 12
@@ -205,8 +203,8 @@ module _ (plan : Plan) where
       by_register n framed room (suc (suc (suc (suc (suc (suc k)))))) lt here many h = absurd (omega (arith, lt))
 
       -- the first operand is in a slot
-      pub by_slot : (j : ℕ) → x.registers 1 ≡ act.frame + 8 * j → act.frame + 8 * j + 8 ≤ 0x10000000 + size
-          → act.frame + 8 * j + 8 * length vs ≤ 0x10000000 + size → x.place ≡ setting.place_of (rest_label 6)
+      pub by_slot : (j : ℕ) → x.registers 1 ≡ act.frame + 8 * j → act.frame + 8 * j + 8 ≤ data_address + size
+          → act.frame + 8 * j + 8 * length vs ≤ data_address + size → x.place ≡ setting.place_of (rest_label 6)
           → InSlots plan act parts x.bytes (act.frame + 8 * j) vs → Listed plan act parts x a (Slot j) vs 12
       by_slot j slot one room here h = first_slot plan act parts rest loop_stands j mores vs x a
           (subst (λ p. Stands setting [] p (first_slot_code mores)) (sym c6.1.1 ∙ sym here) c6.1) counted few slot at low

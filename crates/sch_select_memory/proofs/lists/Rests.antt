@@ -11,7 +11,7 @@ use Rattle.sch_word.specs.runs.Charges.{fit, linked, list_value}
 use Rattle.sch_word.specs.runs.Store.{Store}
 use Rattle.sch_word.specs.runs.Computation.{State, Outcome, gives, stops, spent, on_value, require}
 use Rattle.sch_word.proofs.facts.Lists.{left_length}
-use Rattle.sch_control.specs.Operations.{Procedure}
+use Rattle.sch_word.specs.runs.Procedures.{Procedure}
 use Rattle.sch_frames.specs.Meaning.{Junk, entry_places}
 use Rattle.sch_word.specs.runs.ProgramLayout.{data_address}
 use Rattle.sch_insn.specs.declared.condition.TheConstants.{B, A}

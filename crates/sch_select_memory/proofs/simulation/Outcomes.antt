@@ -9,7 +9,7 @@ use Rattle.sch_word.specs.values.Values.{Value}
 use Rattle.sch_word.specs.runs.Computation.{gives, stops, spent}
 use Rattle.sch_control.specs.Meaning.{World, Result}
 use Rattle.sch_insn.specs.Step.{Exited, step}
-use Rattle.sch_insn.proofs.Paths.{leads_then, leads_on}
+use Rattle.sch_insn.proofs.Paths.{leads_here, leads_then, leads_on}
 use Rattle.sch_word.specs.declared.mark.MarkKind.{MarkKind}
 use Rattle.sch_asm.specs.declared.routine.Routine.{Routine}
 use Rattle.sch_asm.specs.declared.routine.Routine.TheVariants as routine
@@ -166,6 +166,21 @@ module _ (plan : Plan) (body_steps : ℕ) where
     pub make_string_stands : Stands setting [] (setting.place_of string_label) (make_string_code stack [])
     pub lists : (a : ℕ) × Stands setting [] a (rest_routine stack [])
     pub static_is : plan.static ≡ static_bytes
+
+  -- where no entry is left, it need not go on
+  pub no_entries : (before waiting : List MarkKind) (w : World) (x : View) → x.output ≡ w.state.store.output
+      → w.marks ≡ before ++ waiting → w.state.store.entries ≡ 0 → Goes_on before w.state.store x w
+  no_entries before waiting w x printed m none = record {
+    last = x;
+    events = [];
+    least = 0;
+    steps = 0;
+    ahead = waiting;
+    leads = leads_here setting.marks (full setting x);
+    long = omega (arith, none);
+    output_is = printed;
+    marked = m;
+  }
 
   -- the routine of a stop
   pub stops_here : Laid → (before waiting : List MarkKind) (x : View) (c most : ℕ) (why : Stop) (w : World)

@@ -8,7 +8,8 @@ use Rattle.sch_word.specs.declared.place.Place.{Place}
 use Rattle.sch_word.specs.declared.place.Place.TheVariants.{Reg}
 use Rattle.sch_word.specs.values.Values.{Value, procedure}
 use Rattle.sch_word.specs.runs.Computation.{State}
-use Rattle.sch_control.specs.Operations.{Procedure, and_value}
+use Rattle.sch_control.specs.Operations.{and_value}
+use Rattle.sch_word.specs.runs.Procedures.{Procedure}
 use Rattle.sch_control.specs.Meaning.{World, Callee}
 use Rattle.sch_frames.specs.Meaning.{Cell, Junk, value_in, cell_of, argument, arguments, entry_places}
 use Rattle.sch_frames.specs.Valid.{is_register}
@@ -101,7 +102,7 @@ passed back parts vs k x h = by (slice_get vs k) refl
     by None e = tt
     by (Some v) e = h v e
 
--- Registers have the operands that they had, R14 the procedure, and R15 where to return.
+-- Registers have the operands that they had, that of the closure the procedure, and that of the link where to return.
 pub entry_registers : (back to : ℕ) (parts : Parts) (places : Place → Cell) (slots : ℕ → Cell) (count : ℕ)
     (self : Value) (vs : List Value) (old new : ℕ → ℕ) → arguments places slots 0 count ≡ Some vs
     → ((r : ℕ) → is_register r ≡ true → Holds back parts (places (Reg r)) (old r)) → IsWord parts self (new 14)

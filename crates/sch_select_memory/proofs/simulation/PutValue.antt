@@ -11,7 +11,7 @@ use Rattle.sch_word.specs.declared.answer.Answer.{Answer}
 use Rattle.sch_word.specs.values.Values.{Value, fixnum, character, boolean, nil, unspecified, symbol, object, procedure, cell, Object, pair, vector, string}
 use Rattle.sch_word.specs.declared.stop.Stop.TheVariants.{WrongType}
 use Rattle.sch_word.specs.runs.Computation.{State}
-use Rattle.sch_control.specs.Operations.{Procedure}
+use Rattle.sch_word.specs.runs.Procedures.{Procedure}
 use Rattle.sch_word.specs.values.PrimitiveRows.{piece, object_piece, is_pair, is_vector, is_string}
 use Rattle.sch_word.specs.values.Put.{put}
 use Rattle.sch_insn.specs.declared.condition.TheConstants.{E, NE}
@@ -24,12 +24,13 @@ use Rattle.sch_insn.proofs.Paths.{leads_on, leads_here}
 use Rattle.sch_asm.specs.declared.item.Item.{Item}
 use Rattle.sch_asm.specs.declared.item.Item.TheVariants.{Label, Plain, JumpIf}
 use Rattle.sch_word.specs.declared.mark.MarkKind.{MarkKind}
+use Rattle.sch_word.specs.runs.ProgramLayout.{data_address}
 use Rattle.sch_asm.specs.declared.routine.Routine.{Routine}
 use Rattle.sch_asm.specs.declared.routine.Routine.TheVariants as routine
 use Rattle.sch_asm.specs.Routines.{label_of}
 use Rattle.sch_asm.specs.Stands.{Stands}
 use Rattle.sch_asm.specs.Data.{Inside, PieceAt, word_in}
-use Rattle.sch_asm.specs.Effects.{is_scratch, IsReady, PutEnds, Puts, Effect}
+use Rattle.sch_asm.specs.Effects.{is_scratch, IsReady, PutEnds, Puts, Effect, own_size}
 use Rattle.sch_asm.specs.Views.{View, Leads, full}
 use Rattle.sch_asm.proofs.EachItem.{goes, branches, jumps, loads_word, loads_data}
 use Rattle.sch_select_memory.specs.Parts.{a_string, Parts}
@@ -59,27 +60,27 @@ numbers_at (suc n) k (suc m) more lt = let e : suc k + n ≡ k + suc n = omega a
     (omega (arith, lt)) ∙ ap (λ j. j ∷ drop (suc n) (numbers (suc k) m ++ more)) e
 
 -- how many bytes stand there
-enough : (bytes : List ℕ) → take 288 (drop 512 bytes) ≡ static_bytes → 800 ≤ length bytes
+enough : (bytes : List ℕ) → take 288 (drop own_size bytes) ≡ static_bytes → 800 ≤ length bytes
 enough bytes e =
-    let n : length (take 288 (drop 512 bytes)) ≡ 288 = ap length e in
-    let m = length-take 288 (drop 512 bytes) in
-    let k = length-drop 512 bytes in
+    let n : length (take 288 (drop own_size bytes)) ≡ 288 = ap length e in
+    let m = length-take 288 (drop own_size bytes) in
+    let k = length-drop own_size bytes in
     omega (arith, n, m, k)
 
 -- what stands from an offset of the static bytes on
-static_from : (bytes : List ℕ) (k : ℕ) → take 288 (drop 512 bytes) ≡ static_bytes
-    → drop (512 + k) bytes ≡ drop k (static_bytes ++ drop 288 (drop 512 bytes))
+static_from : (bytes : List ℕ) (k : ℕ) → take 288 (drop own_size bytes) ≡ static_bytes
+    → drop (own_size + k) bytes ≡ drop k (static_bytes ++ drop 288 (drop own_size bytes))
 static_from bytes k e =
-    let sum : k + 512 ≡ 512 + k = omega arith in
-    sym (drop-drop k 512 bytes ∙ ap (λ n. drop n bytes) (let s : 512 + k ≡ 512 + k = refl in s))
-    ∙ ap (drop k) (sym (take-append-drop 288 (drop 512 bytes)) ∙ ap (λ l. l ++ drop 288 (drop 512 bytes)) e)
+    let sum : k + own_size ≡ own_size + k = omega arith in
+    sym (drop-drop k own_size bytes ∙ ap (λ n. drop n bytes) (let s : own_size + k ≡ own_size + k = refl in s))
+    ∙ ap (drop k) (sym (take-append-drop 288 (drop own_size bytes)) ∙ ap (λ l. l ++ drop 288 (drop own_size bytes)) e)
 
 -- a text at an offset
-text_there : (bytes : List ℕ) (k : ℕ) (text rest : List ℕ) → take 288 (drop 512 bytes) ≡ static_bytes
-    → k + length text ≤ 288 → drop k (static_bytes ++ drop 288 (drop 512 bytes)) ≡ text ++ rest
-    → PieceAt bytes (0x10000200 + k) text
+text_there : (bytes : List ℕ) (k : ℕ) (text rest : List ℕ) → take 288 (drop own_size bytes) ≡ static_bytes
+    → k + length text ≤ 288 → drop k (static_bytes ++ drop 288 (drop own_size bytes)) ≡ text ++ rest
+    → PieceAt bytes (bytes_address + k) text
 text_there bytes k text rest e le is =
-    let same : 0x10000200 + k - 0x10000000 ≡ 512 + k = omega arith in
+    let same : bytes_address + k - data_address ≡ own_size + k = omega arith in
     let many = enough bytes e in
     record {
       rest = rest;
@@ -143,7 +144,7 @@ module _ (plan : Plan) (routines : (k : Routine) (x : View) → x.place ≡ plan
   -- ---- a text
 
   text_put : (address size : ℕ) (text : List ℕ) (x : View) (rest : List Item)
-      → Std [] x.place (text_code address size rest) → IsReady x → 0x10000200 ≤ address → size ≡ length text
+      → Std [] x.place (text_code address size rest) → IsReady x → bytes_address ≤ address → size ≡ length text
       → PieceAt x.bytes address text → Puts setting x 23 text
   text_put address size text x rest h ready low count at =
       let y = moved_to x (set_register x.registers 0 address) x.flags (x.place + h.0) in
@@ -160,7 +161,7 @@ module _ (plan : Plan) (routines : (k : Routine) (x : View) → x.place ≡ plan
 
   -- the text of one word
   first_text : (word address size next : ℕ) (text : List ℕ) (x : View) (rest : List Item) → x.registers 0 ≡ word
-      → word < 2 ^ 64 → Std [] x.place (either_text word address size next rest) → IsReady x → 0x10000200 ≤ address
+      → word < 2 ^ 64 → Std [] x.place (either_text word address size next rest) → IsReady x → bytes_address ≤ address
       → size ≡ length text → PieceAt x.bytes address text → Puts setting x 25 text
   first_text word address size next text x rest is small h ready low count at =
       let y = moved_to x x.registers (difference_of (x.registers 0) word).flags (x.place + h.0) in
@@ -192,9 +193,9 @@ module _ (plan : Plan) (routines : (k : Routine) (x : View) → x.place ≡ plan
 
   -- ---- what is no fixnum and no character
 
-  module _ (x : View) (ready : IsReady x) (static : take 288 (drop 512 x.bytes) ≡ static_bytes) where
+  module _ (x : View) (ready : IsReady x) (static : take 288 (drop own_size x.bytes) ≡ static_bytes) where
     abbrev more : List ℕ
-    more = drop 288 (drop 512 x.bytes)
+    more = drop 288 (drop own_size x.bytes)
 
     abbrev At : Flags → ℕ → View
     At flags a = moved_to x x.registers flags a
@@ -203,7 +204,7 @@ module _ (plan : Plan) (routines : (k : Routine) (x : View) → x.place ≡ plan
     ready_at flags a = record { own_words = ready.own_words; within = ready.within; back = ready.back }
 
     there : (k : ℕ) (text rest : List ℕ) → k + length text ≤ 288 → drop k (static_bytes ++ more) ≡ text ++ rest
-        → PieceAt x.bytes (0x10000200 + k) text
+        → PieceAt x.bytes (bytes_address + k) text
     there k text rest le is = text_there x.bytes k text rest static le is
 
     true_put : (flags : Flags) (a : ℕ) → x.registers 0 ≡ 134 → Std [] a texts_code
@@ -262,7 +263,7 @@ module _ (plan : Plan) (routines : (k : Routine) (x : View) → x.place ≡ plan
         let u = moved_to x (set_register z.registers 0 c.value) c.flags (z.place + h.2.0) in
         let w = moved_to x (set_register u.registers 2 1) c.flags (u.place + h.2.2.0) in
         let o = moved_to x w.registers c.flags (place_of (label_of routine.Put)) in
-        let at : c.value ≡ 0x10000200 + byte = omega (arith, is, low) in
+        let at : c.value ≡ bytes_address + byte = omega (arith, is, low) in
         let kept = kept_then is_scratch registers z.registers w.registers (kept_set is_scratch registers 0 b refl)
         (kept_then is_scratch z.registers u.registers w.registers (kept_set is_scratch z.registers 0 c.value refl)
         (kept_set is_scratch u.registers 2 1 refl)) in
@@ -299,13 +300,13 @@ module _ (plan : Plan) (routines : (k : Routine) (x : View) → x.place ≡ plan
   PutsPiece x (Some bytes) = Puts setting x 200 bytes
 
   module _ (parts : Parts) (s : State Procedure) (x : View) (ready : IsReady x)
-      (static : take 288 (drop 512 x.bytes) ≡ static_bytes) (top : stack ≤ 0x10000000 + size)
+      (static : take 288 (drop own_size x.bytes) ≡ static_bytes) (top : stack ≤ data_address + size)
       (g : StoreAt plan parts s x.bytes x.output x.answers) where
     -- ---- bytes of the data, whose length is known
 
     bytes_here : (text : List ℕ) (registers : ℕ → ℕ) (flags : Flags) (a offset address : ℕ) (rest : List Item)
         → registers 2 ≡ 8 * length text → registers 0 + offset ≡ address → registers 11 ≡ x.registers 11
-        → 0x10000200 ≤ address → PieceAt x.bytes address text → Std [] a (bytes_put offset rest)
+        → bytes_address ≤ address → PieceAt x.bytes address text → Std [] a (bytes_put offset rest)
         → Puts setting (moved_to x registers flags a) 23 text
     bytes_here text registers flags a offset address rest count at eleven low piece h =
         let y = moved_to x registers flags a in
@@ -629,7 +630,7 @@ module _ (plan : Plan) (routines : (k : Routine) (x : View) → x.place ≡ plan
             puts_after x y.registers t.flags (place_of 79) 13 13 24 200 text (t.taken (other 3 is 3 true refl)) kept
             refl (omega arith) (string_here n text y.registers t.flags e name refl string_stands)
 
-        heap_top : plan.heap ≤ 0x10000000 + size
+        heap_top : plan.heap ≤ data_address + size
         heap_top = let l = plan.stack_low in omega (arith, l, top)
 
         by : (v : Value) → IsWord parts v (x.registers 0) → PutsPiece x (piece v s.store)
@@ -691,7 +692,7 @@ module _ (plan : Plan) (routines : (k : Routine) (x : View) → x.place ≡ plan
             (t.taken (other 4 is 4 true refl)) kept refl (omega arith)
             (text_put (texts_address + 20) 12 (codes "#<procedure>") o (Label 79 ∷ objects_put) procedure_stands
             (record { own_words = ready.own_words; within = ready.within; back = ready.back }) (omega arith) refl
-            (text_there x.bytes 276 (codes "#<procedure>") (drop 288 (static_bytes ++ drop 288 (drop 512 x.bytes)))
+            (text_there x.bytes 276 (codes "#<procedure>") (drop 288 (static_bytes ++ drop 288 (drop own_size x.bytes)))
             static (omega arith) refl))
         by (cell n) hv =
             let is = has (cell n) hv in

@@ -59,26 +59,26 @@ rounded_high m = omega arith
 
 -- ---- what a fill leaves, by pieces
 
-pub filled_wrote : (from to : ℕ) (before after : List ℕ) → 0x10000000 ≤ from → from ≤ to
-    → length after ≡ length before → take (from - 0x10000000) after ≡ take (from - 0x10000000) before
-    → drop (to - 0x10000000) after ≡ drop (to - 0x10000000) before → Wrote from to before after
+pub filled_wrote : (from to : ℕ) (before after : List ℕ) → data_address ≤ from → from ≤ to
+    → length after ≡ length before → take (from - data_address) after ≡ take (from - data_address) before
+    → drop (to - data_address) after ≡ drop (to - data_address) before → Wrote from to before after
 filled_wrote from to before after low up size front behind = record {
   size = size;
   pieces = λ a n l far. ⊎_elim (λ le. in_front a n l le) (λ le. at_end a n l le) far;
 }
   where
-    in_front : (a n : ℕ) → 0x10000000 ≤ a → a + n ≤ from → piece_in after a n ≡ piece_in before a n
+    in_front : (a n : ℕ) → data_address ≤ a → a + n ≤ from → piece_in after a n ≡ piece_in before a n
     in_front a n l le =
-        let j = a - 0x10000000 in let k = from - 0x10000000 in
+        let j = a - data_address in let k = from - data_address in
         let within : j + n ≤ k = omega (arith, l, le) in
         sym (piece_within after j n k within) ∙ ap (λ xs. take n (drop j xs)) front ∙ piece_within before j n k within
 
-    at_end : (a n : ℕ) → 0x10000000 ≤ a → to ≤ a → piece_in after a n ≡ piece_in before a n
+    at_end : (a n : ℕ) → data_address ≤ a → to ≤ a → piece_in after a n ≡ piece_in before a n
     at_end a n l le =
         let k = a - to in
-        let at : (to - 0x10000000) + k ≡ a - 0x10000000 = omega (arith, l, le, low, up) in
-        let cut : (xs : List ℕ) → drop (a - 0x10000000) xs ≡ drop k (drop (to - 0x10000000) xs) =
-        λ xs. ap (λ n. drop n xs) (sym at) ∙ sym (drop-drop k (to - 0x10000000) xs) in
+        let at : (to - data_address) + k ≡ a - data_address = omega (arith, l, le, low, up) in
+        let cut : (xs : List ℕ) → drop (a - data_address) xs ≡ drop k (drop (to - data_address) xs) =
+        λ xs. ap (λ n. drop n xs) (sym at) ∙ sym (drop-drop k (to - data_address) xs) in
         ap (take n) (cut after ∙ ap (drop k) behind ∙ sym (cut before))
 
 module _ (plan : Plan) where

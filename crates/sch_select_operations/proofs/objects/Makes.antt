@@ -23,6 +23,7 @@ use Rattle.sch_insn.proofs.Paths.{leads_on}
 use Rattle.sch_asm.specs.declared.item.Item.{Item}
 use Rattle.sch_asm.specs.declared.item.Item.TheVariants as item
 use Rattle.sch_word.specs.declared.mark.MarkKind.{MarkKind}
+use Rattle.sch_word.specs.runs.ProgramLayout.{data_address}
 use Rattle.sch_asm.specs.declared.routine.Routine.TheVariants as routine
 use Rattle.sch_asm.specs.Routines.{label_of}
 use Rattle.sch_asm.specs.Data.{FixnumWord, Inside, word_in, with_word}
@@ -42,7 +43,7 @@ use Rattle.sch_select_memory.specs.Checks.{round_code, low_bits}
 use Rattle.sch_select_memory.specs.MakeCode.{check_length, check_room, fill_code}
 use Rattle.sch_select_memory.proofs.Straight.{Halts, halts_after, Kept, kept_set, kept_then, moved_to}
 use Rattle.sch_select_memory.proofs.Straight.{by_255, is_one}
-use Rattle.sch_select_memory.proofs.Places.{Plan, Activation, heap_above}
+use Rattle.sch_select_memory.proofs.Places.{Plan, Activation, heap_above, stack_within}
 use Rattle.sch_select_memory.proofs.HeapWrites.{Wrote, wrote_one, wrote_then, wrote_within, other_word}
 use Rattle.sch_select_memory.proofs.HeapWrites.{heap_inside, room_tested}
 use Rattle.sch_select_operations.proofs.objects.ObjectWrites.{object_part, next_object_spot}
@@ -282,8 +283,8 @@ module _ (plan : Plan) (body_steps : ℕ) (laid : Laid plan body_steps) (act : A
         z5 : View
         z5 = record z1 { registers = a.registers; flags = a.flags; place = setting.place_of label }
 
-        top : stack ≤ 0x10000000 + size
-        top = let l = act.room.low in let h = act.room.high in omega (arith, l, h)
+        top : stack ≤ data_address + size
+        top = stack_within plan act
 
         returns_to : a.registers 11 ≡ setting.place_of n
         returns_to = a.kept 11 refl ∙ returns
@@ -633,8 +634,8 @@ module _ (plan : Plan) (body_steps : ℕ) (laid : Laid plan body_steps) (act : A
                   there = new_there o j;
                   room = omega (arith, many);
                   size = ap (word_in b.z.bytes) unit ∙ b.length_is ∙ ap (λ k. 8 * k) (sym many);
-                  text_is = ap (λ k. take k (drop (text_address (end_of parts) - 0x10000000) b.z.bytes)) many
-                      ∙ ap (λ a. take j (drop (a - 0x10000000) b.z.bytes)) at ∙ b.filled;
+                  text_is = ap (λ k. take k (drop (text_address (end_of parts) - data_address) b.z.bytes)) many
+                      ∙ ap (λ a. take j (drop (a - data_address) b.z.bytes)) at ∙ b.filled;
                   are_bytes = bytes_same j byte hb.1;
                 }
 

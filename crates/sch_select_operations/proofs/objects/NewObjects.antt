@@ -122,7 +122,7 @@ module _ (plan : Plan) (body_steps : ℕ) (laid : Laid plan body_steps) (act : A
         (K parts' (before ++ waiting) [] (record f { accumulator = Is (object (length objects)) }) w' u ahead p' g'
         named (none_waits w.marks before waiting marked))
       where
-        -- the registers before R12 has the address of the part behind
+        -- the registers before the heap's register has the address of the part behind
         between : ℕ → ℕ
         between = set_register u.registers 12 (x.registers 12)
 

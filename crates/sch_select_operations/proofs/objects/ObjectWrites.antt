@@ -9,13 +9,13 @@ use Rattle.sch_word.specs.values.Values.{Object, pair, vector, string}
 use Rattle.sch_word.specs.values.PrimitiveRows.{is_pair, is_vector, is_string}
 use Rattle.sch_word.specs.runs.Computation.{State}
 use Rattle.sch_word.proofs.facts.Lists.{get_seam}
-use Rattle.sch_control.specs.Operations.{Procedure}
+use Rattle.sch_word.specs.runs.Procedures.{Procedure}
 use Rattle.sch_select_memory.specs.Parts.{Owner, a_procedure, a_cell, a_pair, a_vector, a_string, same_owner, Part, Parts, Spot}
 use Rattle.sch_select_memory.specs.Parts.{end_of, spot, grown}
 use Rattle.sch_select_memory.specs.Heap.{ObjectAt, AreKinds, AreNew, owner_of}
 use Rattle.sch_select_memory.proofs.heap.Spots.{spot_within, spots_apart, spot_newest, spot_other, end_grown, among}
 use Rattle.sch_select_memory.proofs.heap.Ranges.{BytesStay}
-use Rattle.sch_select_memory.proofs.heap.Contents.{KindsOf, objects_grow, objects_stay, each_of, words_stay}
+use Rattle.sch_select_memory.proofs.heap.Contents.{KindsOf, objects_grow, objects_stay, each_of, words_stay, object_no_cell, object_no_procedure}
 use Rattle.sch_select_memory.proofs.heap.Objects.{same_kind, object_set}
 use Rattle.sch_select_memory.proofs.Places.{Plan, code_of, StoreAt, store_changed}
 use Rattle.sch_select_memory.proofs.HeapWrites.{Wrote}
@@ -85,17 +85,6 @@ object_kinds objects o more = record
     strings (string bs) n e = kept is_string (string bs) n refl e
     strings (pair a d) n e = absurd (let bad : false ≡ true = e in cc)
     strings (vector vs) n e = absurd (let bad : false ≡ true = e in cc)
-
--- an object is no cell and no procedure
-object_no_cell : (n k : ℕ) (o : Object) → same_owner (owner_of n o) (a_cell k) ≡ false
-object_no_cell n k (pair a d) = refl
-object_no_cell n k (vector vs) = refl
-object_no_cell n k (string bs) = refl
-
-object_no_procedure : (n k : ℕ) (o : Object) → same_owner (owner_of n o) (a_procedure k) ≡ false
-object_no_procedure n k (pair a d) = refl
-object_no_procedure n k (vector vs) = refl
-object_no_procedure n k (string bs) = refl
 
 object_taken : (parts : Parts) (objects : List Object) (o : Object) (more cells procedures : ℕ)
     → AreNew parts cells procedures → AreNew (grown parts (object_part objects o more)) cells procedures

@@ -8,7 +8,7 @@ use Rattle.sch_word.specs.values.Values.{Value, unspecified, object, Object, pai
 use Rattle.sch_word.specs.values.PrimitiveRows.{is_pair, object_at, pair_or_stop, as_pair, write_object}
 use Rattle.sch_word.specs.runs.Store.{Store}
 use Rattle.sch_word.specs.runs.Computation.{Outcome, Action, gives, State, with_rest}
-use Rattle.sch_control.specs.Operations.{Procedure}
+use Rattle.sch_word.specs.runs.Procedures.{Procedure}
 use Rattle.sch_control.specs.Meaning.{World, Result, on_outcome}
 use Rattle.sch_frames.specs.Meaning.{Frame, Is}
 use Rattle.sch_insn.specs.declared.insn.Arg.TheVariants.{Reg, Base32}
@@ -18,6 +18,7 @@ use Rattle.sch_insn.proofs.Paths.{leads_on}
 use Rattle.sch_asm.specs.declared.item.Item.{Item}
 use Rattle.sch_asm.specs.declared.item.Item.TheVariants as item
 use Rattle.sch_word.specs.declared.mark.MarkKind.{MarkKind}
+use Rattle.sch_word.specs.runs.ProgramLayout.{data_address}
 use Rattle.sch_asm.specs.Stands.{Stands}
 use Rattle.sch_asm.specs.Data.{Inside, word_in, with_word}
 use Rattle.sch_asm.specs.Effects.{is_scratch}
@@ -196,10 +197,10 @@ module _ (plan : Plan) (act : Activation plan) (parts : Parts) (s : State Proced
 -- what the words of a pair are of, after one of them is written
 pub record Writes (parts : Parts) (u : Value) (address : ℕ → ℕ) (one two : Value → Value → Value) : Type 0 where
   pub first : (a e : Value) (unit y : ℕ) (bytes : List ℕ) → Inside (length bytes) (address unit)
-      → 0x10000000 ≤ 16 * unit → IsWord parts u y → IsWord parts a (word_in bytes (first_address unit))
+      → data_address ≤ 16 * unit → IsWord parts u y → IsWord parts a (word_in bytes (first_address unit))
       → IsWord parts (one a e) (word_in (with_word bytes (address unit) y) (first_address unit))
   pub rest : (a e : Value) (unit y : ℕ) (bytes : List ℕ) → Inside (length bytes) (address unit)
-      → 0x10000000 ≤ 16 * unit → IsWord parts u y → IsWord parts e (word_in bytes (rest_address unit))
+      → data_address ≤ 16 * unit → IsWord parts u y → IsWord parts e (word_in bytes (rest_address unit))
       → IsWord parts (two a e) (word_in (with_word bytes (address unit) y) (rest_address unit))
 
 pub writes_first : (parts : Parts) (u : Value) → Writes parts u first_address (λ a e. u) (λ a e. e)

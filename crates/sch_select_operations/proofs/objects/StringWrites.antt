@@ -20,6 +20,7 @@ use Rattle.sch_insn.proofs.Paths.{leads_on}
 use Rattle.sch_asm.specs.declared.item.Item.{Item}
 use Rattle.sch_asm.specs.declared.item.Item.TheVariants as item
 use Rattle.sch_word.specs.declared.mark.MarkKind.{MarkKind}
+use Rattle.sch_word.specs.runs.ProgramLayout.{data_address}
 use Rattle.sch_asm.specs.Data.{FixnumWord}
 use Rattle.sch_asm.specs.Effects.{is_scratch}
 use Rattle.sch_asm.specs.Views.{View, Leads}
@@ -149,8 +150,8 @@ module _ (plan : Plan) (body_steps : ℕ) (laid : Laid plan body_steps) (act : A
             ∙ character_named p.at.unit j (registers 0) is (omega (arith, hi, m, room, below)) in
             let cl = plan.closures_low in let sl = plan.stack_low in let hl = heap_above plan in
             let size_is = g.size_is in let top = act.room.low in let end = act.room.high in
-            let from : 0x10000000 ≤ b = omega (arith, lo, cl) in
-            let to : b < 0x10000000 + length x.bytes = omega (arith, hi, room, below, size_is, top, end) in
+            let from : data_address ≤ b = omega (arith, lo, cl) in
+            let to : b < data_address + length x.bytes = omega (arith, hi, room, below, size_is, top, end) in
             let scratch = kept_then is_scratch x.registers registers z5.registers
             (one_of is_scratch 2 x.registers registers refl kept) (kept_then is_scratch registers z1.registers z5.registers
             (kept_set is_scratch registers 1 i refl) (kept_then is_scratch z1.registers z2.registers z5.registers
@@ -161,11 +162,11 @@ module _ (plan : Plan) (body_steps : ℕ) (laid : Laid plan body_steps) (act : A
               pieces = λ e n l far. piece_beside_byte x.bytes b (h % 256) e n from to l
                   (⊎_elim (λ le. inl (omega (arith, le))) (λ le. inr (omega (arith, le, room, below))) far);
             } in
-            let off : text_address p.at.unit - 0x10000000 + j ≡ b - 0x10000000 = omega (arith, lo, cl) in
+            let off : text_address p.at.unit - data_address + j ≡ b - data_address = omega (arith, lo, cl) in
             let new_text : piece_in bytes (text_address p.at.unit) (length p.text) ≡ slice_set p.text j u =
             ap (λ l. piece_in l (text_address p.at.unit) (length p.text)) (byte_set x.bytes b (h % 256) to from
-            ∙ ap (λ k. slice_set x.bytes k (h % 256)) (sym off) ∙ ap (slice_set x.bytes (text_address p.at.unit - 0x10000000
-            + j)) byte) ∙ text_set x.bytes p.text (text_address p.at.unit - 0x10000000) j u p.text_is below in
+            ∙ ap (λ k. slice_set x.bytes k (h % 256)) (sym off) ∙ ap (slice_set x.bytes (text_address p.at.unit - data_address
+            + j)) byte) ∙ text_set x.bytes p.text (text_address p.at.unit - data_address) j u p.text_is below in
             let filled : StringAt parts bytes p.number (slice_set p.text j u) = record {
               at = p.at;
               there = p.spotted;

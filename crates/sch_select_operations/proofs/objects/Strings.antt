@@ -8,7 +8,7 @@ use Rattle.sch_word.specs.values.Values.{Value, fixnum, character, object, strin
 use Rattle.sch_word.specs.values.PrimitiveRows.{is_string, is_index, object_at, string_or_stop}
 use Rattle.sch_word.specs.values.PrimitiveRows.{as_string, as_fixnum, in_range}
 use Rattle.sch_word.specs.runs.Computation.{Action, gives, require, State}
-use Rattle.sch_control.specs.Operations.{Procedure}
+use Rattle.sch_word.specs.runs.Procedures.{Procedure}
 use Rattle.sch_insn.specs.declared.insn.Arg.TheVariants.{Reg, Base32}
 use Rattle.sch_insn.specs.declared.insn.Insn.TheVariants.{MovFrom, AddTo, AddNumber, Shl, Shr, LoadByte}
 use Rattle.sch_word.specs.values.Options.{first_or_0}
@@ -17,6 +17,7 @@ use Rattle.sch_insn.proofs.Paths.{leads_on}
 use Rattle.sch_asm.specs.declared.item.Item.{Item}
 use Rattle.sch_asm.specs.declared.item.Item.TheVariants as item
 use Rattle.sch_word.specs.declared.mark.MarkKind.{MarkKind}
+use Rattle.sch_word.specs.runs.ProgramLayout.{data_address}
 use Rattle.sch_asm.specs.Stands.{Stands}
 use Rattle.sch_asm.specs.Data.{FixnumWord, word_in}
 use Rattle.sch_asm.specs.Views.{View}
@@ -226,7 +227,7 @@ module _ (plan : Plan) (act : Activation plan) (parts : Parts) (s : State Proced
           let sum = sum_of (x.registers 0) i in
           let y2 : View = moved_to x (set_register y1.registers 0 sum.value) sum.flags (y1.place + r.ahead.2.0) in
           let b = text_address p.at.unit + k in
-          let u = first_or_0 (drop (b - 0x10000000) x.bytes) in
+          let u = first_or_0 (drop (b - data_address) x.bytes) in
           let y3 : View = moved_to x (set_register y2.registers 0 u) sum.flags (y2.place + r.ahead.2.2.0) in
           let h = u * 2 ^ 8 % 2 ^ 64 in
           let y4 : View = moved_to x (set_register y3.registers 0 h) unknown_flags (y3.place + r.ahead.2.2.2.0) in
@@ -235,9 +236,9 @@ module _ (plan : Plan) (act : Activation plan) (parts : Parts) (s : State Proced
           ∙ character_named p.at.unit k (x.registers 0) is (omega (arith, hi, m, room, below)) in
           let z = g.size_is in let cl = plan.closures_low in
           let top = act.room.low in let end = act.room.high in
-          let off : text_address p.at.unit - 0x10000000 + k ≡ b - 0x10000000 = omega (arith, lo, cl) in
+          let off : text_address p.at.unit - data_address + k ≡ b - data_address = omega (arith, lo, cl) in
           let byte : u ≡ slice_index p.text k = ap (λ j. first_or_0 (drop j x.bytes)) (sym off)
-          ∙ byte_at_offset x.bytes p.text (text_address p.at.unit - 0x10000000) k p.text_is below in (
+          ∙ byte_at_offset x.bytes p.text (text_address p.at.unit - data_address) k p.text_is below in (
             refl,
             record {
               registers = set_register y4.registers 0 last.value;

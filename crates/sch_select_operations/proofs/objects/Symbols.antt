@@ -8,7 +8,7 @@ use Rattle.sch_word.specs.values.Values.{Value, fixnum, character, boolean, nil,
 use Rattle.sch_word.specs.values.PrimitiveRows.{is_symbol, is_index, as_symbol, known_name, as_fixnum, in_range}
 use Rattle.sch_word.specs.runs.Store.{Store}
 use Rattle.sch_word.specs.runs.Computation.{Action, gives, stops, require, State}
-use Rattle.sch_control.specs.Operations.{Procedure}
+use Rattle.sch_word.specs.runs.Procedures.{Procedure}
 use Rattle.sch_insn.specs.declared.insn.Arg.TheVariants.{Reg, Base32}
 use Rattle.sch_insn.specs.declared.insn.Insn.TheVariants.{MovFrom, AddTo, AddNumber, Shl, Shr, LoadByte}
 use Rattle.sch_insn.specs.declared.state.Flags.{Flags}
@@ -18,6 +18,7 @@ use Rattle.sch_insn.proofs.Paths.{leads_on}
 use Rattle.sch_asm.specs.declared.item.Item.{Item}
 use Rattle.sch_asm.specs.declared.item.Item.TheVariants as item
 use Rattle.sch_word.specs.declared.mark.MarkKind.{MarkKind}
+use Rattle.sch_word.specs.runs.ProgramLayout.{data_address}
 use Rattle.sch_asm.specs.Stands.{Stands}
 use Rattle.sch_asm.specs.Data.{FixnumWord, word_in}
 use Rattle.sch_asm.specs.Views.{View}
@@ -33,7 +34,7 @@ use Rattle.sch_select_operations.specs.ObjectCode.{name_code, symbol_length_code
 use Rattle.sch_select_memory.specs.Checks.{check_fixnum}
 use Rattle.sch_select_memory.proofs.Straight.{is_free, kept_set, kept_then, moved_to, tagged, Comes}
 use Rattle.sch_select_memory.proofs.Straight.{comes_after, fixnum_checked}
-use Rattle.sch_select_memory.proofs.Places.{Plan, Activation, StoreAt, heap_above}
+use Rattle.sch_select_memory.proofs.Places.{Plan, Activation, StoreAt, heap_above, heap_within}
 use Rattle.sch_select_operations.proofs.objects.Tags.{TagTested, tag_checked, one_of}
 use Rattle.sch_select_operations.proofs.objects.Indices.{Ranged, index_decided}
 use Rattle.sch_select_operations.proofs.objects.Strings.{index_shifted, character_word}
@@ -77,9 +78,6 @@ letter_named k w at e lt = omega (arith, e, lt)
 module _ (plan : Plan) (act : Activation plan) (parts : Parts) (s : State Procedure) where
   open plan use {setting, size, heap, stack, near, stack_low}
 
-  top : heap ≤ 0x10000000 + size
-  top = let a = act.room.low in let b = act.room.high in let c = stack_low in omega (arith, a, b, c)
-
   abbrev named_code : List Item → List Item
   named_code code = item.LoadWord 2 table_address ∷ (item.Plain (AddTo (Reg 0) 2)
       ∷ (item.Plain (MovFrom 0 (Base32 0 (negsuc 4))) ∷ code))
@@ -113,7 +111,7 @@ module _ (plan : Plan) (act : Activation plan) (parts : Parts) (s : State Proced
       by true e r =
           let m = symbol_of v e in
           let hw : IsWord parts (symbol m.0) (x.registers 0) = subst (λ v. IsWord parts v (x.registers 0)) m.1 h in
-          let q = symbol_at plan parts s x.bytes x.output x.answers m.0 (x.registers 0) top g hw in
+          let q = symbol_at plan parts s x.bytes x.output x.answers m.0 (x.registers 0) (heap_within plan act) g hw in
           let y0 : View = moved_to x r.registers r.flags r.place in
           let first = first_name plan in
           let y1 : View = moved_to x (set_register r.registers 2 (word_in x.bytes table_address)) r.flags (r.place + r.ahead.0) in
@@ -222,7 +220,7 @@ module _ (plan : Plan) (act : Activation plan) (parts : Parts) (s : State Proced
           let sum = sum_of (x.registers 0) i in
           let y2 : View = moved_to x (set_register y1.registers 0 sum.value) sum.flags (y1.place + r.ahead.2.0) in
           let b = q.at + 8 + k in
-          let u = first_or_0 (drop (b - 0x10000000) x.bytes) in
+          let u = first_or_0 (drop (b - data_address) x.bytes) in
           let y3 : View = moved_to x (set_register y2.registers 0 u) sum.flags (y2.place + r.ahead.2.2.0) in
           let h = u * 2 ^ 8 % 2 ^ 64 in
           let y4 : View = moved_to x (set_register y3.registers 0 h) unknown_flags (y3.place + r.ahead.2.2.2.0) in
@@ -230,12 +228,12 @@ module _ (plan : Plan) (act : Activation plan) (parts : Parts) (s : State Proced
           let named : add64 sum.value (word (pos 8)) ≡ b = ap (λ i. add64 (add64 (x.registers 0) i) (word (pos 8))) shifted
           ∙ letter_named k (x.registers 0) q.at same (omega (arith, high, near_is, low, below)) in
           let text = q.text in
-          let whole : take (length q.name) (drop (q.at + 8 - 0x10000000) x.bytes) ≡ q.name = ap (take (length q.name)) text.is
+          let whole : take (length q.name) (drop (q.at + 8 - data_address) x.bytes) ≡ q.name = ap (take (length q.name)) text.is
           ∙ take-append_seam q.name text.rest in
-          let off : q.at + 8 - 0x10000000 + k ≡ b - 0x10000000 = omega (arith, from) in
+          let off : q.at + 8 - data_address + k ≡ b - data_address = omega (arith, from) in
           let byte : u ≡ slice_index q.name k = ap (λ j. first_or_0 (drop j x.bytes)) (sym off)
-          ∙ byte_at_offset x.bytes q.name (q.at + 8 - 0x10000000) k whole below in
-          let t = top in (
+          ∙ byte_at_offset x.bytes q.name (q.at + 8 - data_address) k whole below in
+          let t = heap_within plan act in (
             refl,
             record {
               registers = set_register y4.registers 0 last.value;

@@ -11,7 +11,7 @@ use Rattle.sch_word.specs.values.PrimitiveRows.{is_vector, is_index, is_integer,
 use Rattle.sch_word.specs.values.PrimitiveRows.{in_range, element, write_object}
 use Rattle.sch_word.specs.runs.Store.{Store}
 use Rattle.sch_word.specs.runs.Computation.{Outcome, Action, gives, require, State, with_rest}
-use Rattle.sch_control.specs.Operations.{Procedure}
+use Rattle.sch_word.specs.runs.Procedures.{Procedure}
 use Rattle.sch_control.specs.Meaning.{World, Result, on_outcome}
 use Rattle.sch_frames.specs.Meaning.{Frame, Is}
 use Rattle.sch_insn.specs.declared.insn.Arg.TheVariants.{Reg, Base32}
@@ -35,6 +35,7 @@ use Rattle.sch_select_memory.specs.Heap.{VectorAt, field_address}
 use Rattle.sch_select_memory.proofs.heap.Spots.{spot_within}
 use Rattle.sch_select_memory.proofs.heap.Encodings.{fits, integer_tested}
 use Rattle.sch_word.proofs.facts.Lists.{set_here, set_elsewhere, get_there}
+use Rattle.sch_word.specs.runs.ProgramLayout.{data_address}
 use Rattle.sch_select_memory.proofs.heap.Elements.{index_word}
 use Rattle.sch_select_memory.proofs.heap.Objects.{vector_of, vector_tested, vector_named, no_vector, one_spot}
 use Rattle.sch_select_memory.proofs.heap.Quotients.{positive_word}
@@ -300,7 +301,7 @@ module _ (plan : Plan) (act : Activation plan) (parts : Parts) (s : State Proced
 
 -- the words of a vector, after that of an element is written
 module _ (parts : Parts) (elements : List Value) (unit k y : ℕ) (u : Value) (bytes : List ℕ)
-    (within : Inside (length bytes) (field_address unit k)) (low : 0x10000000 ≤ 16 * unit) (below : k < length elements)
+    (within : Inside (length bytes) (field_address unit k)) (low : data_address ≤ 16 * unit) (below : k < length elements)
     (hu : IsWord parts u y)
     (words : (j : ℕ) (v : Value) → slice_get elements j ≡ Some v → IsWord parts v (word_in bytes (field_address unit j))) where
   set_words : (j : ℕ) (v : Value) → slice_get (slice_set elements k u) j ≡ Some v

@@ -13,7 +13,8 @@ use Rattle.sch_word.specs.runs.Store.{Store}
 use Rattle.sch_word.specs.runs.Stops.{status_of}
 use Rattle.sch_word.specs.runs.Computation.{gives, stops, spent, depth_left, entry_left, known_procedure}
 use Rattle.sch_word.specs.values.Checked.{on_passed}
-use Rattle.sch_control.specs.Operations.{Procedure, and_value}
+use Rattle.sch_control.specs.Operations.{and_value}
+use Rattle.sch_word.specs.runs.Procedures.{Procedure}
 use Rattle.sch_control.specs.Meaning.{World, Result, Callee, with_value, on_return, on_checked, entered, call_in}
 use Rattle.sch_frames.specs.Meaning as meaning
 use Rattle.sch_word.specs.values.Places.{link_place, closure_place}
@@ -25,14 +26,15 @@ use Rattle.sch_insn.specs.declared.insn.Insn.TheVariants.{MovNumber, AddNumber, 
 use Rattle.sch_insn.specs.declared.state.Flags.{Flags}
 use Rattle.sch_insn.specs.Machine.{set_register, add64, sub64, bits_of, difference_of, sum_of, condition}
 use Rattle.sch_insn.proofs.Conditions.{compared_e, compared_ne}
-use Rattle.sch_insn.proofs.Paths.{leads_here, leads_on, leads_then}
+use Rattle.sch_insn.proofs.Paths.{leads_on, leads_then}
 use Rattle.sch_asm.specs.declared.item.Item.{Item}
 use Rattle.sch_asm.specs.declared.item.Item.TheVariants as item
 use Rattle.sch_word.specs.declared.mark.MarkKind.{MarkKind}
+use Rattle.sch_word.specs.runs.ProgramLayout.{data_address}
 use Rattle.sch_asm.specs.Stands.{Stands}
 use Rattle.sch_asm.specs.Data.{word_in}
 use Rattle.sch_asm.specs.Effects.{is_scratch}
-use Rattle.sch_asm.specs.Views.{View, Leads, full}
+use Rattle.sch_asm.specs.Views.{View, Leads}
 use Rattle.sch_asm.proofs.EachItem.{goes, branches, loads_label, loads_word}
 use Rattle.sch_select_memory.specs.Parts.{Parts}
 use Rattle.sch_select_memory.specs.Encoded.{IsWord}
@@ -45,7 +47,7 @@ use Rattle.sch_select_memory.proofs.Straight.{tagged, by_7}
 use Rattle.sch_select_memory.proofs.Places.{Plan, code_of, Room, Activation, PlacesAt, Holds, held_value}
 use Rattle.sch_select_memory.proofs.Places.{holds_words}
 use Rattle.sch_select_memory.proofs.HeapWrites.{heap_inside}
-use Rattle.sch_select_memory.proofs.simulation.Outcomes.{Ends, Goes_on, Sim, Laid, after, ends_after, goes_on_after}
+use Rattle.sch_select_memory.proofs.simulation.Outcomes.{Ends, Sim, Laid, after, ends_after, goes_on_after, no_entries}
 use Rattle.sch_select_memory.proofs.simulation.Outcomes.{stops_here}
 use Rattle.sch_select_operations.proofs.simulation.Operations.{FrameOf, StoreOf, Rest, onward}
 use Rattle.sch_select_memory.proofs.simulation.ProcedureEntries.{arguments_count, argument_at, passed, entry_registers}
@@ -55,7 +57,7 @@ module _ (plan : Plan) (body_steps : ℕ) (laid : Laid plan body_steps) (act : A
     (enters : Enters plan body_steps callee act.nested) where
   open plan use {setting, size, words, literals, globals, symbols, heap, stack, stack_low, narrow, labels}
 
-  small_data : 0x10000000 + size < 2 ^ 63
+  small_data : data_address + size < 2 ^ 63
   small_data = plan.small
 
   abbrev Here : List MarkKind → ℕ → List Item → Type 0
@@ -165,23 +167,6 @@ module _ (plan : Plan) (body_steps : ℕ) (laid : Laid plan body_steps) (act : A
         place = y2.place + h.2.2.0;
         behind = h.2.2.2;
       }
-
-  -- ---- no entry is left
-
-  out_of_entries : (parts : Parts) (before waiting : List MarkKind) (w : World) (x : View)
-      → x.output ≡ w.state.store.output → w.marks ≡ before ++ waiting → w.state.store.entries ≡ 0
-      → Goes_on plan body_steps before w.state.store x w
-  out_of_entries parts before waiting w x printed m none = record {
-    last = x;
-    events = [];
-    least = 0;
-    steps = 0;
-    ahead = waiting;
-    leads = leads_here setting.marks (full setting x);
-    long = omega (arith, none);
-    output_is = printed;
-    marked = m;
-  }
 
   module _ (k : Frame → World → Result) (c : ℕ) (rest : List Item) (K : Rest plan body_steps laid act k c rest)
       (parts : Parts) (before waiting : List MarkKind) (f : Frame) (w : World) (x : View)
@@ -388,7 +373,7 @@ module _ (plan : Plan) (body_steps : ℕ) (laid : Laid plan body_steps) (act : A
             → Owed parts before w x (250 + c)
             (on_return (on_checked (entry_left e (record { procedure = q; arguments = vs; depth = d })) w
             (entered callee (procedure i ∷ vs) w)) After)
-        entries_by d is zero z = λ few. out_of_entries parts before waiting w x g.printed marked z
+        entries_by d is zero z = λ few. no_entries plan body_steps before waiting w x g.printed marked z
         entries_by d is (suc e) z = enters_it d is
 
         depth_by : (d : ℕ) → act.left ≡ d → Owed parts before w x (250 + c)
@@ -518,7 +503,7 @@ module _ (plan : Plan) (body_steps : ℕ) (laid : Laid plan body_steps) (act : A
         tail_entries : (e : ℕ) → t.entries ≡ e → Owed parts before w x (250 + c)
             (on_checked (entry_left e (record { procedure = q; arguments = vs; depth = act.left })) w
             (entered callee (procedure i ∷ vs) w))
-        tail_entries zero z = λ few. out_of_entries parts before waiting w x g.printed marked z
+        tail_entries zero z = λ few. no_entries plan body_steps before waiting w x g.printed marked z
         tail_entries (suc e) z = goes_into
 
       tail_known : (i : ℕ) (vs : List Value) → IsWord parts (procedure i) (x.registers 14)

@@ -12,7 +12,8 @@ use Rattle.sch_word.specs.runs.Computation.{Outcome, gives, stops, State, on_val
 use Rattle.sch_control.specs.declared.operation.Operand.{Operand}
 use Rattle.sch_control.specs.declared.operation.Operation.TheVariants as operation
 use Rattle.sch_control.specs.declared.operation.Source.{Source}
-use Rattle.sch_control.specs.Operations.{Procedure, operate, operand_value, source_value, new_cell, with_cell}
+use Rattle.sch_control.specs.Operations.{operate, operand_value, source_value, new_cell, with_cell}
+use Rattle.sch_word.specs.runs.Procedures.{Procedure}
 use Rattle.sch_word.specs.values.Options.{when_some}
 use Rattle.sch_control.specs.Meaning.{World, Result, on_ending, on_outcome}
 use Rattle.sch_frames.specs.Meaning.{Frame, Is, held}
@@ -45,7 +46,7 @@ use Rattle.sch_select_operations.specs.ObjectCode.{check_heap, part_code}
 use Rattle.sch_select_operations.specs.OperationCode.{operation_code}
 use Rattle.sch_select_memory.proofs.Straight.{halts_after, Halts, Kept, kept_set, kept_then, moved_to}
 use Rattle.sch_select_memory.proofs.Straight.{Masked, masked, tagged, by_7, is_one}
-use Rattle.sch_select_memory.proofs.Places.{Plan, heap_above, Activation, StoreAt, PlacesAt}
+use Rattle.sch_select_memory.proofs.Places.{Plan, heap_above, Activation, StoreAt, PlacesAt, stack_within}
 use Rattle.sch_select_memory.proofs.Places.{places_kept}
 use Rattle.sch_select_operations.proofs.simulation.Operands.{Reads, operand_here, free_scratch}
 use Rattle.sch_select_memory.proofs.HeapWrites.{one_cell, Wrote, other_word, wrote_one, store_wrote}
@@ -85,9 +86,6 @@ module _ (plan : Plan) (body_steps : ℕ) (laid : Laid plan body_steps) (act : A
 
   abbrev Goes : (Frame → World → Result) → ℕ → List Item → Type 0
   Goes k c rest = Rest plan body_steps laid act k c rest
-
-  top : stack ≤ 0x10000000 + size
-  top = let l = act.room.low in let h = act.room.high in omega (arith, l, h)
 
   -- ---- a new cell
 
@@ -680,7 +678,7 @@ module _ (plan : Plan) (body_steps : ℕ) (laid : Laid plan body_steps) (act : A
                     a0 (a0 + 8) be wrote (places_kept plan act parts w.state.store.charged f.places f.outgoing
                     x.registers z3.registers x.bytes kept p))
                     (cell_written plan parts w.state x.bytes x.output x.answers m u there.at (i.registers 0) there.few
-                    there.there value top g)
+                    there.there value (stack_within plan act) g)
                     refl (none_waits w.marks before waiting marked))
                 tested_as (fixnum m) hv i = stopped i
                 tested_as (character m) hv i = stopped i

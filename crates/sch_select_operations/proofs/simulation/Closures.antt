@@ -22,7 +22,8 @@ use Rattle.sch_control.specs.declared.operation.Operation.TheVariants as operati
 use Rattle.sch_control.specs.declared.operation.Atom.TheVariants.{Constant, Literal, Variable}
 use Rattle.sch_control.specs.declared.operation.Source.{Source}
 use Rattle.sch_control.specs.declared.operation.Source.TheVariants as source
-use Rattle.sch_control.specs.Operations.{Procedure, operate, and_value, source_value, source_values}
+use Rattle.sch_control.specs.Operations.{operate, and_value, source_value, source_values}
+use Rattle.sch_word.specs.runs.Procedures.{Procedure}
 use Rattle.sch_word.specs.values.Options.{when_some}
 use Rattle.sch_control.specs.Operations.{close, member_bytes, members_made, with_procedures}
 use Rattle.sch_control.specs.Meaning.{World, Result, on_ending, on_outcome, with_value}
@@ -62,6 +63,7 @@ use Rattle.sch_select_memory.proofs.simulation.Outcomes.{after, Laid, stops_here
 use Rattle.sch_select_operations.proofs.simulation.Operations.{Std, FrameOf, StoreOf, SimOf, Rest, next_of, none_waits}
 use Rattle.sch_select_operations.proofs.simulation.Cells.{one_scratch}
 use Rattle.sch_select_operations.proofs.simulation.SelectedPrograms.{source_selected, closure_selected, members_selected}
+use Rattle.sch_select_operations.specs.Reach.{max_record_bytes}
 
 -- ---- charges
 
@@ -136,7 +138,7 @@ group_charged (m ∷ members) = ap (λ n. closure_bytes m.closure + n) (group_ch
 -- a group takes less than 2 ^ 31 bytes
 pub group_small : (words globals symbols literals : ℕ) (members : List (Member Place))
     → members_selected words globals symbols literals members ≡ true
-    → group_bytes members ≤ 8016 * length members
+    → group_bytes members ≤ max_record_bytes * length members
 group_small words globals symbols literals [] e = omega arith
 group_small words globals symbols literals (m ∷ members) e =
     let c = and_parts (is_place words m.at) (closure_selected words globals symbols literals m.closure &&

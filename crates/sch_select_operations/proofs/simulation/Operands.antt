@@ -14,7 +14,8 @@ use Rattle.sch_control.specs.declared.operation.Atom.{Atom}
 use Rattle.sch_control.specs.declared.operation.Atom.TheVariants.{Constant, Literal, Variable}
 use Rattle.sch_control.specs.declared.operation.Operand.{Operand}
 use Rattle.sch_control.specs.declared.operation.Operand.TheVariants as operand
-use Rattle.sch_control.specs.Operations.{Procedure, given, read, and_value, atom_value, atom_values, operand_value}
+use Rattle.sch_control.specs.Operations.{given, read, and_value, atom_value, atom_values, operand_value}
+use Rattle.sch_word.specs.runs.Procedures.{Procedure}
 use Rattle.sch_frames.specs.Meaning.{Frame, held}
 use Rattle.sch_insn.specs.declared.insn.Arg.TheVariants.{Reg}
 use Rattle.sch_insn.specs.declared.insn.Insn.TheVariants.{MovTo, MovWord}

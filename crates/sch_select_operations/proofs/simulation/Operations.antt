@@ -42,7 +42,7 @@ use Rattle.sch_select_operations.specs.PrimitiveCode.{global_code, set_global_co
 use Rattle.sch_select_memory.proofs.heap.Encodings.{fits, unset_tested}
 use Rattle.sch_select_memory.proofs.Straight.{halts_after, is_free, kept_set, kept_then, moved_to, Yields}
 use Rattle.sch_select_memory.proofs.Straight.{Comes}
-use Rattle.sch_select_memory.proofs.Places.{Plan, heap_above, Activation, StoreAt, PlacesAt}
+use Rattle.sch_select_memory.proofs.Places.{Plan, heap_above, Activation, StoreAt, PlacesAt, heap_within, stack_within}
 use Rattle.sch_select_memory.proofs.Places.{places_kept, Holds}
 use Rattle.sch_select_operations.proofs.simulation.Operands.{Reads, operand_here, free_scratch}
 use Rattle.sch_select_memory.proofs.simulation.PutValue.{PutsPiece, puts_value}
@@ -84,9 +84,6 @@ module _ (plan : Plan) (body_steps : ℕ) (laid : Laid plan body_steps) (act : A
       p) → b + c ≤ most → SimOf parts (before ++ events) w y c r → SimOf parts before w x most r
   onward parts before events w x y a b c most r p low le s = after plan body_steps act parts parts (λ v n h. h) before
       events w.state.store w.state.store x y a b c most r p low (omega arith) (omega arith) (omega (arith, le)) s
-
-  heap_within : heap ≤ 0x10000000 + size
-  heap_within = let a = act.room.low in let b = act.room.high in let c = plan.stack_low in omega (arith, a, b, c)
 
   pub comes_scratch : (parts : Parts) (x : View) (waiting : List MarkKind) (c : ℕ) (t : Store) (rest : List Item)
       (o : Outcome Store Value) → Comes setting parts is_free x waiting c t rest o
@@ -183,7 +180,7 @@ module _ (plan : Plan) (body_steps : ℕ) (laid : Laid plan body_steps) (act : A
         first : Leads setting 2 2 waiting x z
         first = leads_on setting.marks (loads_data setting x 0 (global_address literals i)
             (item.Plain (CmpNumber (Reg 0) (pos 38)) ∷ (item.JumpIf E (stop_label Unset) ∷ rest)) waiting h
-            (global_inside plan i x.bytes lt heap_within g.size_is))
+            (global_inside plan i x.bytes lt (heap_within plan act) g.size_is))
             (goes setting y z (CmpNumber (Reg 0) (pos 38)) h.4.0 [] h.4.1 refl)
 
         by : (o : Option (Option Value)) → slice_get w.state.store.globals i ≡ o
@@ -258,15 +255,15 @@ module _ (plan : Plan) (body_steps : ℕ) (laid : Laid plan body_steps) (act : A
             (s.least + 1 + 1) (s.steps + 1 + 1) c (250 + c) _
             (leads_on setting.marks (leads_on setting.marks s.leads
             (stores_data setting y 0 (global_address literals i) (item.Plain (MovNumber (Reg 0) (pos 30)) ∷ rest) [] a
-            (global_inside plan i x.bytes lt heap_within g.size_is)))
+            (global_inside plan i x.bytes lt (heap_within plan act) g.size_is)))
             (goes setting z u (MovNumber (Reg 0) (pos 30)) a.4.0 [] a.4.1 refl))
-            (λ q lo hi. below_written plan act x.bytes i (s.registers 0) lt heap_within g.size_is q lo)
+            (λ q lo hi. below_written plan act x.bytes i (s.registers 0) lt (heap_within plan act) g.size_is q lo)
             (omega arith) (omega arith) (let q = s.few in omega (arith, q))
             (K parts (before ++ waiting) [] (record f { accumulator = Is unspecified }) w' u a.4.2
             (places_written plan act parts w.state.store.charged f.places f.outgoing u.registers x.bytes i
-            (s.registers 0) lt heap_within g.size_is (places_kept plan act parts w.state.store.charged f.places
+            (s.registers 0) lt (heap_within plan act) g.size_is (places_kept plan act parts w.state.store.charged f.places
             f.outgoing x.registers u.registers x.bytes kept p))
-            (global_written plan parts w.state i v (s.registers 0) x.bytes x.output x.answers lt heap_within s.value g)
+            (global_written plan parts w.state i v (s.registers 0) x.bytes x.output x.answers lt (heap_within plan act) s.value g)
             refl (none_waits w.marks before waiting marked))
 
     -- ---- a put, whose value is in RAX
@@ -291,14 +288,11 @@ module _ (plan : Plan) (body_steps : ℕ) (laid : Laid plan body_steps) (act : A
             (jumps setting y1 put_label (item.Label n ∷ (item.Plain (MovNumber (Reg 0) (pos 30)) ∷ rest)) [] h.4)
 
         ready : IsReady y2
-        ready = let a = heap_above plan in let b = heap_within in let e = g.size_is in let s = plan.small in record
+        ready = let a = heap_above plan in let b = heap_within plan act in let e = g.size_is in let s = plan.small in record
             { own_words = omega (arith, a, b, e); within = omega (arith, e, s); back = plan.labels n }
 
-        top : stack ≤ 0x10000000 + size
-        top = let a = act.room.low in let b = act.room.high in omega (arith, a, b)
-
         q : PutsPiece plan laid.routine y2 (piece v t)
-        q = puts_value plan laid.routine parts w.state y2 ready (g.texts ∙ laid.static_is) top g v hv laid.put_stands
+        q = puts_value plan laid.routine parts w.state y2 ready (g.texts ∙ laid.static_is) (stack_within plan act) g v hv laid.put_stands
 
         far : heap + t.charged < 2 ^ 64
         far = let a = g.within in let b = act.room.low in let e = act.room.high in let s = plan.small in omega

@@ -57,7 +57,7 @@ use Rattle.sch_select_memory.proofs.heap.Encodings.{symbol_tested, procedure_tes
 use Rattle.sch_select_memory.proofs.heap.Objects.{pair_tested, vector_tested, string_tested}
 use Rattle.sch_select_memory.specs.Heap.{AreKinds}
 use Rattle.sch_word.specs.runs.Computation.{State}
-use Rattle.sch_control.specs.Operations.{Procedure}
+use Rattle.sch_word.specs.runs.Procedures.{Procedure}
 use Rattle.sch_select_memory.proofs.Places.{Plan, StoreAt}
 use Rattle.sch_select_memory.proofs.Straight.{is_free, kept_set, kept_then, moved_to, tagged, Comes}
 use Rattle.sch_select_memory.proofs.Straight.{comes_after, yields_after, fixnum_checked, character_checked}

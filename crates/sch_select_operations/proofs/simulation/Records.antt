@@ -11,7 +11,8 @@ use Rattle.sch_word.specs.runs.Computation.{State}
 use Rattle.sch_control.specs.declared.operation.Closure.{Closure}
 use Rattle.sch_control.specs.declared.operation.Member.{Member}
 use Rattle.sch_control.specs.declared.operation.Source.{Source}
-use Rattle.sch_control.specs.Operations.{Procedure, and_value, source_value, source_values, members_made}
+use Rattle.sch_control.specs.Operations.{and_value, source_value, source_values, members_made}
+use Rattle.sch_word.specs.runs.Procedures.{Procedure}
 use Rattle.sch_word.specs.values.Options.{when_some}
 use Rattle.sch_frames.specs.Meaning.{Frame, held}
 use Rattle.sch_frames.specs.Valid.{is_place}
@@ -22,6 +23,7 @@ use Rattle.sch_insn.proofs.Paths.{leads_on, leads_here}
 use Rattle.sch_asm.specs.declared.item.Item.{Item}
 use Rattle.sch_asm.specs.declared.item.Item.TheVariants as item
 use Rattle.sch_word.specs.declared.mark.MarkKind.{MarkKind}
+use Rattle.sch_word.specs.runs.ProgramLayout.{data_address}
 use Rattle.sch_asm.specs.Stands.{Stands}
 use Rattle.sch_asm.specs.Data.{Inside, word_in, with_word}
 use Rattle.sch_asm.specs.Views.{View, Leads, full}
@@ -258,7 +260,7 @@ module _ (plan : Plan) (act : Activation plan) (old parts : Parts) (stay : Stay 
         ahead = rec.ahead;
       })
     where
-      low : 0x10000000 ≤ next
+      low : data_address ≤ next
       low = let i = next_is in let hl = heap_above plan in omega (arith, i, hl)
 
       field_at : (u : Value) (us : List Value) {n : ℕ} → IsWord parts u n → (bytes1 bytes2 : List ℕ)
@@ -373,7 +375,7 @@ module _ (plan : Plan) (act : Activation plan) (old parts : Parts) (stay : Stay 
 
   -- a record stays where words behind it are written
   record_stays : (n : ℕ) (p : Procedure) (at : Spot) (bytes bytes' : List ℕ) (from to : ℕ)
-      → spot parts (a_procedure n) ≡ Some at → 16 * at.unit + 16 * suc at.more ≤ from → 0x10000000 ≤ 16 * at.unit
+      → spot parts (a_procedure n) ≡ Some at → 16 * at.unit + 16 * suc at.more ≤ from → data_address ≤ 16 * at.unit
       → Wrote from to bytes bytes' → RecordAt (code_of plan) parts bytes n p → RecordAt (code_of plan) parts bytes' n p
   record_stays n p at bytes bytes' from to there le low w r =
       let e : Some r.at ≡ Some at = sym r.there ∙ there in

@@ -9,7 +9,8 @@ use Rattle.sch_word.specs.values.Values.{Value, fixnum, character, boolean, nil,
 use Rattle.sch_word.specs.runs.Computation.{State}
 use Rattle.sch_control.specs.declared.operation.Source.{Source}
 use Rattle.sch_control.specs.declared.operation.Source.TheVariants as source
-use Rattle.sch_control.specs.Operations.{Procedure, field, field_of, atom_value, source_value}
+use Rattle.sch_control.specs.Operations.{field, field_of, atom_value, source_value}
+use Rattle.sch_word.specs.runs.Procedures.{Procedure}
 use Rattle.sch_frames.specs.Meaning.{Cell, Is, Link, Junk, Frame, value_in, held}
 use Rattle.sch_frames.specs.Valid.{is_place}
 use Rattle.sch_insn.specs.declared.insn.Arg.TheVariants.{Base32}

@@ -2,6 +2,7 @@
 use Rattle.std.proofs.Common.{◌≡◌, ℕ, zero, suc, ◌+◌, ◌<◌, ◌≤◌, Bool, true, false, List, [], ◌∷◌, length, refl, sym, ap, ◌∙◌, arith, map, replicate, slice_set, nat_eq}
 use Rattle.std.specs.Prelude.{◌||◌}
 use Rattle.std.proofs.lemmas.Bool.{eq-eqb}
+use Rattle.std.proofs.Math.Bool.{or-true}
 use Rattle.sch_word.specs.trees.Assigned.{marked}
 use Rattle.sch_word.specs.trees.Bindings.{numbers}
 use Rattle.sch_word.proofs.facts.Booleans.{or_right_false, or_or, or_swap}
@@ -48,21 +49,13 @@ marked_far k j [] h = refl
 marked_far k j (b ∷ bs) h =
     cons_same (ap (λ x. b || x) (differ k j (λ e. omega (arith, e, h))) ∙ or_right_false b) (marked_far k (suc j) bs (omega (arith, h)))
 
-or_true : (b : Bool) → (b || true) ≡ true
-or_true true = refl
-or_true false = refl
-
 pub marked_at : (k j i : ℕ) (bs : List Bool) → k ≡ j + i → i < length bs → slice_set bs i true ≡ marked (λ n. nat_eq k n) j bs
 marked_at k j i [] e h = absurd (omega (arith, h))
 marked_at k j zero (b ∷ bs) e h =
-    cons_same (sym (ap (λ x. b || x) (eq-eqb k j (omega (arith, e))) ∙ or_true b)) (sym (marked_past k (suc j) bs (omega (arith, e))))
+    cons_same (sym (ap (λ x. b || x) (eq-eqb k j (omega (arith, e))) ∙ or-true b)) (sym (marked_past k (suc j) bs (omega (arith, e))))
 marked_at k j (suc i) (b ∷ bs) e h =
     cons_same (sym (ap (λ x. b || x) (differ k j (λ d. omega (arith, d, e))) ∙ or_right_false b)) (marked_at k (suc j) i bs (omega (arith, e)) (omega (arith, h)))
 
 pub all_marked : (f : ℕ → Bool) (n j : ℕ) → marked f j (replicate n false) ≡ map f (numbers j n)
 all_marked f zero j = refl
 all_marked f (suc n) j = cons_same refl (all_marked f n (suc j))
-
-pub map_length : (f : ℕ → Bool) (n j : ℕ) → length (map f (numbers j n)) ≡ n
-map_length f zero j = refl
-map_length f (suc n) j = ap suc (map_length f n (suc j))

@@ -1,12 +1,9 @@
 -- Conjunctions and disjunctions, and what their parts are.
-use Rattle.std.specs.Prelude.{◌≡◌, ◌≤◌, Bool, true, false, cond, ◌&&◌, ◌||◌, not, IsTrue}
+use Rattle.std.specs.Prelude.{◌≡◌, ◌≤◌, Bool, true, false, cond, ◌&&◌, ◌||◌, not}
 use Rattle.std.proofs.Common.{refl, arith}
+pub use Rattle.std.proofs.lemmas.Bool.{and_from as and_of, and_parts, or_left, or_right, or_from as neither, not-false as not_false, not-true as not_true, not_from_false as is_not_true, false_from_ne_true as never_true}
 
 -- ## Conjunctions
-
-pub and_of : (a b : Bool) → a ≡ true → b ≡ true → (a && b) ≡ true
-and_of true b g h = h
-and_of false b g h = absurd (cc)
 
 pub and_left : (a b : Bool) → (a && b) ≡ true → a ≡ true
 and_left true b h = refl
@@ -16,35 +13,15 @@ pub and_right : (a b : Bool) → (a && b) ≡ true → b ≡ true
 and_right true b h = h
 and_right false b h = absurd (cc)
 
-pub and_parts : (a b : Bool) → (a && b) ≡ true → (a ≡ true) × (b ≡ true)
-and_parts true b h = (refl, h)
-and_parts false b h = absurd (cc)
-
 pub and_true : (a : Bool) → (a && true) ≡ a
 and_true true = refl
 and_true false = refl
-
-pub and_false : (a : Bool) → (a && false) ≡ false
-and_false true = refl
-and_false false = refl
 
 pub and_and : (a b c : Bool) → ((a && b) && c) ≡ (a && (b && c))
 and_and true b c = refl
 and_and false b c = refl
 
 -- ## Disjunctions
-
-pub or_left : (a b : Bool) → a ≡ true → (a || b) ≡ true
-or_left true b h = refl
-or_left false b h = absurd (cc)
-
-pub or_right : (a b : Bool) → b ≡ true → (a || b) ≡ true
-or_right true b h = refl
-or_right false b h = h
-
-pub neither : (a b : Bool) → a ≡ false → b ≡ false → (a || b) ≡ false
-neither true b g h = absurd (cc)
-neither false b g h = h
 
 pub not_left : (a b : Bool) → (a || b) ≡ false → a ≡ false
 not_left true b h = absurd (cc)
@@ -78,29 +55,13 @@ or_same p q = rw (p, q) refl
 
 -- ## Negations
 
-pub not_false : (b : Bool) → not b ≡ false → b ≡ true
-not_false true h = refl
-not_false false h = absurd (cc)
-
 pub not_either : (a b c : Bool) → (not b && (not a && c)) ≡ (not (a || b) && c)
 not_either true true c = refl
 not_either true false c = refl
 not_either false b c = refl
 
-pub not_true : (b : Bool) → IsTrue (not b) → b ≡ false
-not_true true h = absurd (cc)
-not_true false h = refl
-
-pub is_not_true : (b : Bool) → b ≡ false → IsTrue (not b)
-is_not_true true h = absurd (cc)
-is_not_true false h = refl
-
 pub false_true : {b : Bool} → b ≡ true → b ≡ false → ⊥
 false_true h k = absurd (cc)
-
-pub never_true : (b : Bool) → (b ≡ true → ⊥) → b ≡ false
-never_true true n = absurd (n refl)
-never_true false n = refl
 
 -- ## As numbers
 

@@ -1,9 +1,10 @@
 -- Lists: what is left of one and what is taken, and an item that is set.
 use Rattle.std.proofs.Common.{◌≡◌, ℕ, zero, suc, ◌+◌, ◌-◌, ◌<◌, ◌≤◌, Bool, true, false, cond, List, [], ◌∷◌, ◌++◌, length, map, reverse, drop, take, get_or, Some, None, refl, sym, ap, ◌∙◌, subst, arith, append_assoc, drop-cons}
-use Rattle.std.specs.Prelude.{◌&&◌, slice_get, slice_set}
+use Rattle.std.specs.Prelude.{slice_get, slice_set}
 use Rattle.std.specs.List.{filter, list_all}
 use Rattle.std.proofs.lemmas.Option.{none-some, slice_get_within}
 use Rattle.std.proofs.lemmas.List.{reverse-append, length-append, length-reverse, length-drop, map-append, take-append-drop}
+pub use Rattle.std.proofs.lemmas.List.{nil_from_length as length_none}
 use Rattle.std.proofs.Math.Seq.{take-suc, take-append_seam, drop-append_seam}
 use Rattle.sch_word.proofs.facts.Booleans.{and_left, and_of, and_right}
 
@@ -81,10 +82,6 @@ tail_same e = cc
 
 pub some_same : {A : Type 0} {x y : A} → Some x ≡ Some y → x ≡ y
 some_same e = cc
-
-pub length_none : {A : Type 0} (xs : List A) → length xs ≡ 0 → xs ≡ []
-length_none [] e = refl
-length_none (x ∷ xs) e = absurd (omega (arith, e))
 
 pub append_behind : {A : Type 0} (xs ys zs more : List A) → xs ≡ ys ++ zs → xs ++ more ≡ ys ++ (zs ++ more)
 append_behind xs ys zs more e = rw e (append_assoc ys zs more)

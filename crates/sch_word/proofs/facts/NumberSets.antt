@@ -1,16 +1,14 @@
 -- Finite sets of numbers: what is in them, and unions.
-use Rattle.std.proofs.Common.{◌≡◌, ℕ, zero, suc, ◌+◌, ◌<◌, Bool, true, false, List, [], ◌∷◌, ◌++◌, length, reverse, drop, get_or, refl, sym, ap, ◌∙◌, subst, arith, add-one}
-use Rattle.std.specs.Prelude.{nat_eq, ◌||◌}
+use Rattle.std.proofs.Common.{◌≡◌, ℕ, zero, suc, ◌+◌, ◌<◌, Bool, true, false, List, [], ◌∷◌, ◌++◌, length, map, reverse, drop, get_or, refl, sym, ap, ◌∙◌, subst, arith, add-one}
+use Rattle.std.specs.Prelude.{nat_eq, ◌&&◌, ◌||◌, not}
 use Rattle.std.proofs.lemmas.Bool.{eqb-true}
 use Rattle.std.proofs.lemmas.List.{reverse-append, get_or_default}
-use Rattle.sch_word.specs.trees.NumberSets.{has, unless, insert, union}
-use Rattle.sch_word.specs.trees.Bindings.{numbers}
-use Rattle.sch_word.proofs.facts.Booleans.{or_swap, or_right_false}
-use Rattle.sch_word.proofs.facts.Lists.{next_left, reverse_cons}
+use Rattle.std.specs.List.{list_all}
+use Rattle.sch_word.specs.trees.NumberSets.{has, unless, insert, union, In, without_repeats}
+use Rattle.sch_word.specs.trees.Bindings.{numbers, scope_with}
+use Rattle.sch_word.proofs.facts.Booleans.{or_swap, or_right_false, and_left, and_right, or_left, or_right, and_of}
+use Rattle.sch_word.proofs.facts.Lists.{next_left, reverse_cons, map_length}
 use Rattle.sch_word.proofs.facts.NumberTests.{same, below_differs}
-
-abbrev pub In : ℕ → List ℕ → Type 0
-In x xs = has x xs ≡ true
 
 -- ## Members
 
@@ -23,6 +21,11 @@ in_more x y xs h = go (nat_eq x y) h
     go : (b : Bool) → has x xs ≡ true → (b || has x xs) ≡ true
     go true e = refl
     go false e = e
+
+-- a number of a scope is in a deeper one
+pub in_deeper : (x m y : ℕ) (xs : List ℕ) → In y xs → In y (scope_with x m xs)
+in_deeper x zero y xs h = h
+in_deeper x (suc m) y xs h = in_deeper (suc x) m y (x ∷ xs) (in_more y x xs h)
 
 pub insert_here : (x : ℕ) (xs : List ℕ) → In x (insert x xs)
 insert_here x xs = go (has x xs) refl
@@ -58,6 +61,17 @@ pub numbers_length : (x n : ℕ) → length (numbers x n) ≡ n
 numbers_length x zero = refl
 numbers_length x (suc n) = ap suc (numbers_length (suc x) n)
 
+pub numbers_mapped : {A : Type 0} (f : ℕ → A) (x n : ℕ) → length (map f (numbers x n)) ≡ n
+numbers_mapped f x n = map_length f (numbers x n) ∙ numbers_length x n
+
+-- where all pass a test, each that is listed does
+pub each_passes : (test : ℕ → Bool) (ys : List ℕ) → list_all test ys ≡ true → (x : ℕ) → has x ys ≡ true → test x ≡ true
+each_passes test [] h x m = absurd (cc)
+each_passes test (y ∷ ys) h x m = by (nat_eq x y) refl (each_passes test ys (and_right (test y) _ h) x) m where
+  by : (t : Bool) → nat_eq x y ≡ t → (has x ys ≡ true → test x ≡ true) → (t || has x ys) ≡ true → test x ≡ true
+  by true e f m = ap test (eqb-true x y e) ∙ and_left (test y) _ h
+  by false e f m = f m
+
 -- ## Members of lists put together
 
 pub has_append : (x : ℕ) (ps qs : List ℕ) → has x (ps ++ qs) ≡ (has x ps || has x qs)
@@ -67,6 +81,12 @@ has_append x (p ∷ ps) qs = go (nat_eq x p) (has_append x ps qs)
     go : (b : Bool) → has x (ps ++ qs) ≡ (has x ps || has x qs) → (b || has x (ps ++ qs)) ≡ ((b || has x ps) || has x qs)
     go true h = refl
     go false h = h
+
+pub append_left : (x : ℕ) (xs ys : List ℕ) → In x xs → In x (xs ++ ys)
+append_left x xs ys i = has_append x xs ys ∙ or_left (has x xs) (has x ys) i
+
+pub append_right : (x : ℕ) (xs ys : List ℕ) → In x ys → In x (xs ++ ys)
+append_right x xs ys i = has_append x xs ys ∙ or_right (has x xs) (has x ys) i
 
 pub has_reverse : (x : ℕ) (xs : List ℕ) → has x (reverse xs) ≡ has x xs
 has_reverse x [] = refl
@@ -135,3 +155,23 @@ numbers_joined x (suc m) n =
     let e : x + suc m ≡ suc x + m = omega arith in
     let d : suc m + n ≡ suc (m + n) = omega arith in
     rw (e, d) (ap (λ l. x ∷ l) (numbers_joined (suc x) m n))
+
+-- ## Lists without repeats
+
+pub distinct_numbers : (x n : ℕ) → without_repeats (numbers x n) ≡ true
+distinct_numbers x zero = refl
+distinct_numbers x (suc n) = and_of (not (has x (numbers (suc x) n))) _ (ap not (below_numbers x (suc x) n (omega arith))) (distinct_numbers (suc x) n)
+
+pub distinct_left : (xs ys : List ℕ) → without_repeats (xs ++ ys) ≡ true → without_repeats xs ≡ true
+distinct_left [] ys h = refl
+distinct_left (x ∷ xs) ys h = by (has x xs) (has x (xs ++ ys)) (has_append x xs ys) h (distinct_left xs ys) where
+  by : (t u : Bool) → u ≡ (t || has x ys) → (not u && without_repeats (xs ++ ys)) ≡ true → (without_repeats (xs ++ ys) ≡ true → without_repeats xs ≡ true)
+      → (not t && without_repeats xs) ≡ true
+  by true true e h f = absurd (cc)
+  by true false e h f = absurd (cc)
+  by false true e h f = absurd (cc)
+  by false false e h f = f h
+
+pub distinct_right : (xs ys : List ℕ) → without_repeats (xs ++ ys) ≡ true → without_repeats ys ≡ true
+distinct_right [] ys h = h
+distinct_right (x ∷ xs) ys h = distinct_right xs ys (and_right (not (has x (xs ++ ys))) _ h)

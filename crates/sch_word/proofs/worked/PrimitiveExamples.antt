@@ -12,7 +12,7 @@ use Rattle.sch_word.specs.runs.Charges.{procedure_bytes, vector_bytes, string_by
 use Rattle.sch_word.specs.values.PrimitiveRows.{primitive}
 
 -- a heap of 96 bytes; the pair (1), the vector #(1 2) and the string "abc"; and the symbol hl
-abbrev store : Store
+abbrev pub store : Store
 store = record {
   constants = record { heap = 96; symbols = codes "hl" ∷ []; literals = [] };
   globals = [];

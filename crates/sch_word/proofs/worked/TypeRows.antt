@@ -1,26 +1,14 @@
 -- Stop 65 for each operand of each primitive that must have a type: one value of a kind near to it, where
 -- all other operands are right.
 use Rattle.std.proofs.Common.{◌≡◌, refl, List, [], ◌∷◌, pos}
-use Rattle.std.specs.Prelude.{codes}
 use Rattle.std.specs.Fmt.{digits}
 use Rattle.sch_word.specs.declared.primitive.Primitive.{Primitive}
 use Rattle.sch_word.specs.declared.primitive.Primitive.TheVariants.{Add, Car, Cdr, CharToInteger, Equal, Greater, GreaterEqual, IntegerToChar, Less, LessEqual, MakeString, MakeVector, Modulo, Multiply, Quotient, Remainder, SetCar, SetCdr, StringLength, StringRef, StringSet, Subtract, SymbolLength, SymbolRef, VectorLength, VectorRef, VectorSet}
 use Rattle.sch_word.specs.declared.stop.Stop.TheVariants.{WrongType}
-use Rattle.sch_word.specs.values.Values.{Value, fixnum, character, nil, symbol, object, pair, vector, string}
-use Rattle.sch_word.specs.runs.Store.{Store}
+use Rattle.sch_word.specs.values.Values.{Value, fixnum, character, nil, symbol, object}
 use Rattle.sch_word.specs.runs.Computation.{stops}
 use Rattle.sch_word.specs.values.PrimitiveRows.{primitive}
-
-abbrev store : Store
-store = record {
-  constants = record { heap = 96; symbols = codes "hl" ∷ []; literals = [] };
-  globals = [];
-  objects = pair (fixnum (pos 1)) nil ∷ vector (fixnum (pos 1) ∷ fixnum (pos 2) ∷ []) ∷ string (codes "abc") ∷ [];
-  charged = 0;
-  output = [];
-  answers = [];
-  entries = 0;
-}
+use Rattle.sch_word.proofs.worked.PrimitiveExamples.{store}
 
 abbrev a_pair : Value
 a_pair = object 0

@@ -1,9 +1,12 @@
 -- Finite sets of numbers, as lists without repeats.
-use Rattle.std.specs.Prelude.{ℕ, Bool, true, false, ◌||◌, ◌&&◌, not, nat_eq, List, [], ◌∷◌}
+use Rattle.std.specs.Prelude.{◌≡◌, ℕ, Bool, true, false, ◌||◌, ◌&&◌, not, nat_eq, List, [], ◌∷◌}
 
 abbrev pub has : ℕ → List ℕ → Bool
 has x [] = false
 has x (y ∷ ys) = nat_eq x y || has x ys
+
+abbrev pub In : ℕ → List ℕ → Type 0
+In x xs = has x xs ≡ true
 
 abbrev pub unless : Bool → ℕ → List ℕ → List ℕ
 unless true x xs = xs

@@ -1,5 +1,6 @@
-use Rattle.std.proofs.Common.{ap, codes, false, length, List, map, None, Option, refl, Some, subst, sym, true, [], arith, inl, inr, ◌∙◌, ◌∷◌, ◌≡◌}
-use Rattle.std.specs.Prelude.{string_bytes, Bool, ◌⊎◌}
+use Rattle.std.proofs.Common.{ap, codes, false, length, List, map, None, Option, refl, Some, subst, sym, [], arith, inl, inr, ◌∙◌, ◌∷◌, ◌≡◌}
+use Rattle.std.specs.Prelude.{string_bytes, ◌⊎◌}
+use Rattle.std.proofs.lemmas.Bool.{false≢true}
 use Rattle.clap.specs.Words.{IsAmong, Kinds, Row, Text, app_of, fault_of, first_of, first_value, found_of, is_simple, is_simple_and_free, matches_of, rows_of}
 use Rattle.clap.specs.contracts.error.kind.ErrorKind.{the_type}
 use Rattle.clap.specs.declared.error.kind.ErrorKind.{ErrorKind}
@@ -60,19 +61,12 @@ refused kind [] answer not_memory (inl e) = absurd (not_memory e)
 refused kind [] answer not_memory (inr none) = elim none [ ]
 refused kind (k ∷ ks) answer not_memory has = refl
 
-abbrev IsFalse : Bool → Type 0
-IsFalse false = Unit {0}
-IsFalse true = ⊥
-
-false_is_true : false ≡ true → ⊥
-false_is_true e = subst IsFalse e tt
-
 pub returns : goal.returns
 returns c =
     let app : app_of c.in_ok-command.command ≡ schc = c.in_ok-command.ensures in
     let words = map string_bytes c.args.words.now in
     let kinds = c.in-Err.ensures.kinds (ap is_simple_and_free app) in
-    let not_memory : c.in-Err.error.kind ≡ OutOfMemory → ⊥ = (λ e. false_is_true (sym c.if-eq.false ∙ c.eq.ensures ∙ ap (λ k. sameb the_type k OutOfMemory) (c.kind.ensures ∙ e))) in
+    let not_memory : c.in-Err.error.kind ≡ OutOfMemory → ⊥ = (λ e. false≢true (sym c.if-eq.false ∙ c.eq.ensures ∙ ap (λ k. sameb the_type k OutOfMemory) (c.kind.ensures ∙ e))) in
     let has = subst (λ (faults : Kinds). HasKindOf faults c.in-Err.error.kind) (ap (λ a. fault_of a words) app) kinds in
     let clap = refused c.in-Err.error.kind (fault_of schc words) (texts_of_rows (matches_of schc words)) not_memory has in
     record { clap = clap; plain = clap ∙ plain_is_clap words (strings_are_utf8 c.args.words.now) }

@@ -1,6 +1,7 @@
 -- The table that is filled is that of the items.
 use Rattle.std.proofs.Common.{◌≡◌, ℕ, ◌<◌, ◌++◌, List, [], length, Bool, sym, ap, ◌∙◌, subst, arith}
 use Rattle.std.specs.Prelude.{slice_index}
+use Rattle.sch_word.specs.runs.ProgramLayout.{text_address}
 use Rattle.sch_jumps.specs.declared.piece.Piece.{Piece}
 use Rattle.sch_jumps.specs.Sizes.{ArePieces, jump_count}
 use Rattle.sch_jumps.specs.Least.{AllReach, IsLeast}
@@ -24,8 +25,8 @@ laid_out : (xs ys : List Item) (ws rs : List Word) (places : List ℕ) (longs : 
     → IsLeast (skeleton (xs ++ ys)) (set_of longs)
     → length longs ≡ jump_count (skeleton (xs ++ ys))
     → LabelsBelow (length places) (skeleton (xs ++ ys))
-    → (Once (skeleton (xs ++ ys)) → Own (set_of longs) (slice_index places) 0 0x400000 (skeleton (xs ++ ys)))
-    → AllReach (set_of longs) (slice_index places) 0 0x400000 (skeleton (xs ++ ys))
+    → (Once (skeleton (xs ++ ys)) → Own (set_of longs) (slice_index places) 0 text_address (skeleton (xs ++ ys)))
+    → AllReach (set_of longs) (slice_index places) 0 text_address (skeleton (xs ++ ys))
     → IsLaidOut (xs ++ ys) ws places longs
 laid_out xs ys ws rs places longs z own routines once once' known known' least each below owned reach =
     let n = length places in
@@ -66,5 +67,5 @@ returns-clause-places c =
     (subst (λ q. IsLeast q (set_of f.longs.items)) e h.least)
     (h.each ∙ ap jump_count e)
     (subst (λ q. LabelsBelow (length f.places.items) q) e h.known)
-    (subst (λ q. Once q → Own (set_of f.longs.items) (slice_index f.places.items) 0 0x400000 q) e (h.own low))
-    (subst (λ q. AllReach (set_of f.longs.items) (slice_index f.places.items) 0 0x400000 q) e (h.reach low))
+    (subst (λ q. Once q → Own (set_of f.longs.items) (slice_index f.places.items) 0 text_address q) e (h.own low))
+    (subst (λ q. AllReach (set_of f.longs.items) (slice_index f.places.items) 0 text_address q) e (h.reach low))

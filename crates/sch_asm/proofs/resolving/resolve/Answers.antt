@@ -2,6 +2,7 @@
 use Rattle.std.proofs.Common.{◌≡◌, ℕ, ◌+◌, ◌<◌, ◌≤◌, ◌++◌, List, [], length, Bool, refl, sym, ap, ◌∙◌, subst, arith}
 use Rattle.std.specs.List.{flat_map}
 use Rattle.std.specs.Prelude.{slice_index}
+use Rattle.sch_word.specs.runs.ProgramLayout.{text_address}
 use Rattle.sch_insn.specs.declared.insn.Insn.{Insn}
 use Rattle.sch_insn.specs.Spelling.{AllValid, spelling}
 use Rattle.sch_jumps.specs.Sizes.{jump_count}
@@ -39,9 +40,9 @@ whole_size is longs h =
     omega (arith, e, f)
 
 -- the jumps that are put out have the forms that were chosen
-forms_are : (place : ℕ → ℕ) (is : List Item) (longs : List Bool) (code : List Insn) → AreItems is → length longs ≡ jump_count (skeleton is) → code ≡ emitted_from place (set_of longs) 0 0x400000 is → jump_forms code ≡ longs
+forms_are : (place : ℕ → ℕ) (is : List Item) (longs : List Bool) (code : List Insn) → AreItems is → length longs ≡ jump_count (skeleton is) → code ≡ emitted_from place (set_of longs) 0 text_address is → jump_forms code ≡ longs
 forms_are place is longs code v each e =
-    ap jump_forms e ∙ forms_said place (set_of longs) is 0 0x400000 v ∙ ap (said (set_of longs) 0) (sym (each ∙ jumps_items is)) ∙ said_of longs
+    ap jump_forms e ∙ forms_said place (set_of longs) is 0 text_address v ∙ ap (said (set_of longs) 0) (sym (each ∙ jumps_items is)) ∙ said_of longs
 
 -- ---- what is put out
 
@@ -50,31 +51,31 @@ record Written (is : List Item) (ws : List Word) (code : List Insn) (marks : Lis
   small : Below 1073741824 places
   sound : AreItems is
   fits : shortest_size is ≤ 16777216
-  code_is : code ≡ emitted_from (slice_index places) (set_of longs) 0 0x400000 is
-  marks_is : marks ≡ marked_from (set_of longs) 0 0x400000 is
+  code_is : code ≡ emitted_from (slice_index places) (set_of longs) 0 text_address is
+  marks_is : marks ≡ marked_from (set_of longs) 0 text_address is
   words_are : words ≡ flat_map (bytes_of (slice_index places)) ws
 
 module _ (longs : List Bool) where
-  behind_spot : (xs first : List Item) (at jumps : ℕ) → first ≡ xs → at ≡ 0x400000 + size_from (set_of longs) 0 first → jumps ≡ 0 + jumps_in first → (at ≡ 0x400000 + size_from (set_of longs) 0 xs) × (jumps ≡ 0 + jumps_in xs)
-  behind_spot xs first at jumps e f g = (f ∙ ap (λ l. 0x400000 + size_from (set_of longs) 0 l) e, g ∙ ap (λ l. 0 + jumps_in l) e)
+  behind_spot : (xs first : List Item) (at jumps : ℕ) → first ≡ xs → at ≡ text_address + size_from (set_of longs) 0 first → jumps ≡ 0 + jumps_in first → (at ≡ text_address + size_from (set_of longs) 0 xs) × (jumps ≡ 0 + jumps_in xs)
+  behind_spot xs first at jumps e f g = (f ∙ ap (λ l. text_address + size_from (set_of longs) 0 l) e, g ∙ ap (λ l. 0 + jumps_in l) e)
 
-  both_code : (place : ℕ → ℕ) (xs ys first second : List Item) (at jumps : ℕ) (start code code' : List Insn) → start ≡ [] → first ≡ xs → second ≡ ys → at ≡ 0x400000 + size_from (set_of longs) 0 first → jumps ≡ 0 + jumps_in first → code ≡ start ++ emitted_from place (set_of longs) 0 0x400000 first → code' ≡ code ++ emitted_from place (set_of longs) jumps at second → code' ≡ emitted_from place (set_of longs) 0 0x400000 (xs ++ ys)
+  both_code : (place : ℕ → ℕ) (xs ys first second : List Item) (at jumps : ℕ) (start code code' : List Insn) → start ≡ [] → first ≡ xs → second ≡ ys → at ≡ text_address + size_from (set_of longs) 0 first → jumps ≡ 0 + jumps_in first → code ≡ start ++ emitted_from place (set_of longs) 0 text_address first → code' ≡ code ++ emitted_from place (set_of longs) jumps at second → code' ≡ emitted_from place (set_of longs) 0 text_address (xs ++ ys)
   both_code place xs ys first second at jumps start code code' e f g h n i j =
       let s = set_of longs in
       let b = behind_spot xs first at jumps f h n in
-      let front = emitted_from place s 0 0x400000 xs in
-      j ∙ ap (λ l. l ++ emitted_from place s jumps at second) (i ∙ ap (λ l. l ++ emitted_from place s 0 0x400000 first) e ∙ ap (emitted_from place s 0 0x400000) f)
-      ∙ ap (λ a. front ++ emitted_from place s jumps a second) b.0 ∙ ap (λ k. front ++ emitted_from place s k (0x400000 + size_from s 0 xs) second) b.1 ∙ ap (λ l. front ++ emitted_from place s (0 + jumps_in xs) (0x400000 + size_from s 0 xs) l) g
-      ∙ sym (emitted_append place s xs ys 0 0x400000)
+      let front = emitted_from place s 0 text_address xs in
+      j ∙ ap (λ l. l ++ emitted_from place s jumps at second) (i ∙ ap (λ l. l ++ emitted_from place s 0 text_address first) e ∙ ap (emitted_from place s 0 text_address) f)
+      ∙ ap (λ a. front ++ emitted_from place s jumps a second) b.0 ∙ ap (λ k. front ++ emitted_from place s k (text_address + size_from s 0 xs) second) b.1 ∙ ap (λ l. front ++ emitted_from place s (0 + jumps_in xs) (text_address + size_from s 0 xs) l) g
+      ∙ sym (emitted_append place s xs ys 0 text_address)
 
-  both_marks : (xs ys first second : List Item) (at jumps : ℕ) (start marks marks' : List mark.Mark) → start ≡ [] → first ≡ xs → second ≡ ys → at ≡ 0x400000 + size_from (set_of longs) 0 first → jumps ≡ 0 + jumps_in first → marks ≡ start ++ marked_from (set_of longs) 0 0x400000 first → marks' ≡ marks ++ marked_from (set_of longs) jumps at second → marks' ≡ marked_from (set_of longs) 0 0x400000 (xs ++ ys)
+  both_marks : (xs ys first second : List Item) (at jumps : ℕ) (start marks marks' : List mark.Mark) → start ≡ [] → first ≡ xs → second ≡ ys → at ≡ text_address + size_from (set_of longs) 0 first → jumps ≡ 0 + jumps_in first → marks ≡ start ++ marked_from (set_of longs) 0 text_address first → marks' ≡ marks ++ marked_from (set_of longs) jumps at second → marks' ≡ marked_from (set_of longs) 0 text_address (xs ++ ys)
   both_marks xs ys first second at jumps start marks marks' e f g h n i j =
       let s = set_of longs in
       let b = behind_spot xs first at jumps f h n in
-      let front = marked_from s 0 0x400000 xs in
-      j ∙ ap (λ l. l ++ marked_from s jumps at second) (i ∙ ap (λ l. l ++ marked_from s 0 0x400000 first) e ∙ ap (marked_from s 0 0x400000) f)
-      ∙ ap (λ a. front ++ marked_from s jumps a second) b.0 ∙ ap (λ k. front ++ marked_from s k (0x400000 + size_from s 0 xs) second) b.1 ∙ ap (λ l. front ++ marked_from s (0 + jumps_in xs) (0x400000 + size_from s 0 xs) l) g
-      ∙ sym (marked_append s xs ys 0 0x400000)
+      let front = marked_from s 0 text_address xs in
+      j ∙ ap (λ l. l ++ marked_from s jumps at second) (i ∙ ap (λ l. l ++ marked_from s 0 text_address first) e ∙ ap (marked_from s 0 text_address) f)
+      ∙ ap (λ a. front ++ marked_from s jumps a second) b.0 ∙ ap (λ k. front ++ marked_from s k (text_address + size_from s 0 xs) second) b.1 ∙ ap (λ l. front ++ marked_from s (0 + jumps_in xs) (text_address + size_from s 0 xs) l) g
+      ∙ sym (marked_append s xs ys 0 text_address)
 
 record Answer (is : List Item) (ws : List Word) (code : List Insn) (marks : List mark.Mark) (words : List ℕ) : Type 0 where
   stands : AreResolved is ws code marks words
@@ -89,33 +90,33 @@ resolved is ws code marks words places longs w =
     let s = set_of longs in
     let small = small_place places w.small in
     let size = whole_size is longs w.laid.least in
-    let low : 0x400000 + size_from s 0 is < 2147483648 = omega (arith, w.fits, size) in
-    let c = codes place small s is 0 0x400000 low w.sound (own_items place s is 0 0x400000 w.laid.standing) in
+    let low : text_address + size_from s 0 is < 2147483648 = omega (arith, w.fits, size) in
+    let c = codes place small s is 0 text_address low w.sound (own_items place s is 0 text_address w.laid.standing) in
     let forms = forms_are place is longs code w.sound w.laid.each w.code_is in
     let least = subst (λ l. IsLeast (skeleton is) (set_of l)) (sym forms) w.laid.least in
     record {
       stands = record {
         place_of = place;
         small = small;
-        codes = subst (λ l. Codes place 0x400000 is l marks) (sym w.code_is) (subst (λ l. Codes place 0x400000 is (emitted_from place s 0 0x400000 is) l) (sym w.marks_is) c);
+        codes = subst (λ l. Codes place text_address is l marks) (sym w.code_is) (subst (λ l. Codes place text_address is (emitted_from place s 0 text_address is) l) (sym w.marks_is) c);
         bytes = w.words_are;
       };
-      valid = subst AllValid (sym w.code_is) (emitted_valid place small s is 0 0x400000 low w.sound (reach_items place s is 0 0x400000 w.laid.reach));
+      valid = subst AllValid (sym w.code_is) (emitted_valid place small s is 0 text_address low w.sound (reach_items place s is 0 text_address w.laid.reach));
       shortest = least;
       exact = exact (skeleton is) (set_of (jump_forms code)) (sound_pieces is) least;
-      size = ap (λ l. length (flat_map spelling l)) w.code_is ∙ emitted_size place s is 0 0x400000 ∙ size;
+      size = ap (λ l. length (flat_map spelling l)) w.code_is ∙ emitted_size place s is 0 text_address ∙ size;
     }
 
 -- ---- the goals
 
-first_fits : (xs ys first : List Item) (longs : List Bool) (bytes : ℕ) → IsLeast (skeleton (xs ++ ys)) (set_of longs) → bytes ≡ shortest_size (xs ++ ys) → bytes ≤ 16777216 → first ≡ xs → 0x400000 + size_from (set_of longs) 0 first < 1073741824
+first_fits : (xs ys first : List Item) (longs : List Bool) (bytes : ℕ) → IsLeast (skeleton (xs ++ ys)) (set_of longs) → bytes ≡ shortest_size (xs ++ ys) → bytes ≤ 16777216 → first ≡ xs → text_address + size_from (set_of longs) 0 first < 1073741824
 first_fits xs ys first longs bytes h e le f =
     let a = whole_size (xs ++ ys) longs h in
     let b = size_append (set_of longs) xs ys 0 in
     let c = ap (size_from (set_of longs) 0) f in
     omega (arith, a, b, c, e, le)
 
-second_fits : (xs ys first second : List Item) (longs : List Bool) (bytes at jumps : ℕ) → IsLeast (skeleton (xs ++ ys)) (set_of longs) → bytes ≡ shortest_size (xs ++ ys) → bytes ≤ 16777216 → first ≡ xs → second ≡ ys → at ≡ 0x400000 + size_from (set_of longs) 0 first → jumps ≡ 0 + jumps_in first → at + size_from (set_of longs) jumps second < 1073741824
+second_fits : (xs ys first second : List Item) (longs : List Bool) (bytes at jumps : ℕ) → IsLeast (skeleton (xs ++ ys)) (set_of longs) → bytes ≡ shortest_size (xs ++ ys) → bytes ≤ 16777216 → first ≡ xs → second ≡ ys → at ≡ text_address + size_from (set_of longs) 0 first → jumps ≡ 0 + jumps_in first → at + size_from (set_of longs) jumps second < 1073741824
 second_fits xs ys first second longs bytes at jumps h e le f g i j =
     let a = whole_size (xs ++ ys) longs h in
     let b = size_append (set_of longs) xs ys 0 in
@@ -124,18 +125,18 @@ second_fits xs ys first second longs bytes at jumps h e le f g i j =
     let d = ap (λ l. size_from (set_of longs) jumps l) g ∙ ap (λ k. size_from (set_of longs) k ys) p.1 in
     omega (arith, a, b, c, d, e, le, p.0)
 
-first_reaches : (xs ys ws first : _) (places : List ℕ) (longs : List Bool) → IsLaidOut (xs ++ ys) ws places longs → first ≡ xs → ReachFrom (slice_index places) (set_of longs) 0 0x400000 first
+first_reaches : (xs ys ws first : _) (places : List ℕ) (longs : List Bool) → IsLaidOut (xs ++ ys) ws places longs → first ≡ xs → ReachFrom (slice_index places) (set_of longs) 0 text_address first
 first_reaches xs ys ws first places longs h e =
     let place = slice_index places in
     let s = set_of longs in
-    subst (ReachFrom place s 0 0x400000) (sym e) (reach_front place s xs ys 0 0x400000 (reach_items place s (xs ++ ys) 0 0x400000 h.reach))
+    subst (ReachFrom place s 0 text_address) (sym e) (reach_front place s xs ys 0 text_address (reach_items place s (xs ++ ys) 0 text_address h.reach))
 
-second_reaches : (xs ys ws first second : _) (places : List ℕ) (longs : List Bool) (at jumps : ℕ) → IsLaidOut (xs ++ ys) ws places longs → first ≡ xs → second ≡ ys → at ≡ 0x400000 + size_from (set_of longs) 0 first → jumps ≡ 0 + jumps_in first → ReachFrom (slice_index places) (set_of longs) jumps at second
+second_reaches : (xs ys ws first second : _) (places : List ℕ) (longs : List Bool) (at jumps : ℕ) → IsLaidOut (xs ++ ys) ws places longs → first ≡ xs → second ≡ ys → at ≡ text_address + size_from (set_of longs) 0 first → jumps ≡ 0 + jumps_in first → ReachFrom (slice_index places) (set_of longs) jumps at second
 second_reaches xs ys ws first second places longs at jumps h e f g i =
     let place = slice_index places in
     let s = set_of longs in
     let p = behind_spot longs xs first at jumps e g i in
-    subst (ReachFrom place s jumps at) (sym f) (subst (λ k. ReachFrom place s k at ys) (sym p.1) (subst (λ a. ReachFrom place s (0 + jumps_in xs) a ys) (sym p.0) (reach_back place s xs ys 0 0x400000 (reach_items place s (xs ++ ys) 0 0x400000 h.reach))))
+    subst (ReachFrom place s jumps at) (sym f) (subst (λ k. ReachFrom place s k at ys) (sym p.1) (subst (λ a. ReachFrom place s (0 + jumps_in xs) a ys) (sym p.0) (reach_back place s xs ys 0 text_address (reach_items place s (xs ++ ys) 0 text_address h.reach))))
 
 pub emit-requires-clause-uses : goal.emit-requires-clause-uses
 emit-requires-clause-uses c =
@@ -189,4 +190,4 @@ returns c =
     } in
     let r = resolved (xs ++ ys) c.args.a.now.words c.emit-2.new.code c.emit-2.new.marks c.in_ok-words.words c.in_ok-layout.layout.places.items longs w in
     let e = r.size in
-    record { stands = r.stands; valid = r.valid; shortest = r.shortest; exact = r.exact; as_many = as_many r.stands.place_of 0x400000 (xs ++ ys) c.emit-2.new.code c.emit-2.new.marks r.stands.codes; words = ap length w.words_are ∙ data_length place c.args.a.now.words; zeros = refl; size = r.size; fits = omega (arith, e, w.fits); too_large = tt }
+    record { stands = r.stands; valid = r.valid; shortest = r.shortest; exact = r.exact; as_many = as_many r.stands.place_of text_address (xs ++ ys) c.emit-2.new.code c.emit-2.new.marks r.stands.codes; words = ap length w.words_are ∙ data_length place c.args.a.now.words; zeros = refl; size = r.size; fits = omega (arith, e, w.fits); too_large = tt }

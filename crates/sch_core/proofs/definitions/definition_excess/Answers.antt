@@ -14,4 +14,5 @@ number-requires c =
     record {
       names = (omega (arith, names), omega (arith, names));
       room = record { sites = omega (arith, sites, c.requires.few); literals = omega (arith, literals, c.requires.few) };
+      variables = c.requires.variables;
     }

@@ -1,5 +1,5 @@
 use Rattle.std.proofs.Common.{sym, ◌∙◌, arith}
-use Rattle.sch_core.proofs.items.DefinitionSteps.{formals_at, few_at, definition_later, definition_end}
+use Rattle.sch_core.proofs.items.DefinitionSteps.{formals_at, few_at, variables_at, definition_later, definition_end}
 use Rattle.sch_core.proofs.definitions.first_definition_excess.Goals as goal
 
 pub definition_excess-requires : goal.definition_excess-requires
@@ -8,6 +8,7 @@ definition_excess-requires c =
     record {
       formals = formals_at ds c.loop-i.i c.index-definitions-i.result (omega (arith, c.loop-i-test.true, c.min-n.ensures)) c.index-definitions-i.is c.requires.formals;
       few = few_at ds c.loop-i.i c.index-definitions-i.result (omega (arith, c.loop-i-test.true, c.min-n.ensures)) c.index-definitions-i.is c.requires.small;
+      variables = variables_at ds c.loop-i.i c.index-definitions-i.result (omega (arith, c.loop-i-test.true, c.min-n.ensures)) c.index-definitions-i.is c.requires.variables;
     }
 
 pub loop-i-preserved : goal.loop-i-preserved

@@ -2,10 +2,11 @@ use Rattle.std.proofs.Common.{◌≡◌, ◌<◌, ◌^◌, [], true, ap, sym, su
 use Rattle.sch_read.specs.Views.{data_of}
 use Rattle.sch_names.specs.ScopeView.{given_names}
 use Rattle.sch_link_program.specs.Definitions.{definitions_of}
-use Rattle.sch_link_program.specs.Size.{size_of_definitions, have_few_formals}
+use Rattle.sch_link_program.specs.Size.{size_of_definitions, have_few_formals, have_near_bodies}
 use Rattle.sch_toplevel.specs.Items.{item_places}
 use Rattle.sch_core.specs.Excess.{first_definition_excess}
 use Rattle.sch_core.proofs.items.LibraryLaws.{faulty_error, excessive_error, definitions_counted, never_both, one_library, fault_found, named_procedures, expands, excess_found, library_found}
+use Rattle.sch_core.proofs.drafts.NearVariables.{near_bodies}
 use Rattle.sch_core.proofs.items.SoundItems.{items_size, items_sound, few_formals, sound_library}
 use Rattle.sch_core.proofs.definitions.library.Goals as goal
 
@@ -23,9 +24,11 @@ first_definition_excess-requires c =
     let i = sym (ap given_names c.as_slice.ensures) ∙ c.in_ok-definitions.ensures.named in
     let whole = expands items _ _ _ read.names read.reads c.in_default.is ds i c.in_ok-definitions.ensures.made in
     let sound = items_sound [] items ds whole (c.in_ok-know_data.ensures) in
+    let few : size_of_definitions ds < 2 ^ 32 = omega (arith, items_size [] items ds whole, c.requires.light) in
     record {
       formals = subst (λ l. have_few_formals (definitions_of l) ≡ true) (sym c.as_slice-2.ensures) (few_formals ds sound);
-      small = subst (λ l. size_of_definitions (definitions_of l) < 2 ^ 32) (sym c.as_slice-2.ensures) (omega (arith, items_size [] items ds whole, c.requires.light));
+      small = subst (λ l. size_of_definitions (definitions_of l) < 2 ^ 32) (sym c.as_slice-2.ensures) few;
+      variables = subst (λ l. have_near_bodies (definitions_of l) ≡ true) (sym c.as_slice-2.ensures) (near_bodies ds sound few);
     }
 
 pub returns-in-Some-clause-fault : goal.returns-in-Some-clause-fault

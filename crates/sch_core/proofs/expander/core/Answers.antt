@@ -3,26 +3,26 @@ use Rattle.std.proofs.Math.Logic.{∥∥₁_elim}
 use Rattle.std.proofs.Props.{props}
 use Rattle.std.proofs.lemmas.List.{length-map}
 use Rattle.sch_read.specs.Valid.{max_weight}
+use Rattle.sch_core.proofs.drafts.NearVariables.{near_bodies}
 use Rattle.sch_core.proofs.items.SoundItems.{few_formals}
 use Rattle.sch_lang.specs.ProgramView.{source}
-use Rattle.sch_lang.specs.Valid.{is_valid}
+use Rattle.sch_lang.specs.Valid.{is_valid, trees_in_range}
 use Rattle.sch_lang.specs.View.{expressions_of}
 use Rattle.sch_read.specs.Views.{data_of}
 use Rattle.sch_names.specs.NamesView.{names_of}
 use Rattle.sch_sketch.specs.DraftMeasures.{size_each}
 use Rattle.sch_sketch.specs.DraftView.{drafts_of}
 use Rattle.sch_link_tables.specs.Named.{symbols_in_each}
-use Rattle.sch_link_tables.specs.Programs.{seen, symbols_of_each, program_of}
+use Rattle.sch_link_tables.specs.Programs.{seen, symbols_of_each, program_of, procedures_of_each}
+use Rattle.sch_link_tables.specs.Room.{have_near_variables}
 use Rattle.sch_link_program.specs.Definitions.{definition_of, definitions_of}
-use Rattle.sch_link_program.specs.Size.{size_of_definitions, have_few_formals}
+use Rattle.sch_link_program.specs.Size.{size_of_definitions, have_few_formals, have_near_bodies}
 use Rattle.sch_link_program.specs.PartsView.{parts_of}
-use Rattle.sch_link_program.specs.Ranged.{trees_in_range}
 use Rattle.sch_toplevel.specs.Views.{given}
 use Rattle.sch_core.specs.Excess.{first_excess}
 use Rattle.sch_toplevel.specs.Forms.{form_places}
-use Rattle.sch_core.proofs.texts.ProgramOfText.{faulty, exceeding, few_nodes, few_symbols, found, valid_once, small, places_are}
-use Rattle.sch_core.proofs.programs.KeptDefinitions.{few_symbols as few_symbols_of_definitions}
-use Rattle.sch_core.specs.LibraryDefinitions.{procedures_of_each}
+use Rattle.sch_core.proofs.texts.ProgramOfText.{faulty, exceeding, few_nodes, few_symbols, found, valid_once, small, places_are, near}
+use Rattle.sch_core.proofs.sizes.StaticsOfPrograms.{symbols_counted}
 use Rattle.sch_core.specs.SizesOfStatics.{statics_in_each}
 use Rattle.sch_core.proofs.DataLaws.{faulty_error, excessive_error, first_counted, never_both, one_program}
 use Rattle.sch_core.proofs.expander.core.Goals as goal
@@ -92,6 +92,7 @@ assemble-requires c =
     let formals : have_few_formals (definitions_of ds) ≡ true = ∥∥₁_elim c.args.library.now.sound (Prim.hlevel props) (λ s. few_formals (definitions_of ds) s.sound) in
     let few : length (definitions_of ds) ≤ max_weight = ∥∥₁_elim c.args.library.now.sound (Prim.hlevel props) (λ s. s.few_definitions) in
     let size : size_of_definitions (definitions_of ds) ≤ 16 * max_weight = ∥∥₁_elim c.args.library.now.sound (Prim.hlevel props) (λ s. s.few_nodes) in
+    let bodies : have_near_bodies (definitions_of ds) ≡ true = ∥∥₁_elim c.args.library.now.sound (Prim.hlevel props) (λ s. near_bodies (definitions_of ds) s.sound (omega (arith, s.few_nodes))) in
     let symbols : statics_in_each (procedures_of_each (definitions_of ds)) ≤ 2 * max_weight = ∥∥₁_elim c.args.library.now.sound (Prim.hlevel props) (λ s. s.small) in
     let items = data_of c.args.items.now in
     let es = drafts_of c.in_ok-own.field-0.drafts in
@@ -100,6 +101,7 @@ assemble-requires c =
     let all = definitions_of c.as_slice-definitions.result.now in
     let light = c.requires.light in
     let nodes = few_nodes (definitions_of ds) items _ _ _ es names c.in_ok-own.ensures.read c.in_default.is in
+    let variables = near (definitions_of ds) items _ _ _ es names c.in_ok-own.ensures.read c.in_default.is light in
     let named = few_symbols (definitions_of ds) items _ _ _ es names c.in_ok-own.ensures.read c.in_default.is in
     record {
       formals = subst (λ l. have_few_formals (definitions_of l) ≡ true) (sym same) formals;
@@ -110,13 +112,15 @@ assemble-requires c =
           omega (
             arith,
             symbols,
-            few_symbols_of_definitions (definitions_of ds),
+            symbols_counted (procedures_of_each (definitions_of ds)),
             named,
             light,
             ap (λ l. length (symbols_of_each (definitions_of l))) same,
             ap (λ l. length (symbols_in_each (drafts_of l))) c.as_slice-2.ensures,
             length-append (symbols_of_each all) (symbols_in_each (drafts_of c.as_slice-2.result.now)),
           );
+      bodies = subst (λ l. have_near_bodies (definitions_of l) ≡ true) (sym same) bodies;
+      variables = subst (λ l. have_near_variables (drafts_of l) ≡ true) (sym c.as_slice-2.ensures) variables;
     }
 
 pub into_program-requires : goal.into_program-requires

@@ -1,6 +1,8 @@
 use Rattle.std.proofs.Common.{◌≡◌, ◌≤◌, ℕ, ◌+◌, ◌*◌, ◌∙◌, ap, subst, sym, length, arith}
 use Rattle.std.specs.Prelude.{IsTrue}
 use Rattle.sch_word.proofs.facts.KnownErrors.{kept_error}
+use Rattle.sch_word.specs.runs.ProgramLayout.{data_address}
+use Rattle.sch_word.specs.declared.limits.TheConstants.{MAX_HEAP}
 use Rattle.sch_control.specs.ProgramView.{source}
 use Rattle.sch_control.specs.Work.{codes_work}
 use Rattle.sch_frames.specs.ProgramView as frames
@@ -12,20 +14,21 @@ use Rattle.sch_select_memory.specs.Addresses.{max_heap_end}
 use Rattle.sch_select.specs.Sizes.{kinds_of}
 use Rattle.sch_driver.specs.Assembled.{IsFrameSize, IsUnfit, assembled_bound}
 use Rattle.sch_driver.specs.ListedCycles.{listed_cycles}
-use Rattle.sch_driver.proofs.Images.{assembled, few_words, framed_parts, refused_for, size_of_frames, text_within, unfit}
+use Rattle.sch_select.proofs.items.ProgramFacts.{words_few}
+use Rattle.sch_driver.proofs.Images.{assembled, framed_parts, refused_for, size_of_frames, text_within, unfit}
 use Rattle.sch_driver.proofs.Resolved.{resolved_kinds}
 use Rattle.sch_driver.proofs.labels.FewLabels.{few_tests, frames_labelled}
 use Rattle.sch_driver.proofs.assembly.assemble.Goals as goal
 
 -- where the heap ends
-heap_end_is : (end words count heap start : ℕ) → end ≡ 0x10000000 + 8 * count + heap → count ≡ words → 0x10000000 + 8 * words ≡ start → end ≡ start + heap
+heap_end_is : (end words count heap start : ℕ) → end ≡ data_address + 8 * count + heap → count ≡ words → data_address + 8 * words ≡ start → end ≡ start + heap
 heap_end_is end words count heap start a b d = omega (arith, a, b, d)
 
-heap_end_near : (words count heap start : ℕ) → count ≡ words → 0x10000000 + 8 * words ≡ start → start ≤ max_heap_address → heap ≤ 1073741824
-    → 0x10000000 + 8 * count + heap ≤ max_heap_end
+heap_end_near : (words count heap start : ℕ) → count ≡ words → data_address + 8 * words ≡ start → start ≤ max_heap_address → heap ≤ MAX_HEAP
+    → data_address + 8 * count + heap ≤ max_heap_end
 heap_end_near words count heap start a b low few = omega (arith, a, b, low, few)
 
-end_near : (end count heap : ℕ) → end ≡ 0x10000000 + 8 * count + heap → 0x10000000 + 8 * count + heap ≤ max_heap_end → end ≤ max_heap_end
+end_near : (end count heap : ℕ) → end ≡ data_address + 8 * count + heap → data_address + 8 * count + heap ≤ max_heap_end → end ≤ max_heap_end
 end_near end count heap e le = omega (arith, e, le)
 
 pub end_of_heap-heap_end-requires : goal.end_of_heap-heap_end-requires
@@ -85,7 +88,7 @@ returns-in_err-resolved-clause-refused c =
     let size = size_of_frames p f c.args.limits.heap depth items routines c.in_ok-code.ensures.items (c.in_ok-routines.ensures.items ∙ ap all_routines ends)
     (framed_parts p f made.statics made.library made.made made.words) in
     refused_for p depth c.from_residual-in_err-resolved.result cause c.from_residual-in_err-resolved.ensures.1
-    (unfit p f.words depth _ cause (record { largest = made.words; few = few_words c.in_ok-framed.framed.frames; bound = made.covered_words c.requires.covered })
+    (unfit p f.words depth _ cause (record { largest = made.words; few = words_few c.in_ok-framed.framed.frames; bound = made.covered_words c.requires.covered })
     c.in_ok-check_stack.ensures.fits size n c.in_err-resolved.ensures.too_large)
 
 pub returns-in_err-check_stack-clause-refused : goal.returns-in_err-check_stack-clause-refused
@@ -93,7 +96,7 @@ returns-in_err-check_stack-clause-refused c =
     let p = source c.args.p in
     let depth = c.args.limits.depth in
     let made = c.in_ok-framed.ensures in
-    let frame : IsFrameSize p c.in_ok-framed.framed.frames.words = record { largest = made.words; few = few_words c.in_ok-framed.framed.frames; bound = made.covered_words c.requires.covered } in
+    let frame : IsFrameSize p c.in_ok-framed.framed.frames.words = record { largest = made.words; few = words_few c.in_ok-framed.framed.frames; bound = made.covered_words c.requires.covered } in
     let large = c.in_err-check_stack.ensures.refused in
     kept_error c.from_residual-in_err-check_stack.result c.in_err-check_stack.field-0.0 (IsUnfit p depth) c.from_residual-in_err-check_stack.ensures.1
     (subst (IsUnfit p depth) (sym large.0) (large.1, frame))
@@ -112,7 +115,7 @@ returns-clause-does c =
     made.same (framed_parts p f made.statics made.library made.made made.words)
     (record { follows = code.follows; ends = code.steps; passes = code.passes; enters = code.entries; takes = code.takes; stand = made.stand; stores = code.stores made.stand; followed = made.called; units = code.instructions; zeros = code.zeros; items = code.items; words_end = code.words })
     (c.in_ok-routines.ensures.items ∙ ap all_routines ends)
-    (record { largest = made.words; few = few_words c.in_ok-framed.framed.frames; bound = made.covered_words c.requires.covered })
+    (record { largest = made.words; few = words_few c.in_ok-framed.framed.frames; bound = made.covered_words c.requires.covered })
     c.in_ok-check_stack.ensures.fits r.ensures.words
     c.in_ok-routines.ensures.effective r.ensures.stands r.ensures.valid r.ensures.fits r.ensures.size (subst (λ k. k ≤ assembled_bound p) (sym r.ensures.size) n)
     c.into_bytes-text.ensures r.ensures.zeros c.in_ok-image.ensures.layout

@@ -1,7 +1,8 @@
 use Rattle.std.proofs.Common.{◌≡◌, ◌<◌, ◌+◌, ◌++◌, ◌∷◌, drop, length, rules, arith, ap, sym, ◌∙◌}
 use Rattle.std.specs.List.{flat_map}
+use Rattle.std.proofs.lemmas.List.{drop_more}
 use Rattle.sch_elf.specs.Writing.{load, need, placed, program_header_bytes}
-use Rattle.sch_elf.proofs.FileOfImage.{drop_next, headers_step}
+use Rattle.sch_elf.proofs.FileOfImage.{headers_step}
 use Rattle.sch_elf.proofs.write.put_program_headers.Goals as goal
 
 pub loop-segment-preserved : goal.loop-segment-preserved
@@ -10,7 +11,7 @@ loop-segment-preserved c =
     let all = c.args.segments.now in
     let segment = c.segment-item.result in
     let within : i < length all = omega arith in
-    let cut : drop i all ≡ segment ∷ drop (i + 1) all = drop_next all i segment within ∙ ap (λ s. s ∷ drop (i + 1) all) (sym c.segment-item.is) in
+    let cut : drop i all ≡ segment ∷ drop (i + 1) all = drop_more all i segment within ∙ ap (λ s. s ∷ drop (i + 1) all) (sym c.segment-item.is) in
     let end = c.loop-segment.end in
     let file = c.loop-segment.file.items in
     let offset = c.next_offset-offset.result in

@@ -2,16 +2,16 @@ use Rattle.std.proofs.Common.{◌≡◌, ◌≤◌, ◌+◌, ◌∙◌, ap, arit
 use Rattle.sch_writer.specs.View.{moves_of}
 use Rattle.sch_homes.specs.CallMoves.{aside_end, call_end, first_temporary}
 use Rattle.sch_homes.specs.HomeTable.{place_in}
-use Rattle.sch_homes.specs.StraightCalls.{are_apart}
+use Rattle.sch_homes.specs.StraightCalls.{are_in_order}
 use Rattle.sch_homes.proofs.CallEnds.{call_low}
 use Rattle.sch_homes.proofs.StraightCalls.{straight_end}
 use Rattle.sch_homes.proofs.call_moves.call_end.Goals as goal
 
-pub returns-then-are_apart : goal.returns-then-are_apart
-returns-then-are_apart c =
+pub returns-then-are_in_order : goal.returns-then-are_in_order
+returns-then-are_in_order c =
     let lives = place_in c.args.lives.now.places.now in
-    let apart : are_apart lives c.args.tail c.args.a.now ≡ true = sym c.are_apart.ensures ∙ c.if-are_apart.true in
-    c.first_temporary-first.ensures ∙ (ap (first_temporary c.args.end) c.len.ensures ∙ straight_end lives c.args.tail c.args.a.now apart c.args.end)
+    let ordered : are_in_order lives c.args.tail c.args.a.now ≡ true = sym c.are_in_order.ensures ∙ c.if-are_in_order.true in
+    c.first_temporary-first.ensures ∙ (ap (first_temporary c.args.end) c.len.ensures ∙ straight_end lives c.args.tail c.args.a.now ordered c.args.end)
 
 pub aside_end-requires : goal.aside_end-requires
 aside_end-requires c =

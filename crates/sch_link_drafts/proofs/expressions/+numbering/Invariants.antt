@@ -1,4 +1,4 @@
-use Rattle.std.proofs.Common.{◌≡◌, ◌++◌, drop, length, map}
+use Rattle.std.proofs.Common.{◌≡◌, ◌++◌, true, drop, length, map}
 use Rattle.sch_word.specs.values.LiteralView.{literal}
 use Rattle.sch_lang.specs.View.{expression}
 use Rattle.sch_names.specs.NamesView.{names_of}
@@ -8,7 +8,7 @@ use Rattle.sch_sketch.specs.DraftView.{drafts_of}
 use Rattle.sch_link_tables.specs.Constants.{HaveConstants}
 use Rattle.sch_link_tables.specs.Numbered.{numbered_each}
 use Rattle.sch_link_tables.specs.Quoted.{literal_of, quotes_in_each}
-use Rattle.sch_link_tables.specs.Room.{HasRoom}
+use Rattle.sch_link_tables.specs.Room.{HasRoom, have_near_variables}
 use Rattle.sch_link_tables.specs.Sites.{widths_of_each}
 use Rattle.sch_link_drafts.proofs.NumberSteps.{onto}
 use Rattle.sch_link_drafts.proofs.expressions.+numbering.Given as goal
@@ -24,5 +24,6 @@ invariant-number_each-loop-e l = record {
       map literal l.out.literals ++ map (literal_of (names_of l.tables.symbols.now)) (quotes_in_each (drafts_of (drop l.e-index l.es)))
       ≡ map literal l.initial.out.literals ++ map (literal_of (names_of l.tables.symbols.now)) (quotes_in_each (drafts_of l.es));
   room : HasRoom l.out (size_each (drafts_of (drop l.e-index l.es)));
+  variables : have_near_variables (drafts_of (drop l.e-index l.es)) ≡ true;
   constants : HaveConstants (drafts_of (drop l.e-index l.es)) → HaveConstants (drafts_of l.es);
 }

@@ -1,6 +1,7 @@
-use Rattle.std.proofs.Common.{refl, ◌-◌, length, take}
+use Rattle.std.proofs.Common.{refl, ◌-◌, length, take, arith}
+use Rattle.sch_word.proofs.facts.Lists.{length_none}
 use Rattle.sch_names.specs.NamesView.{names_of}
-use Rattle.sch_link_program.proofs.KeepSteps.{last_apart, none_below, still_whole, step_list, step_names, all_looked}
+use Rattle.sch_link_program.proofs.KeepSteps.{last_apart, still_whole, step_list, step_names, all_looked}
 use Rattle.sch_link_program.proofs.keeping.kept.Goals as goal
 
 pub loop-left-preserved : goal.loop-left-preserved
@@ -23,4 +24,4 @@ pub returns : goal.returns
 returns c =
     let named = names_of c.args.asked.now.named.now in
     let held = names_of c.args.asked.now.held.now in
-    all_looked named held c.args.definitions.now c.loop-left.left.now c.loop-left.all _ (none_below c.loop-left.left.now c.in_default.len_below) c.loop-left.invariant.list c.reversed.ensures
+    all_looked named held c.args.definitions.now c.loop-left.left.now c.loop-left.all _ (length_none c.loop-left.left.now (omega (arith, c.in_default.len_below))) c.loop-left.invariant.list c.reversed.ensures

@@ -3,7 +3,7 @@ use Rattle.sch_names.specs.NamesView.{names_of}
 use Rattle.sch_link_tables.specs.Named.{firsts, globals_in_each, symbols_in_each}
 use Rattle.sch_sketch.specs.DraftView.{drafts_of}
 use Rattle.sch_link_program.specs.Definitions.{definitions_of, kept_definitions}
-use Rattle.sch_link_program.proofs.FewDefinitions.{kept_few, kept_have_few, kept_small, kept_few_symbols}
+use Rattle.sch_link_program.proofs.FewDefinitions.{kept_few, kept_have_few, kept_bodies, kept_small, kept_few_symbols}
 use Rattle.sch_link_program.proofs.ProgramMade.{whole_program}
 use Rattle.sch_link_program.proofs.program.assemble.Goals as goal
 
@@ -19,6 +19,8 @@ program_with-requires c =
       few = omega (arith, kept_few c.as_slice.result.now ds _ kept, c.requires.few);
       small = kept_small c.as_slice.result.now ds _ kept forms c.requires.small;
       few_symbols = kept_few_symbols c.as_slice.result.now ds _ kept forms c.requires.few_symbols;
+      bodies = kept_bodies c.as_slice.result.now ds _ kept c.requires.bodies;
+      variables = c.requires.variables;
       globals = listed.0 ∙ c.in_ok-name_each.ensures.globals ∙ ap (λ n. firsts n (globals_in_each own forms)) c.new-named.ensures.globals;
       symbols = listed.1 ∙ c.in_ok-name_each.ensures.symbols ∙ ap (λ n. firsts n (symbols_in_each forms)) c.new-named.ensures.symbols;
     }

@@ -4,7 +4,7 @@ use Rattle.sch_link_tables.specs.Quoted.{literal_of, quotes_in}
 use Rattle.sch_sketch.specs.DraftView.{draft_of}
 use Rattle.sch_link_drafts.proofs.NumberSteps.{sites_more, literals_more}
 use Rattle.sch_link_program.proofs.DefinitionSteps.{room_here, next_room, next_widths, next_quotes, next_bodies, next_procedures, end_procedures, end_bodies}
-use Rattle.sch_link_program.proofs.FewDefinitions.{formals_at}
+use Rattle.sch_link_program.proofs.FewDefinitions.{formals_at, variables_at}
 use Rattle.sch_link_program.proofs.program.number_definitions.Goals as goal
 
 pub number_definition-requires : goal.number_definition-requires
@@ -13,6 +13,7 @@ number_definition-requires c = record {
   globals = c.requires.globals;
   symbols = c.requires.symbols;
   room = room_here c.args.definitions.now c.loop-d.d-index c.d-item.result c.loop-d-test.true c.d-item.is c.loop-d.out c.loop-d.invariant.room;
+  variables = variables_at c.args.definitions.now c.loop-d.d-index c.d-item.result c.loop-d-test.true c.d-item.is c.requires.variables;
 }
 
 pub loop-d-preserved : goal.loop-d-preserved

@@ -4,7 +4,7 @@ use Rattle.sch_sketch.specs.DraftView.{drafts_of}
 use Rattle.sch_link_tables.specs.Named.{globals_in_each, symbols_in_each}
 use Rattle.sch_link_tables.specs.Programs.{globals_of_each, symbols_of_each}
 use Rattle.sch_link_program.specs.Definitions.{kept_definitions}
-use Rattle.sch_link_program.specs.Ranged.{trees_in_range}
+use Rattle.sch_lang.specs.Valid.{trees_in_range}
 use Rattle.sch_link_tables.specs.Quoted.{literal_of}
 use Rattle.sch_link_program.proofs.FewDefinitions.{few_globals_named, few_symbols_named, room_for_definitions, room_for_forms}
 use Rattle.sch_link_program.proofs.ProgramConstants.{program_ranged}
@@ -23,6 +23,7 @@ number_definitions-requires c =
       globals = few_globals_named ds forms c.requires.small own (also_named (globals_of_each ds) (globals_in_each own forms) named.globals.list c.new-tables.ensures.globals c.in_ok-name_definitions.ensures.globals c.in_ok-name_also.ensures.globals c.requires.globals);
       symbols = few_symbols_named (symbols_of_each ds ++ symbols_in_each forms) c.requires.few_symbols (also_named (symbols_of_each ds) (symbols_in_each forms) named.symbols.list c.new-tables.ensures.symbols c.in_ok-name_definitions.ensures.symbols c.in_ok-name_also.ensures.symbols c.requires.symbols);
       room = room_for_definitions ds forms c.requires.small out c.new-out.ensures.sites c.new-out.ensures.literals;
+      variables = c.requires.bodies;
     }
 
 pub number_each-requires : goal.number_each-requires
@@ -38,6 +39,7 @@ number_each-requires c =
         few_symbols_named (symbols_of_each ds ++ symbols_in_each forms) c.requires.few_symbols (also_named (symbols_of_each ds) (symbols_in_each forms) named.symbols.list c.new-tables.ensures.symbols c.in_ok-name_definitions.ensures.symbols c.in_ok-name_also.ensures.symbols c.requires.symbols),
       );
       room = room_for_forms ds forms c.requires.small c.new-out.result c.new-out.ensures.sites c.new-out.ensures.literals c.number_definitions.new.out (literal_of (names_of c.name_also.new.tables.symbols.names)) made.sites made.literals;
+      variables = c.requires.variables;
     }
 
 pub returns-clause-made : goal.returns-clause-made

@@ -1,5 +1,5 @@
 use Rattle.std.proofs.Common.{refl}
-use Rattle.sch_regs.specs.declared.placing.TheConstants.{R8, R9, R10, RBX, RDI, RSI}
+use Rattle.sch_word.specs.declared.registers.TheConstants.{R8, R9, R10, RBX, RDI, RSI}
 use Rattle.sch_regs.proofs.StartSteps.{none_held, none_listed}
 use Rattle.sch_regs.proofs.starting.none_placed.Goals as goal
 

@@ -1,9 +1,8 @@
 use Rattle.std.proofs.Common.{◌≡◌, ℕ, List, [], ◌∷◌, ◌++◌, ap, ◌∙◌, append_assoc, pos}
 use Rattle.std.proofs.lemmas.Result.{on_ok_weaker}
-use Rattle.sch_word.specs.declared.registers.TheConstants.{HEAP_REGISTER}
+use Rattle.sch_word.specs.declared.registers.TheConstants.{HEAP_REGISTER, RAX, RCX, RDX}
 use Rattle.sch_insn.specs.declared.insn.Arg.TheVariants.{Reg}
 use Rattle.sch_insn.specs.declared.insn.Insn.TheVariants.{MovTo, AddNumber, Shr}
-use Rattle.sch_insn.specs.declared.register.TheConstants.{RAX, RCX, RDX}
 use Rattle.sch_asm.specs.declared.item.Item.{Item}
 use Rattle.sch_asm.specs.declared.item.Item.TheVariants as item
 use Rattle.sch_asm.specs.declared.routine.Routine.TheVariants.{FillBytes}

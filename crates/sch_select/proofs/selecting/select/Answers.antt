@@ -1,10 +1,11 @@
-use Rattle.std.proofs.Common.{◌≡◌, ℕ, List, ap, ◌∙◌, ◌+◌, ◌*◌, ◌≤◌, length, map, sym, subst, refl, arith}
+use Rattle.std.proofs.Common.{◌≡◌, ℕ, List, [], true, ap, ◌∙◌, ◌+◌, ◌*◌, ◌≤◌, length, map, sym, subst, refl, arith}
 use Rattle.std.specs.Prelude.{IsTrue, None, false}
 use Rattle.std.specs.List.{list_all}
 use Rattle.std.proofs.Math.Nat.{le_trans}
-use Rattle.sch_word.specs.runs.ProgramLayout.{max_data_size}
+use Rattle.sch_word.specs.runs.ProgramLayout.{max_data_size, data_address}
 use Rattle.sch_word.specs.values.LiteralView.{literals_of}
 use Rattle.sch_word.specs.values.StaticsView.{statics}
+use Rattle.sch_word.specs.declared.limits.TheConstants.{MAX_HEAP}
 use Rattle.sch_asm.specs.declared.assembly.Word.{Word}
 use Rattle.sch_asm.specs.declared.assembly.Word.TheVariants.{Fixed}
 use Rattle.sch_asm.specs.declared.item.Item.{Item}
@@ -22,7 +23,9 @@ use Rattle.sch_select_data.specs.Data.{data_words, program_words}
 use Rattle.sch_select.specs.Program.{labels_of, max_stack, program_code, program_zeros, own_label, selected_code, stack_bytes}
 use Rattle.sch_select_memory.specs.Addresses.{max_heap_end, max_labels, names_address}
 use Rattle.sch_select.specs.MarkedStores.{stores_marked}
-use Rattle.sch_select.specs.FrameWords.{keeps_frame}
+use Rattle.sch_select.specs.FrameWords.{keeps_frames}
+use Rattle.sch_select.specs.KnownBases.{bases_known}
+use Rattle.sch_select.specs.SlotAddress.{overwrites_slot}
 use Rattle.sch_select.specs.Sizes.{kinds_in, kinds_of, steps_size}
 use Rattle.sch_select.proofs.programs.CoveredPrograms.{codes_free, entries_selected, globals_known, labels_known}
 use Rattle.sch_select.proofs.programs.CoveredPrograms.{covered_selected, texts_are, literals_are, literals_named}
@@ -41,7 +44,8 @@ use Rattle.sch_select.proofs.items.InstructionCounts.{program_instructions}
 use Rattle.sch_select.proofs.items.MarkKinds.{program_kinds}
 use Rattle.sch_select.proofs.items.NarrowProgram.{narrowed_ahead, narrowed_instructions, narrowed_kinds, narrowed_known, narrowed_once, narrowed_own, narrowed_stores}
 use Rattle.sch_select.proofs.items.ProgramStores.{program_stands}
-use Rattle.sch_select.proofs.items.ProgramFrames.{program_reach}
+use Rattle.sch_select.proofs.frame.ProgramBases.{program_bases, program_slot}
+use Rattle.sch_select.proofs.frame.ProgramFrames.{program_reach}
 use Rattle.sch_select.proofs.items.JumpsAhead.{program_ahead}
 use Rattle.sch_select.specs.Jumps.{jumps_ahead}
 use Rattle.sch_select.proofs.items.TextSize.{text_small}
@@ -143,7 +147,7 @@ zeros_made : (c : goal.In_ok-words) → program_zeros (source c.args.p.now) c.ar
     c.args.limits.heap + c.stack_of.result
 zeros_made c = sym (ap (λ n. c.args.limits.heap + n) c.stack_of.ensures.bytes)
 
-ends_there : (c : goal.In_ok-words) → 0x10000000 + 8 * length (program_words (source c.args.p.now)) ≡ heap_of (source c.args.p.now)
+ends_there : (c : goal.In_ok-words) → data_address + 8 * length (program_words (source c.args.p.now)) ≡ heap_of (source c.args.p.now)
 ends_there c = words_end (λ l. 0) (λ l. omega arith) (statics c.args.p.now.statics) c.args.p.now.library 0 (low c)
 
 -- what is so of the program's items, words and zeros is so of those that are made
@@ -167,7 +171,7 @@ selected c =
     l.admitted.heap_high l.admitted.depth_high (stack_few c) (texts_are p) (covered_selected p free) (codes_free p free) (entries_selected p)
     (globals_known p) (literals_are p) (literals_named p))
 
-near_by : (heap limit : ℕ) → heap ≤ max_heap_address → limit ≤ 1073741824 → heap + limit ≤ max_heap_end
+near_by : (heap limit : ℕ) → heap ≤ max_heap_address → limit ≤ MAX_HEAP → heap + limit ≤ max_heap_end
 near_by heap limit h l = omega (arith, h, l)
 
 -- ---- the invariant of the answer, and its clauses
@@ -255,10 +259,25 @@ pub returns-clause-frame : goal.returns-clause-frame
 returns-clause-frame c =
     let p = c.args.p.now in
     let l = c.args.limits in
-    subst (λ is. IsTrue (list_all keeps_frame is)) (items_made c.before) (program_reach (source p) l.heap l.depth (covered_selected p c.requires.covered))
+    subst (λ is. IsTrue (keeps_frames (source p) l.heap is)) (items_made c.before)
+    (program_reach (source p) l.heap l.depth (covered_selected p c.requires.covered))
+
+pub returns-clause-slot : goal.returns-clause-slot
+returns-clause-slot c =
+    let p = c.args.p.now in
+    let l = c.args.limits in
+    subst (λ is. IsTrue (overwrites_slot (own_label (source p)) true [] is)) (items_made c.before)
+    (program_slot (source p) l.heap l.depth (covered_selected p c.requires.covered) (all_forward p.bodies) (labels_known p))
+
+pub returns-clause-bases : goal.returns-clause-bases
+returns-clause-bases c =
+    let p = c.args.p.now in
+    let l = c.args.limits in
+    subst (λ is. IsTrue (bases_known false false false is)) (items_made c.before)
+    (program_bases (source p) l.heap l.depth (covered_selected p c.requires.covered) (all_forward p.bodies) (labels_known p))
 
 pub returns-clause-words : goal.returns-clause-words
-returns-clause-words c = subst (λ ws. 0x10000000 + 8 * length ws ≡ heap_of (source c.args.p.now)) (words_made c.before) (ends_there c.before)
+returns-clause-words c = subst (λ ws. data_address + 8 * length ws ≡ heap_of (source c.args.p.now)) (words_made c.before) (ends_there c.before)
 
 pub returns-clause-low : goal.returns-clause-low
 returns-clause-low c = low c.before

@@ -1,4 +1,6 @@
-use Rattle.std.proofs.Common.{ℕ, ◌+◌, ◌*◌, ◌/◌, ◌≤◌, arith, refl, ap, ◌∙◌, sym}
+use Rattle.std.proofs.Common.{ℕ, ◌+◌, ◌*◌, ◌^◌, ◌≤◌, arith, refl, ap, ◌∙◌, sym}
+use Rattle.sch_word.specs.trees.Shape.{max_library}
+use Rattle.sch_word.specs.runs.Runs.{max_statics}
 use Rattle.sch_word.specs.values.StaticsView.{statics}
 use Rattle.sch_select_data.specs.Data.{closures_unit, objects_unit}
 use Rattle.sch_select_data.specs.NameWords.{symbols_count}
@@ -10,11 +12,11 @@ few : (c : goal.After-symbols_count) → AreFew (statics c.args.s.now) c.len.res
 few c = are_few c.args.s.now c.requires.few c.len.result c.len-2.result c.symbols_count.result c.len.ensures c.len-2.ensures
     (c.symbols_count.ensures ∙ ap symbols_count c.as_slice.ensures)
 
-low_by : (count library size : ℕ) → library ≤ 1048576 → 8 * count + 32 * size ≤ 1174405120
-    → 16 * ((268436264 + 8 * count + 15) / 16 + library) + 32 * size ≤ 2147483648
+low_by : (count library size : ℕ) → library ≤ max_library → 8 * count + 32 * size ≤ 40 * max_statics
+    → 16 * (objects_unit count library) + 32 * size ≤ 2 ^ 31
 low_by count library size l h = omega (arith, l, h)
 
-small : (c : goal.After-symbols_count) → c.len.result + c.len-2.result + c.symbols_count.result ≤ 146800640
+small : (c : goal.After-symbols_count) → c.len.result + c.len-2.result + c.symbols_count.result ≤ 5 * max_statics
 small c = fits_count (statics c.args.s.now) c.len.result c.len-2.result c.symbols_count.result 0 (few c)
 
 pub overflow_add-front : goal.overflow_add-front

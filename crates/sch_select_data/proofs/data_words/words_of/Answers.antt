@@ -1,6 +1,7 @@
 use Rattle.std.proofs.Common.{◌≡◌, ◌-◌, ◌%◌, ℕ, List, [], ◌∷◌, ◌++◌, map, replicate, ap, ◌∙◌, suc, arith}
 use Rattle.sch_asm.specs.declared.assembly.Word.{Word}
 use Rattle.sch_asm.specs.declared.assembly.Word.TheVariants.{Fixed}
+use Rattle.sch_asm.specs.declared.routine.TheConstants.{OWN_WORDS}
 use Rattle.sch_word.specs.values.StaticsView.{statics}
 use Rattle.sch_word.proofs.facts.Lists.{append_behind}
 use Rattle.sch_select_data.specs.Data.{closure_words, global_words, padding, static_count, word_list}
@@ -24,7 +25,7 @@ odd count total e = omega (arith, e)
 pub returns : goal.returns
 returns c =
     let a = c.args in
-    joined (replicate 64 (Fixed 0)) (word_list static_bytes) _ (global_words a.places.closures a.p.now.statics.globals)
+    joined (replicate OWN_WORDS (Fixed 0)) (word_list static_bytes) _ (global_words a.places.closures a.p.now.statics.globals)
     (map Fixed (symbol_words a.places.names a.p.now.statics.symbols)) (padding (static_count (statics a.p.now.statics)))
     (closure_words a.p.now.library) _ _ _ _ _ _ _ _ _ (Fixed a.places.names) c.in_ok-words.ensures c.in_ok-push.ensures.ok
     (c.in_ok-append.ensures.ok ∙ ap (λ l. c.push.new.self ++ l) c.requires.values)

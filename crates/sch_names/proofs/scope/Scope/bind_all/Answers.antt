@@ -1,5 +1,5 @@
 use Rattle.std.proofs.Common.{arith, ap, length, ◌≡◌, suc, None}
-use Rattle.sch_names.proofs.ScopeLists.{onto_next, one_more}
+use Rattle.sch_names.proofs.ScopeLists.{onto_next, start_left}
 use Rattle.sch_names.proofs.scope.Scope.bind_all.Goals as goal
 
 pub loop-v-preserved : goal.loop-v-preserved
@@ -10,6 +10,6 @@ loop-v-preserved c =
     let l = i.longer in
     record {
       bound = onto_next c.args.names.now c.loop-v.v-index None c.loop-v.self c.bind.new.self _ c.loop-v-test.true bound i.bound;
-      kept = one_more _ c.loop-v.self c.bind.new.self c.args.self.now bound l i.kept;
+      kept = start_left _ c.loop-v.self c.bind.new.self c.args.self.now bound l i.kept;
       longer = omega (arith, l, more);
     }

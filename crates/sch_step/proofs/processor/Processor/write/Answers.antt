@@ -1,5 +1,5 @@
 use Rattle.std.proofs.Common.{refl, arith}
-use Rattle.sch_insn.specs.declared.register.TheConstants.{RDX}
+use Rattle.sch_word.specs.declared.registers.TheConstants.{RDX}
 use Rattle.sch_step.proofs.ProcessorSteps.{none_found, one_found, shut_does, write_does}
 use Rattle.sch_step.specs.View.{core_of}
 use Rattle.sch_step.proofs.processor.Processor.write.Goals as goal

@@ -1,0 +1,10 @@
+use Rattle.std.proofs.Common.{ap, true, ◌∙◌}
+use Rattle.clap.specs.Simple.{app_of_fields, on_top}
+use Rattle.sch_words.proofs.without_arguments.Goals as goal
+
+pub returns : goal.returns
+returns c =
+    ap app_of_fields c.disable_version_flag.ensures
+    ∙ ap (on_top (λ top. record top { disable_version_flag = true })) (ap app_of_fields c.disable_help_flag.ensures
+    ∙ ap (on_top (λ top. record top { disable_help_flag = true })) (ap app_of_fields c.no_binary_name.ensures
+    ∙ ap (on_top (λ top. record top { no_binary_name = true })) c.new.ensures.app))
