@@ -1,11 +1,10 @@
 #!/usr/bin/env python3
-"""Runs the gate with nothing kept (`rt ci --anew`), and prints the processor seconds that it takes for each
-crate: its proofs, its tests and its must-fail edits.
+"""Runs the gate (`rt ci`), which begins from nothing each time, and prints the processor seconds that it takes
+for each crate: its proofs, its tests and its must-fail edits.
 
 It looks at the prover's processes ten times a second: what a process took after the last look is missing
-from its crate, and stands in the line `rest` with what the gate itself took. With names of crates as words
-it is the run of these crates and those below them. `--watch PID` looks at a gate that runs already, from now
-to its end; what it took before is not seen, and there is no line `rest`.
+from its crate, and stands in the line `rest` with what the gate itself took. `--watch PID` looks at a gate
+that runs already, from now to its end; what it took before is not seen, and there is no line `rest`.
 
 `--modules CRATE` runs no gate: it prints what of the last check of a crate from nothing took longest. A check
 of one job (`rt check --jobs 1`) keeps each module as it ends with it, so a module took as long as its file is
@@ -102,10 +101,10 @@ def of_parts(parts, seconds):
     return taken
 
 
-def run(words):
+def run():
     """The processor seconds of each crate and part, of the whole run, and the seconds on the clock."""
     begin = time.perf_counter()
-    child = subprocess.Popen(["rt", "ci", "--anew", *words], cwd=TOP)
+    child = subprocess.Popen(["rt", "ci"], cwd=TOP)
     parts, seconds = {}, {}
     while True:
         pid, status, usage = os.wait4(child.pid, os.WNOHANG)
@@ -153,7 +152,9 @@ def main():
     if sys.argv[1:2] == ["--watch"]:
         table(watch(int(sys.argv[2])))
         return
-    taken, whole, clock, status = run(sys.argv[1:])
+    if sys.argv[1:]:
+        sys.exit("usage: bench/gate.py [--watch PID | --modules CRATE]")
+    taken, whole, clock, status = run()
     rest = whole - table(taken)
     print(f"| rest | | | | {rest:.0f} |")
     print(f"{whole / 60:.1f} processor minutes, {clock / 60:.1f} minutes on {os.cpu_count()} processors")

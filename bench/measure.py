@@ -6,7 +6,7 @@ import sys
 SIZES = (64 << 10, 1 << 20)
 
 # A program has the heap that `./schc` asks for, but where the variable is set, as by `GLIBC_TUNABLES= bench/compile.py`.
-HEAP = "hugetlb=1", "mxfast=0", "mmap_threshold=268435456", "trim_threshold=268435456"
+HEAP = "hugetlb=1", "tcache_count=100", "mxfast=0", "mmap_threshold=268435456", "trim_threshold=268435456"
 ENVIRONMENT = {"GLIBC_TUNABLES": ":".join("glibc.malloc." + word for word in HEAP), **os.environ}
 
 

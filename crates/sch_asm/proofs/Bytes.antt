@@ -8,9 +8,9 @@ use Rattle.std.proofs.lemmas.Slice.{between_is, take-put_mid_below, drop-put_mid
 use borrow.Rule.Slice.PartMut.{put_mid}
 use Rattle.sch_word.specs.values.Memory.{Segment}
 use Rattle.sch_insn.specs.declared.state.StuckCause.{StuckCause}
-use Rattle.sch_word.specs.values.Options.{first_or_0}
+use Rattle.sch_word.specs.values.Options.{first_or_0, when_ok}
 use Rattle.sch_word.specs.runs.ProgramLayout.{data_address}
-use Rattle.sch_insn.specs.Machine.{bytes_from, put_bytes, with_bytes, behind_segment, stored, or_access, when_ok, byte_at}
+use Rattle.sch_insn.specs.Machine.{bytes_from, put_bytes, with_bytes, behind_segment, stored, or_access, byte_at}
 use Rattle.sch_asm.specs.Stands.{Setting}
 use Rattle.sch_asm.specs.Data.{data_at, word_in}
 use Rattle.sch_asm.proofs.Words.{eight_count, take_eight, memory, not_text, in_data}

@@ -9,8 +9,8 @@ use Rattle.sch_insn.specs.declared.insn.Insn.{Insn}
 use Rattle.sch_insn.specs.declared.insn.Insn.TheVariants as insn
 use Rattle.sch_insn.specs.declared.state.StuckCause.{StuckCause}
 use Rattle.sch_insn.specs.Decode.{decode}
-use Rattle.sch_word.specs.values.Options.{when_some, first_or_0}
-use Rattle.sch_insn.specs.Machine.{holds, bytes_from, add64, word, condition, set_register, word_at, byte_at, stored, when_ok, or_access, with_segments, with_register, with_place}
+use Rattle.sch_word.specs.values.Options.{when_some, first_or_0, when_ok}
+use Rattle.sch_insn.specs.Machine.{holds, bytes_from, add64, word, condition, set_register, word_at, byte_at, stored, or_access, with_segments, with_register, with_place}
 use Rattle.sch_insn.specs.Step.{Progress, Runs, done, fetch, fetched, perform, moved, step, jump_if}
 use Rattle.sch_insn.proofs.Paths.{leads_step}
 use Rattle.sch_asm.specs.declared.item.Item.{Item}

@@ -8,10 +8,11 @@ use Rattle.std.proofs.lemmas.List.{get_or-take, drop-drop}
 use Rattle.std.proofs.lemmas.Nat.{from_le_bytes-to_le_bytes_8}
 use Rattle.std.proofs.lemmas.Slice.{between-put_mid, between_is, take-put_mid_below, drop-put_mid}
 use borrow.Rule.Slice.PartMut.{put_mid}
+use Rattle.sch_word.specs.values.Options.{when_ok}
 use Rattle.sch_word.specs.values.Memory.{Segment}
 use Rattle.sch_word.specs.runs.ProgramLayout.{data_address}
 use Rattle.sch_insn.specs.declared.state.StuckCause.{StuckCause}
-use Rattle.sch_insn.specs.Machine.{holds, bytes_from, put_bytes, with_bytes, behind_segment, stored, or_access, when_ok, word_at}
+use Rattle.sch_insn.specs.Machine.{holds, bytes_from, put_bytes, with_bytes, behind_segment, stored, or_access, word_at}
 use Rattle.sch_insn.proofs.PutSize.{size_put}
 use Rattle.sch_asm.specs.Stands.{Setting}
 use Rattle.sch_asm.specs.Data.{data_at, word_in, with_word, Inside}

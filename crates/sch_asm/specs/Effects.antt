@@ -1,11 +1,12 @@
 -- What each run-time routine does to a machine that enters it, and in how many steps.
-use Rattle.std.specs.Prelude.{◌≡◌, ℕ, ◌+◌, ◌-◌, ◌*◌, ◌%◌, ◌^◌, ◌<◌, ◌≤◌, List, [], ◌++◌, length, take, drop, replicate, Bool, true, false, ◌||◌, ◌==◌, ℤ}
+use Rattle.std.specs.Prelude.{◌≡◌, ℕ, ◌+◌, ◌-◌, ◌*◌, ◌%◌, ◌^◌, ◌<◌, ◌≤◌, List, [], ◌++◌, length, take, drop, replicate, Bool, true, false, ℤ}
 use Rattle.std.specs.Fmt.{signed_decimal}
 use Rattle.sch_word.specs.declared.answer.Answer.{Answer}
 use Rattle.sch_word.specs.runs.ProgramLayout.{data_address}
+use Rattle.sch_word.specs.trees.NumberSets.{has}
 use Rattle.sch_word.specs.values.Put.{put}
 use Rattle.sch_word.specs.runs.Stops.{status_of}
-use Rattle.sch_word.specs.declared.registers.TheConstants.{RAX, RCX, RDX, R11}
+use Rattle.sch_word.specs.declared.registers.TheConstants.{RAX, RCX, RDX, R11, SCRATCH_REGISTERS}
 use Rattle.sch_word.specs.declared.stop.Stop.TheVariants.{OutputFailed}
 use Rattle.sch_insn.specs.Step.{Exited, step}
 use Rattle.sch_asm.specs.declared.item.Item.{Item}
@@ -17,9 +18,9 @@ use Rattle.sch_asm.specs.Data.{FixnumWord, PieceAt, word_in}
 use Rattle.sch_asm.specs.Routines.{label_of}
 use Rattle.sch_asm.specs.Views.{View, full, Leads}
 
--- rax, rcx, rdx and r11 are free for routines.
+-- What the routines whose effect is told here may overwrite.
 abbrev pub is_scratch : ℕ → Bool
-is_scratch r = (r == RAX) || ((r == RCX) || ((r == RDX) || (r == R11)))
+is_scratch r = has r SCRATCH_REGISTERS
 
 -- the bytes of the routines' own words, with which the data begin
 abbrev pub own_size : ℕ

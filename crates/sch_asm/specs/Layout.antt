@@ -1,5 +1,5 @@
 -- Where the items of a text stand, one behind the other from an address on, and what is put out of them.
-use Rattle.std.specs.Prelude.{◌≡◌, ℕ, ◌+◌, ◌<◌, List, [], ◌∷◌, ◌++◌, length, slice_index, Option, Some, None, Bool, true, false, cond, ℤ, pos, ◌-ℤ◌}
+use Rattle.std.specs.Prelude.{◌≡◌, ℕ, ◌+◌, ◌<◌, List, [], ◌∷◌, ◌++◌, length, slice_index, Bool, true, false, cond, ℤ, pos, ◌-ℤ◌}
 use Rattle.sch_word.specs.runs.ProgramLayout.{text_address}
 use Rattle.sch_insn.specs.declared.insn.Arg.TheVariants.{Rip}
 use Rattle.sch_insn.specs.declared.insn.Insn.{Insn}
@@ -57,10 +57,6 @@ IsSized _ = Unit {0}
 
 abbrev pub displacement : ℕ → ℕ → ℤ
 displacement next to = pos to -ℤ pos next
-
-abbrev pub option_list : {A : Type 0} → Option A → List A
-option_list None = []
-option_list (Some x) = x ∷ []
 
 -- A jump, in its long or its short form.
 abbrev pub jump_of : Bool → ℤ → Insn

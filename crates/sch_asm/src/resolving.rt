@@ -5,12 +5,13 @@ ghost use Rattle.std.specs.List.{flat_map};
 ghost use Rattle.sch_word.specs.runs.ProgramLayout.{max_text_size};
 ghost use Rattle.sch_insn.specs.Spelling.{AllValid, IsCondition, IsValid, spelling};
 ghost use Rattle.sch_jumps.specs.Least.{IsExact, IsLeast};
+ghost use Rattle.sch_word.specs.values.Options.{option_list};
 ghost use Rattle.sch_jumps.specs.Sizes.{is_near};
 ghost use Rattle.sch_jumps.specs.Spans.{set_of};
 ghost use Rattle.sch_asm.specs.Items.{AreItems, AreOwn, AreRoutines, IsItem};
 ghost use Rattle.sch_asm.specs.Codes.{AreResolved, IsTooLarge, bytes_of, instructions_in, value_of as word_value};
 ghost use Rattle.sch_asm.specs.Forms.{jump_forms};
-ghost use Rattle.sch_asm.specs.Layout.{IsLaidOut, ReachFrom, Reaches, UseBelow, UsesBelow, WordBelow, WordsBelow, branch_of, displacement, emitted_from, insns_at, jump_of, jumps_in, jumps_of, marked_from, marks_of, option_list, size_from, size_of};
+ghost use Rattle.sch_asm.specs.Layout.{IsLaidOut, ReachFrom, Reaches, UseBelow, UsesBelow, WordBelow, WordsBelow, branch_of, displacement, emitted_from, insns_at, jump_of, jumps_in, jumps_of, marked_from, marks_of, size_from, size_of};
 ghost use Rattle.sch_asm.specs.Pieces.{shortest_size, skeleton};
 
 use crate::assembly::{Asm, Word};

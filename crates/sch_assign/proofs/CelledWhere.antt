@@ -1,14 +1,14 @@
 -- Where a variable can get its cell: only where it is in scope or bound; and outside of its binding only
 -- because it is assigned.
-use Rattle.std.proofs.Common.{◌≡◌, ℕ, Bool, true, false, List, ◌++◌, refl, sym, ◌∙◌}
+use Rattle.std.proofs.Common.{◌≡◌, ℕ, true, false, List, ◌++◌, refl, sym, ◌∙◌}
 use Rattle.std.specs.Prelude.{IsTrue, ◌||◌, ◌&&◌, nat_eq}
-use Rattle.std.proofs.lemmas.Bool.{eqb-true}
 use Rattle.sch_word.proofs.facts.Booleans.{neither, not_left, not_right, and_parts}
 use Rattle.sch_word.proofs.facts.NumberSets.{has_append}
+use Rattle.sch_word.proofs.facts.NumberTests.{differ}
 use Rattle.sch_word.specs.trees.NumberSets.{has}
-use Rattle.sch_word.specs.trees.Bindings.{numbers, scope_with}
+use Rattle.sch_word.specs.trees.Bindings.{numbers, scope_with, pushed}
 use Rattle.sch_cells.specs.Tree.{Tree, Trees, Lambdas, constant, literal, variable, global, set_variable, set_global, define, branch, sequence, bind, fix, letrec, lambda, call, operation, new_cells, cell_get, cell_set, no_trees, and_tree, no_lambdas, and_lambda, count, count_lambdas}
-use Rattle.sch_cells.specs.Variables.{scope_of, cells_bound, cells_used, all_in, assigns, assigns_each, assigns_lambdas, bound, bound_each, bound_lambdas, closed, closed_each, closed_lambdas}
+use Rattle.sch_cells.specs.Variables.{cells_bound, cells_used, all_in, assigns, assigns_each, assigns_lambdas, bound, bound_each, bound_lambdas, closed, closed_each, closed_lambdas}
 use Rattle.sch_cells.proofs.Clearing.{scope_has, list_has}
 use Rattle.sch_assign.specs.Celled.{celled, celled_each, celled_lambdas}
 
@@ -19,11 +19,7 @@ pub not_second : (y : ℕ) (xs ys : List ℕ) → has y (xs ++ ys) ≡ false →
 not_second y xs ys h = not_right (has y xs) (has y ys) (sym (has_append y xs ys) ∙ h)
 
 pub not_used : (x y : ℕ) (S : List ℕ) → has x S ≡ true → has y S ≡ false → nat_eq x y ≡ false
-not_used x y S i h = go (nat_eq x y) refl
-  where
-    go : (b : Bool) → nat_eq x y ≡ b → b ≡ false
-    go true e = absurd (let q : has y S ≡ true = rw (sym (eqb-true x y e)) i in cc)
-    go false e = refl
+not_used x y S i h = differ x y (λ e. let q : has y S ≡ true = rw (sym e) i in cc)
 
 mutual
   pub not_celled : (e : Tree) (S : List ℕ) (y : ℕ) → IsTrue (closed e S) → has y S ≡ false → has y (bound e) ≡ false → celled e y ≡ false
@@ -73,8 +69,8 @@ mutual
       neither (celled f y) (celled_each es y) (not_celled f S y p.0 s (not_first y (bound f) (bound_each es) b)) (none_celled es S y p.1 s (not_second y (bound f) (bound_each es) b))
   not_celled (operation site which es) S y k s b = none_celled es S y k s b
   not_celled (new_cells cs e) S y k s b =
-      let p = and_parts (all_in (cells_used cs) S) (closed e (scope_of (cells_bound cs) S)) k in
-      not_celled e (scope_of (cells_bound cs) S) y p.1 (list_has y (cells_bound cs) S (not_first y (cells_bound cs) (bound e) b) s) (not_second y (cells_bound cs) (bound e) b)
+      let p = and_parts (all_in (cells_used cs) S) (closed e (pushed (cells_bound cs) S)) k in
+      not_celled e (pushed (cells_bound cs) S) y p.1 (list_has y (cells_bound cs) S (not_first y (cells_bound cs) (bound e) b) s) (not_second y (cells_bound cs) (bound e) b)
   not_celled (cell_get x) S y k s b = refl
   not_celled (cell_set x e) S y k s b = not_celled e S y (and_parts (has x S) (closed e S) k).1 s b
 

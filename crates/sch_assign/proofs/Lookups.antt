@@ -9,7 +9,7 @@ use Rattle.sch_word.specs.values.CellBytes.{cells_bytes, where_assigned}
 use Rattle.sch_word.specs.trees.Bindings.{Bindings, bound_to, with_variables, scope_with}
 use Rattle.sch_cells.specs.Variables.{assigns, cells_of}
 use Rattle.sch_cells.specs.Tree.{Tree}
-use Rattle.sch_cells.specs.BoxedMeaning.{with_cells, contents}
+use Rattle.sch_cells.specs.BoxedMeaning.{with_new_cells, contents}
 use Rattle.sch_assign.specs.Converted.{and_cell, cells_for, Agree, AllAre, Low, empty_cells}
 use Rattle.sch_word.proofs.facts.NumberSets.{in_deeper}
 use Rattle.sch_word.proofs.facts.NumberTests.{differ, same as self}
@@ -122,18 +122,18 @@ module _ (has_cell : ℕ → Bool) (n : ℕ) where
       go false k = k
 
   -- a key that is no cell of the group
-  pub outside_cells : (x m k : ℕ) (ns : List ℕ) (env : Bindings Value) → Apart (x + n) m k → bound_to k (with_cells (cells_for has_cell n x m) ns env) ≡ bound_to k env
+  pub outside_cells : (x m k : ℕ) (ns : List ℕ) (env : Bindings Value) → Apart (x + n) m k → bound_to k (with_new_cells (cells_for has_cell n x m) ns env) ≡ bound_to k env
   outside_cells x zero k [] env h = refl
   outside_cells x zero k (c ∷ ns) env h = refl
   outside_cells x (suc m) k ns env h =
       go (has_cell x) ns (λ ns' env'. outside_cells (suc x) m k ns' env' (record { at = λ i l e. h.at (suc i) (omega (arith, l)) (omega (arith, e)) }))
     where
-      go : (b : Bool) (ns : List ℕ) → ((ns : List ℕ) (env : Bindings Value) → bound_to k (with_cells (cells_for has_cell n (suc x) m) ns env) ≡ bound_to k env) → bound_to k (with_cells (and_cell n b x (cells_for has_cell n (suc x) m)) ns env) ≡ bound_to k env
+      go : (b : Bool) (ns : List ℕ) → ((ns : List ℕ) (env : Bindings Value) → bound_to k (with_new_cells (cells_for has_cell n (suc x) m) ns env) ≡ bound_to k env) → bound_to k (with_new_cells (and_cell n b x (cells_for has_cell n (suc x) m)) ns env) ≡ bound_to k env
       go true [] deeper = refl
       go true (c ∷ ns) deeper = deeper ns ((x + n, cell c) ∷ env) ∙ rw (apart_first (x + n) m k h) refl
       go false ns deeper = deeper ns env
 
-  pub inside_cells : {V : Type 0} (x m i j : ℕ) (cts : List V) (env : Bindings Value) → length cts ≡ length (cells_for has_cell n x m) → i < m → has_cell (x + i) ≡ true → bound_to (x + i + n) (with_cells (cells_for has_cell n x m) (numbers_from j cts) env) ≡ Some (cell (j + count_before x i))
+  pub inside_cells : {V : Type 0} (x m i j : ℕ) (cts : List V) (env : Bindings Value) → length cts ≡ length (cells_for has_cell n x m) → i < m → has_cell (x + i) ≡ true → bound_to (x + i + n) (with_new_cells (cells_for has_cell n x m) (numbers_from j cts) env) ≡ Some (cell (j + count_before x i))
   inside_cells x zero i j cts env e l a = absurd (omega (arith, l))
   inside_cells {V} x (suc m) zero j cts env e l a =
       let q : x + 0 ≡ x = omega arith in
@@ -141,7 +141,7 @@ module _ (has_cell : ℕ → Bool) (n : ℕ) where
       let e' : length cts ≡ length (and_cell n true x (cells_for has_cell n (suc x) m)) = rw a' at e in
       rw (q, a') (go cts e')
     where
-      go : (cts : List V) → length cts ≡ length (and_cell n true x (cells_for has_cell n (suc x) m)) → bound_to (x + n) (with_cells (record { variable = x + n; content = Some x } ∷ cells_for has_cell n (suc x) m) (numbers_from j cts) env) ≡ Some (cell (j + 0))
+      go : (cts : List V) → length cts ≡ length (and_cell n true x (cells_for has_cell n (suc x) m)) → bound_to (x + n) (with_new_cells (record { variable = x + n; content = Some x } ∷ cells_for has_cell n (suc x) m) (numbers_from j cts) env) ≡ Some (cell (j + 0))
       go [] k = absurd (omega (arith, k))
       go (c ∷ cts) k =
           outside_cells (suc x) m (x + n) (numbers_from (suc j) cts) ((x + n, cell j) ∷ env) (record { at = λ i l e. omega (arith, e) })
@@ -152,8 +152,8 @@ module _ (has_cell : ℕ → Bool) (n : ℕ) where
       rw q (go (has_cell x) cts e (λ k cts' env' e'. inside_cells (suc x) m i k cts' env' e' (omega (arith, l)) a'))
     where
       go : (b : Bool) (cts : List V) → length cts ≡ length (and_cell n b x (cells_for has_cell n (suc x) m))
-          → ((k : ℕ) (cts : List V) (env : Bindings Value) → length cts ≡ length (cells_for has_cell n (suc x) m) → bound_to (suc x + i + n) (with_cells (cells_for has_cell n (suc x) m) (numbers_from k cts) env) ≡ Some (cell (k + count_before (suc x) i)))
-          → bound_to (suc x + i + n) (with_cells (and_cell n b x (cells_for has_cell n (suc x) m)) (numbers_from j cts) env) ≡ Some (cell (j + one_more_if b (count_before (suc x) i)))
+          → ((k : ℕ) (cts : List V) (env : Bindings Value) → length cts ≡ length (cells_for has_cell n (suc x) m) → bound_to (suc x + i + n) (with_new_cells (cells_for has_cell n (suc x) m) (numbers_from k cts) env) ≡ Some (cell (k + count_before (suc x) i)))
+          → bound_to (suc x + i + n) (with_new_cells (and_cell n b x (cells_for has_cell n (suc x) m)) (numbers_from j cts) env) ≡ Some (cell (j + one_more_if b (count_before (suc x) i)))
       go true [] k deeper = absurd (omega (arith, k))
       go true (c ∷ cts) k deeper =
           deeper (suc j) cts ((x + n, cell j) ∷ env) (omega (arith, k))

@@ -3,7 +3,7 @@ use Rattle.std.proofs.Common.{◌≡◌, ℕ, zero, suc, ◌+◌, ◌<◌, Bool,
 use Rattle.std.specs.Prelude.{slice_get}
 use Rattle.std.proofs.lemmas.List.{append-nil}
 use Rattle.sch_word.specs.values.Values.{Value, unspecified, is_true, cell}
-use Rattle.sch_word.specs.runs.Computation.{Outcome, gives, stops, spent, State, Computation, on_value, after, in_turn, in_store, read_literal, read_global, write_global, read_cell, write_cell, write_cells, some_each, unset_each, take_entry}
+use Rattle.sch_word.specs.runs.Computation.{Outcome, gives, stops, spent, State, Computation, on_value, after, in_turn, in_store, read_literal, read_global, write_global, read_cell, write_cell, write_cells, some_each, unset_each, take_entry, when_known, with_cell}
 use Rattle.sch_word.specs.runs.Computation as computation
 use Rattle.sch_word.specs.runs.Charges.{charge, charge_each, fit, procedure_bytes}
 use Rattle.sch_word.specs.values.PrimitiveRows.{primitive}
@@ -17,10 +17,9 @@ use Rattle.sch_cells.specs.declared.tree.NewCell.{NewCell}
 use Rattle.sch_word.specs.trees.NumberSets.{In}
 use Rattle.sch_cells.specs.Variables.{cells_of}
 use Rattle.sch_cells.specs.UnboxedMeaning as from
-use Rattle.sch_cells.specs.UnboxedMeaning.{with_cell}
 use Rattle.sch_cells.specs.Procedures.{Closure, closures, lambda_bytes, lambdas_bytes}
 use Rattle.sch_cells.specs.BoxedMeaning as to
-use Rattle.sch_cells.specs.BoxedMeaning.{with_cells, contents}
+use Rattle.sch_cells.specs.BoxedMeaning.{with_new_cells, contents}
 use Rattle.sch_word.specs.runs.Orders.{Orders, order_at}
 use Rattle.sch_assign.specs.Converted.{cells_for, empty_cells, wrapped, reading, filling, converted, converted_each, converted_lambdas, converted_source, Agree, AllAre, Low, Right, RightEach, RightLambdas}
 use Rattle.sch_assign.proofs.kept.FreeMoved.{AllLow, low_with, count_lambdas_same, lambda_free}
@@ -140,20 +139,20 @@ module _ (has_cell : ℕ → Bool) (n : ℕ) where
 
   -- a group of variables in new cells, which on the other side hold values or cells
   env_bind : {w : World} {S : List ℕ} {env : Bindings ℕ} {env' : Bindings Value} (x m : ℕ) (vs : List Value) (cs ns : List ℕ) → length vs ≡ m → Low n x m → Made (kinds x vs) (length (some_each vs)) (chosen has_cell n x vs) w cs ns → EnvRel w S env env' →
-      EnvRel w (scope_with x m S) (with_variables x cs env) (with_cells (cells_for has_cell n x m) ns (with_variables x vs env'))
+      EnvRel w (scope_with x m S) (with_variables x cs env) (with_new_cells (cells_for has_cell n x m) ns (with_variables x vs env'))
   env_bind {w} {S} {env} {env'} x m vs cs ns long few d h = record { at = λ y i. go y i (where_is x m y) }
     where
       many : length cs ≡ m
       many = d.many ∙ some_length vs ∙ long
 
-      go : (y : ℕ) → In y (scope_with x m S) → Where x m y → (y < n) × Look w (has_cell y) (bound_to y (with_variables x cs env)) (value_of y (with_cells (cells_for has_cell n x m) ns (with_variables x vs env'))) (value_of (y + n) (with_cells (cells_for has_cell n x m) ns (with_variables x vs env')))
+      go : (y : ℕ) → In y (scope_with x m S) → Where x m y → (y < n) × Look w (has_cell y) (bound_to y (with_variables x cs env)) (value_of y (with_new_cells (cells_for has_cell n x m) ns (with_variables x vs env'))) (value_of (y + n) (with_new_cells (cells_for has_cell n x m) ns (with_variables x vs env')))
       go y iy (inside i l q) = (let f : x + i < n = few.at i l in omega (arith, f, q), rw q (here i l (has_cell (x + i)) refl))
         where
-          here : (i : ℕ) → i < m → (b : Bool) → has_cell (x + i) ≡ b → Look w (has_cell (x + i)) (bound_to (x + i) (with_variables x cs env)) (value_of (x + i) (with_cells (cells_for has_cell n x m) ns (with_variables x vs env'))) (value_of (x + i + n) (with_cells (cells_for has_cell n x m) ns (with_variables x vs env')))
+          here : (i : ℕ) → i < m → (b : Bool) → has_cell (x + i) ≡ b → Look w (has_cell (x + i)) (bound_to (x + i) (with_variables x cs env)) (value_of (x + i) (with_new_cells (cells_for has_cell n x m) ns (with_variables x vs env'))) (value_of (x + i + n) (with_new_cells (cells_for has_cell n x m) ns (with_variables x vs env')))
           here i l true a =
               let long' : length (chosen has_cell n x vs) ≡ length (cells_for has_cell n x m) = chosen_length has_cell n x vs ∙ ap (λ k. length (cells_for has_cell n x k)) long in
               look_to a (inside_variables x i cs env (omega (arith, l, many)) ∙ d.source i (omega (arith, l, some_length vs, long))) refl
-              (ap value_or (ap (λ k. bound_to (x + i + n) (with_cells (cells_for has_cell n x m) k (with_variables x vs env'))) d.target ∙ inside_cells has_cell n x m i (boxed_count d.before) (chosen has_cell n x vs) (with_variables x vs env') long' l a))
+              (ap value_or (ap (λ k. bound_to (x + i + n) (with_new_cells (cells_for has_cell n x m) k (with_variables x vs env'))) d.target ∙ inside_cells has_cell n x m i (boxed_count d.before) (chosen has_cell n x vs) (with_variables x vs env') long' l a))
               (boxed (rw d.is (get_behind d.before (kinds x vs) i ∙ kinds_boxed x i vs (omega (arith, l, long)) a))
               (rw d.is (sym (rank_behind d.before (kinds x vs) i ∙ ap (λ k. boxed_count d.before + k) (kinds_rank x i vs (omega (arith, l, long)))))))
           here i l false a =
@@ -195,7 +194,7 @@ module _ (has_cell : ℕ → Bool) (n : ℕ) where
           )
 
   -- the cells of a Rec have the variables that cells of assigned variables have
-  same_keys : (x m : ℕ) (ns : List ℕ) (env : Bindings Value) → AllAre has_cell n true x m → with_cells (empty_cells n x m) ns env ≡ with_cells (cells_for has_cell n x m) ns env
+  same_keys : (x m : ℕ) (ns : List ℕ) (env : Bindings Value) → AllAre has_cell n true x m → with_new_cells (empty_cells n x m) ns env ≡ with_new_cells (cells_for has_cell n x m) ns env
   same_keys x zero ns env h = refl
   same_keys x (suc m) [] env h = rw (all_first has_cell n true x m h) refl
   same_keys x (suc m) (c ∷ ns) env h = rw (all_first has_cell n true x m h) (same_keys (suc x) m ns ((x + n, cell c) ∷ env) (all_next has_cell n true x m h))
@@ -214,19 +213,19 @@ module _ (has_cell : ℕ → Bool) (n : ℕ) where
   all_before x (suc i) (suc m) l h = rw (all_first has_cell n true x m h) (ap suc (all_before (suc x) i m (omega (arith, l)) (all_next has_cell n true x m h)))
 
   env_rec : {w : World} {S : List ℕ} {env : Bindings ℕ} {env' : Bindings Value} (x m : ℕ) (cs ns : List ℕ) → AllAre has_cell n true x m → Low n x m → Made (unset_each m) (length (unset_each m)) (unset_each m) w cs ns → EnvRel w S env env' →
-      EnvRel w (scope_with x m S) (with_variables x cs env) (with_cells (empty_cells n x m) ns env')
+      EnvRel w (scope_with x m S) (with_variables x cs env) (with_new_cells (empty_cells n x m) ns env')
   env_rec {w} {S} {env} {env'} x m cs ns all few d h = rw (same_keys x m ns env' all) (record { at = λ y i. go y i (where_is x m y) })
     where
       many : length cs ≡ m
       many = d.many ∙ unset_length m
 
-      go : (y : ℕ) → In y (scope_with x m S) → Where x m y → (y < n) × Look w (has_cell y) (bound_to y (with_variables x cs env)) (value_of y (with_cells (cells_for has_cell n x m) ns env')) (value_of (y + n) (with_cells (cells_for has_cell n x m) ns env'))
+      go : (y : ℕ) → In y (scope_with x m S) → Where x m y → (y < n) × Look w (has_cell y) (bound_to y (with_variables x cs env)) (value_of y (with_new_cells (cells_for has_cell n x m) ns env')) (value_of (y + n) (with_new_cells (cells_for has_cell n x m) ns env'))
       go y iy (inside i l q) =
           let long : length (unset_each m) ≡ length (cells_for has_cell n x m) = unset_length m ∙ sym (keys_length x m all) in (
             let f : x + i < n = few.at i l in omega (arith, f, q),
             rw q
                 (look_to (all.at i l) (inside_variables x i cs env (omega (arith, l, many)) ∙ d.source i (omega (arith, l, unset_length m))) refl
-                (ap value_or (ap (λ k. bound_to (x + i + n) (with_cells (cells_for has_cell n x m) k env')) d.target ∙ inside_cells has_cell n x m i (boxed_count d.before) (unset_each m) env' long l (all.at i l)))
+                (ap value_or (ap (λ k. bound_to (x + i + n) (with_new_cells (cells_for has_cell n x m) k env')) d.target ∙ inside_cells has_cell n x m i (boxed_count d.before) (unset_each m) env' long l (all.at i l)))
                 (boxed (rw d.is (get_behind d.before (unset_each m) i ∙ unset_get m i l))
                 (rw (d.is, all_before x i m l all) (sym (rank_behind d.before (unset_each m) i ∙ ap (λ k. boxed_count d.before + k) (unset_rank m i l)))))),
           )
@@ -298,18 +297,18 @@ module _ (has_cell : ℕ → Bool) (n : ℕ) where
 
   -- ## Variables
 
-  read_plain : {w : World} {o : Option ℕ} {v u : Value} → Look w false o v u → DoesSame w (with_cell o read_cell) (gives v)
+  read_plain : {w : World} {o : Option ℕ} {v u : Value} → Look w false o v u → DoesSame w (when_known o read_cell) (gives v)
   read_plain (plain e) = boxes_lib.same_plain Becomes grow e
 
-  read_boxed : {w : World} {o : Option ℕ} {v u : Value} → Look w true o v u → DoesSame w (with_cell o read_cell) (to.with_cell u read_cell)
+  read_boxed : {w : World} {o : Option ℕ} {v u : Value} → Look w true o v u → DoesSame w (when_known o read_cell) (with_cell u read_cell)
   read_boxed (boxed e r) = boxes_lib.same_read Becomes grow e r
 
-  write_boxed : {w : World} {o : Option ℕ} {v u : Value} (new : Value) → Look w true o v u → DoesSame w (with_cell o (λ c. write_cell c new)) (to.with_cell u (λ c. write_cell c new))
+  write_boxed : {w : World} {o : Option ℕ} {v u : Value} (new : Value) → Look w true o v u → DoesSame w (when_known o (λ c. write_cell c new)) (with_cell u (λ c. write_cell c new))
   write_boxed new (boxed e r) = boxes_lib.same_write Becomes grow new e r
 
   module _ (orders : Orders) (enter : from.Enter) (enter' : to.Enter)
       (same_enter : (w : World) (p : (Closure ℕ)) (q : (Closure Value)) → Becomes w p q → (vs : List Value) (depth : ℕ) → DoesSame w (enter p vs depth) (enter' q vs depth)) where
-    read_same : {w : World} {o : Option ℕ} (b : Bool) (x : ℕ) (env' : Bindings Value) (depth : ℕ) (tail : Bool) → has_cell x ≡ b → Look w (has_cell x) o (value_of x env') (value_of (x + n) env') → DoesSame w (with_cell o read_cell) (to.evaluate orders enter' (reading n b x) env' depth tail)
+    read_same : {w : World} {o : Option ℕ} (b : Bool) (x : ℕ) (env' : Bindings Value) (depth : ℕ) (tail : Bool) → has_cell x ≡ b → Look w (has_cell x) o (value_of x env') (value_of (x + n) env') → DoesSame w (when_known o read_cell) (to.evaluate orders enter' (reading n b x) env' depth tail)
     read_same true x env' depth tail a h = read_boxed (rw a at h)
     read_same false x env' depth tail a h = read_plain (rw a at h)
 
@@ -355,7 +354,7 @@ module _ (has_cell : ℕ → Bool) (n : ℕ) where
         let cellx : Look w true (Some i) unspecified (value_of (x + n) env') = rw q at (hc 0 (omega arith)) in
         let valuex : bound_to x env' ≡ Some v = rw q at (hv 0 (omega arith)) in
         let one : DoesSame w (write_cell i v) (to.evaluate orders enter' (cell_set (x + n) (variable x)) env' depth false) =
-        subst (λ u. DoesSame w (write_cell i v) (after (gives u) (λ v. to.with_cell (value_of (x + n) env') (λ c. write_cell c v)))) (sym (ap value_or valuex)) (write_boxed v cellx) in
+        subst (λ u. DoesSame w (write_cell i v) (after (gives u) (λ v. with_cell (value_of (x + n) env') (λ c. write_cell c v)))) (sym (ap value_or valuex)) (write_boxed v cellx) in
         rw (parts_filling (cell_set (x + n) (variable x)) body (suc x) m env' depth tail)
         (similar_then link one
         (λ w1 g _. filling_same {w = w1} (suc x) m cs vs body env' depth tail _ (omega (arith, lc)) (omega (arith, lv))
@@ -400,14 +399,14 @@ module _ (has_cell : ℕ → Bool) (n : ℕ) where
           (similar_then link (boxes_lib.same_in_store Becomes grow (charge_each (cells_bytes m)))
           (λ w1 g _. similar_after link (boxes_lib.same_new_cells Becomes grow (unset_each m) (unset_each m) (unset_each m) (unset_holds m) (unset_boxes m) (λ k i l. numbers_get k i (unset_each m) l) (λ k. numbers_length k (unset_each m)))
           (λ w2 g2 cs ns made.
-          let h2 : EnvRel w2 (scope_with x m S) (with_variables x cs env) (with_cells (empty_cells n x m) ns env') = env_rec x m cs ns r.0 r.1 made (env_grow w w2 (on w w1 w2 g g2) h) in
+          let h2 : EnvRel w2 (scope_with x m S) (with_variables x cs env) (with_new_cells (empty_cells n x m) ns env') = env_rec x m cs ns r.0 r.1 made (env_grow w w2 (on w w1 w2 g g2) h) in
           let many : length cs ≡ m = made.many ∙ unset_length m in
           similar_keeping link (λ vs. length vs ≡ length (from.each orders enter es (with_variables x cs env) depth)) (similar_all_values link (orders site) (each_same es depth h2 r.2))
           (λ w3 g3 vs p.
           let long : length vs ≡ m = p ∙ each_length es (with_variables x cs env) depth in
-          let h3 : EnvRel w3 (scope_with x m S) (with_variables x cs env) (with_variables x vs (with_cells (empty_cells n x m) ns env')) = env_held x m vs long r.0 r.1 (env_grow w2 w3 g3 h2) in
-          filling_same x m cs vs (converted has_cell n e) (with_variables x vs (with_cells (empty_cells n x m) ns env')) depth tail unspecified many long
-          (λ i l. cell_at S env x m i l cs many h3 r.0) (λ i l. inside_variables x i vs (with_cells (empty_cells n x m) ns env') (omega (arith, l, long)))
+          let h3 : EnvRel w3 (scope_with x m S) (with_variables x cs env) (with_variables x vs (with_new_cells (empty_cells n x m) ns env')) = env_held x m vs long r.0 r.1 (env_grow w2 w3 g3 h2) in
+          filling_same x m cs vs (converted has_cell n e) (with_variables x vs (with_new_cells (empty_cells n x m) ns env')) depth tail unspecified many long
+          (λ i l. cell_at S env x m i l cs many h3 r.0) (λ i l. inside_variables x i vs (with_new_cells (empty_cells n x m) ns env') (omega (arith, l, long)))
           (λ w4 g4. evaluate_same e depth tail (env_grow w3 w4 g4 h3) r.3)))))
       evaluate_same (lambda name x m rest e) {S = S} depth tail h r =
           rw (ap procedure_bytes (lambda_free has_cell n x m e S r.1 r.2 (env_low h))) (similar_then link (boxes_lib.same_in_store Becomes grow (charge (lambda_bytes x m e)))

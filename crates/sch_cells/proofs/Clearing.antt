@@ -4,8 +4,8 @@ use Rattle.std.specs.Prelude.{IsTrue, ◌&&◌, ◌||◌, not, nat_eq}
 use Rattle.std.proofs.lemmas.Bool.{eqb-true}
 use Rattle.sch_word.specs.trees.NumberSets.{has, without_repeats, In}
 use Rattle.sch_cells.specs.Tree.{Tree, Trees, Lambdas, Source, constant, literal, variable, global, set_variable, set_global, define, branch, sequence, bind, fix, letrec, lambda, call, operation, new_cells, cell_get, cell_set, no_trees, and_tree, no_lambdas, and_lambda, count, count_lambdas}
-use Rattle.sch_word.specs.trees.Bindings.{numbers, scope_with}
-use Rattle.sch_cells.specs.Variables.{scope_of, cells_bound, cells_used, all_in, bound, bound_each, bound_lambdas, closed, closed_each, closed_lambdas, below}
+use Rattle.sch_word.specs.trees.Bindings.{numbers, scope_with, pushed}
+use Rattle.sch_cells.specs.Variables.{cells_bound, cells_used, all_in, bound, bound_each, bound_lambdas, closed, closed_each, closed_lambdas, below}
 use Rattle.sch_cells.specs.Valid.{scoped, bound_of}
 use Rattle.sch_cells.specs.Clear.{Apart, Clear, ClearEach, ClearLambdas}
 use Rattle.sch_word.proofs.facts.NumberSets.{has_append, in_more}
@@ -41,11 +41,11 @@ pub apart_scope : (xs : List ℕ) (x m : ℕ) (S : List ℕ) → Apart xs (numbe
 apart_scope xs x m S p q = record { at = λ y i. scope_has y x m S (p.at y i) (q.at y i) }
 
 -- what is in a scope is in a larger one
-pub in_under : (zs : List ℕ) (y : ℕ) (S : List ℕ) → In y S → In y (scope_of zs S)
+pub in_under : (zs : List ℕ) (y : ℕ) (S : List ℕ) → In y S → In y (pushed zs S)
 in_under [] y S i = i
 in_under (z ∷ zs) y S i = in_under zs y (z ∷ S) (in_more y z S i)
 
-pub list_has : (y : ℕ) (zs S : List ℕ) → has y zs ≡ false → has y S ≡ false → has y (scope_of zs S) ≡ false
+pub list_has : (y : ℕ) (zs S : List ℕ) → has y zs ≡ false → has y S ≡ false → has y (pushed zs S) ≡ false
 list_has y [] S p q = q
 list_has y (z ∷ zs) S p q = list_has y zs (z ∷ S) (not_right (nat_eq y z) _ p) (neither (nat_eq y z) (has y S) (not_left (nat_eq y z) _ p) q)
 
@@ -130,11 +130,11 @@ mutual
       (clear f S p.0 s.left (left_apart (bound f) (bound_each es) S a), clear_each es S p.1 s.right (right_apart (bound f) (bound_each es) S a))
   clear (operation site which es) S k d a = clear_each es S k d a
   clear (new_cells cs e) S k d a =
-      let p = and_parts (all_in (cells_used cs) S) (closed e (scope_of (cells_bound cs) S)) k in
+      let p = and_parts (all_in (cells_used cs) S) (closed e (pushed (cells_bound cs) S)) k in
       let s = distinct_parts (cells_bound cs) (bound e) d in
       let r = right_apart (cells_bound cs) (bound e) S a in
       let b = apart_back _ _ s.apart in
-      (p.0, left_apart (cells_bound cs) (bound e) S a, clear e (scope_of (cells_bound cs) S) p.1 s.right (record { at = λ y i. list_has y (cells_bound cs) S (b.at y i) (r.at y i) }))
+      (p.0, left_apart (cells_bound cs) (bound e) S a, clear e (pushed (cells_bound cs) S) p.1 s.right (record { at = λ y i. list_has y (cells_bound cs) S (b.at y i) (r.at y i) }))
   clear (cell_get x) S k d a = k
   clear (cell_set x e) S k d a = let p = and_parts (has x S) (closed e S) k in (p.0, clear e S p.1 d a)
 

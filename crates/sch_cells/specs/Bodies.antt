@@ -35,9 +35,9 @@ abbrev pub bound_count : (x m : ℕ) → Tree → ℕ
 bound_count x zero e = 0
 bound_count x (suc m) e = twice_if (assigns e x) + bound_count (suc x) m e
 
-abbrev pub with_cells : List NewCell → Bindings Bool → Bindings Bool
-with_cells [] once = once
-with_cells (c ∷ cs) once = with_cells cs ((c.variable, true) ∷ once)
+abbrev pub once_with_cells : List NewCell → Bindings Bool → Bindings Bool
+once_with_cells [] once = once
+once_with_cells (c ∷ cs) once = once_with_cells cs ((c.variable, true) ∷ once)
 
 abbrev mutual
   pub variables : Tree → (once : Bindings Bool) → ℕ
@@ -58,7 +58,7 @@ abbrev mutual
   variables (lambda name first formals rest e) once = 0
   variables (call site spread f es) once = one_unless (counts_nothing f once) + (variables f once + variables_operands es once)
   variables (operation site which es) once = variables_operands es once
-  variables (new_cells cs e) once = length cs + variables e (with_cells cs once)
+  variables (new_cells cs e) once = length cs + variables e (once_with_cells cs once)
   variables (cell_get x) once = 0
   variables (cell_set x e) once = one_unless (counts_nothing e once) + variables e once
 

@@ -2,26 +2,22 @@
 -- number of a cell.
 use Rattle.std.specs.Prelude.{ℕ, zero, suc, Bool, true, false, List, [], ◌∷◌, length, Option, Some, None}
 use Rattle.sch_word.specs.declared.answer.Answer.{Answer}
-use Rattle.sch_word.specs.values.Values.{Value, unspecified, constant_value, is_true, cell}
+use Rattle.sch_word.specs.values.Values.{Value, unspecified, constant_value, is_true}
 use Rattle.sch_word.specs.runs.Computation as computation
-use Rattle.sch_word.specs.runs.Computation.{Outcome, State, Computation, gives, spent, unreached, after, either, in_store, all_values, in_turn, read_literal, read_global, write_global, read_cell, write_cell, new_procedure, new_group, take_entry, call_with}
+use Rattle.sch_word.specs.runs.Computation.{Outcome, State, Computation, gives, spent, unreached, after, either, in_store, all_values, in_turn, read_literal, read_global, write_global, read_cell, write_cell, new_procedure, new_group, take_entry, call_with, with_cell}
 use Rattle.sch_word.specs.runs.Charges.{charge, charge_each, fit}
 use Rattle.sch_word.specs.values.CellBytes.{cells_bytes}
-use Rattle.sch_word.specs.trees.Bindings.{Bindings, with_variables, value_of}
+use Rattle.sch_word.specs.trees.Bindings.{Bindings, with_variables, with_cells, value_of}
 use Rattle.sch_word.specs.runs.Orders.{Orders, order_at}
 use Rattle.sch_word.specs.values.PrimitiveRows.{primitive}
 use Rattle.sch_word.specs.runs.Runs.{Runs, seen, starting_store, starting_state}
 use Rattle.sch_cells.specs.declared.tree.NewCell.{NewCell}
 use Rattle.sch_cells.specs.Tree.{Tree, Trees, Source, constant, literal, variable, global, set_variable, set_global, define, branch, sequence, bind, fix, letrec, lambda, call, operation, new_cells, cell_get, cell_set, no_trees, and_tree, count_lambdas}
+use Rattle.sch_cells.specs.Variables.{cells_bound}
 use Rattle.sch_cells.specs.Procedures.{Closure, closures, lambda_bytes, lambdas_bytes}
 
 abbrev pub Enter : Type 0
 Enter = computation.Enter (Closure Value)
-
--- the cell that a value is
-abbrev pub with_cell : {V : Type 0} → Value → (ℕ → Computation (Closure Value) V) → Computation (Closure Value) V
-with_cell (cell c) next = next c
-with_cell _ next = unreached
 
 -- what a new cell holds at first
 abbrev pub content : Option ℕ → Bindings Value → Option Value
@@ -33,9 +29,8 @@ contents [] environment = []
 contents (c ∷ cs) environment = content c.content environment ∷ contents cs environment
 
 -- the variables of new cells have these cells
-abbrev pub with_cells : List NewCell → List ℕ → Bindings Value → Bindings Value
-with_cells (c ∷ cs) (n ∷ ns) environment = with_cells cs ns ((c.variable, cell n) ∷ environment)
-with_cells _ _ environment = environment
+abbrev pub with_new_cells : List NewCell → List ℕ → Bindings Value → Bindings Value
+with_new_cells cs ns environment = with_cells (cells_bound cs) ns environment
 
 module _ (orders : Orders) (enter : Enter) where
   -- `depth` is how many calls may still be pending that are no tail calls, `tail` whether the tree is in a
@@ -72,7 +67,7 @@ module _ (orders : Orders) (enter : Enter) where
     evaluate (new_cells cs e) environment depth tail =
         after (in_store (charge_each (cells_bytes (length cs))))
         (λ _. after (computation.new_cells (contents cs environment))
-        (λ ns. evaluate e (with_cells cs ns environment) depth tail))
+        (λ ns. evaluate e (with_new_cells cs ns environment) depth tail))
     evaluate (cell_get x) environment depth tail = with_cell (value_of x environment) read_cell
     evaluate (cell_set x e) environment depth tail =
         after (evaluate e environment depth false) (λ v. with_cell (value_of x environment) (λ c. write_cell c v))

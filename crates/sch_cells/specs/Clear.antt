@@ -2,8 +2,8 @@
 use Rattle.std.specs.Prelude.{◌≡◌, ℕ, true, false, List}
 use Rattle.sch_word.specs.trees.NumberSets.{has, In}
 use Rattle.sch_cells.specs.Tree.{Tree, Trees, Lambdas, constant, literal, variable, global, set_variable, set_global, define, branch, sequence, bind, fix, letrec, lambda, call, operation, new_cells, cell_get, cell_set, no_trees, and_tree, no_lambdas, and_lambda, count, count_lambdas}
-use Rattle.sch_word.specs.trees.Bindings.{numbers, scope_with}
-use Rattle.sch_cells.specs.Variables.{scope_of, cells_bound, cells_used, all_in}
+use Rattle.sch_word.specs.trees.Bindings.{numbers, scope_with, pushed}
+use Rattle.sch_cells.specs.Variables.{cells_bound, cells_used, all_in}
 
 -- none of one list is in the other
 pub record Apart (xs ys : List ℕ) : Type 0 where
@@ -26,7 +26,7 @@ abbrev mutual
   Clear (lambda name x m rest e) S = Apart (numbers x m) S × Clear e (scope_with x m S)
   Clear (call site spread f es) S = Clear f S × ClearEach es S
   Clear (operation site which es) S = ClearEach es S
-  Clear (new_cells cs e) S = (all_in (cells_used cs) S ≡ true) × Apart (cells_bound cs) S × Clear e (scope_of (cells_bound cs) S)
+  Clear (new_cells cs e) S = (all_in (cells_used cs) S ≡ true) × Apart (cells_bound cs) S × Clear e (pushed (cells_bound cs) S)
   Clear (cell_get x) S = In x S
   Clear (cell_set x e) S = In x S × Clear e S
 

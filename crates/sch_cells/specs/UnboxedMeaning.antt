@@ -1,10 +1,10 @@
 -- What a cell program does where variables may be assigned: each variable has a cell of its own, new at
 -- each binding.
-use Rattle.std.specs.Prelude.{ℕ, zero, suc, Bool, true, false, List, [], ◌∷◌, Option, Some, None}
+use Rattle.std.specs.Prelude.{ℕ, zero, suc, Bool, true, false, List, [], ◌∷◌}
 use Rattle.sch_word.specs.declared.answer.Answer.{Answer}
 use Rattle.sch_word.specs.values.Values.{Value, unspecified, constant_value, is_true}
 use Rattle.sch_word.specs.runs.Computation as computation
-use Rattle.sch_word.specs.runs.Computation.{Outcome, State, Computation, gives, spent, unreached, after, either, in_store, all_values, in_turn, read_literal, read_global, write_global, read_cell, write_cell, write_cells, new_cells, some_each, unset_each, new_procedure, new_fix, take_entry, call_with}
+use Rattle.sch_word.specs.runs.Computation.{Outcome, State, Computation, gives, spent, unreached, after, either, in_store, all_values, in_turn, read_literal, read_global, write_global, read_cell, write_cell, write_cells, new_cells, some_each, unset_each, new_procedure, new_fix, take_entry, call_with, when_known}
 use Rattle.sch_word.specs.runs.Charges.{charge, charge_each, fit}
 use Rattle.sch_word.specs.values.CellBytes.{cells_bytes}
 use Rattle.sch_word.specs.trees.Bindings.{Bindings, bound_to, with_variables}
@@ -19,10 +19,6 @@ use Rattle.sch_cells.specs.Procedures.{Closure, closures, lambda_bytes, lambdas_
 abbrev pub Enter : Type 0
 Enter = computation.Enter (Closure ℕ)
 
-abbrev pub with_cell : {V : Type 0} → Option ℕ → (ℕ → Computation (Closure ℕ) V) → Computation (Closure ℕ) V
-with_cell None next = unreached
-with_cell (Some c) next = next c
-
 module _ (orders : Orders) (enter : Enter) where
   -- `depth` is how many calls may still be pending that are no tail calls, `tail` whether the tree is in a
   -- tail context (R5RS 3.5)
@@ -30,10 +26,10 @@ module _ (orders : Orders) (enter : Enter) where
     pub evaluate : Tree → (environment : Bindings ℕ) → (depth : ℕ) → (tail : Bool) → Computation (Closure ℕ) Value
     evaluate (constant c) environment depth tail = gives (constant_value c)
     evaluate (literal n) environment depth tail = in_store (read_literal n)
-    evaluate (variable x) environment depth tail = with_cell (bound_to x environment) read_cell
+    evaluate (variable x) environment depth tail = when_known (bound_to x environment) read_cell
     evaluate (global g) environment depth tail = in_store (read_global g)
     evaluate (set_variable x e) environment depth tail =
-        after (evaluate e environment depth false) (λ v. with_cell (bound_to x environment) (λ c. write_cell c v))
+        after (evaluate e environment depth false) (λ v. when_known (bound_to x environment) (λ c. write_cell c v))
     evaluate (set_global g e) environment depth tail =
         after (evaluate e environment depth false) (λ v. in_store (write_global g v))
     evaluate (define g e) environment depth tail =

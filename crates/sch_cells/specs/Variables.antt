@@ -1,7 +1,7 @@
 -- Which variables are free, which are assigned, and which are bound.
-use Rattle.std.specs.Prelude.{ℕ, zero, suc, Bool, true, false, ◌&&◌, ◌||◌, nat_eq, nat_lt, List, [], ◌∷◌, ◌++◌, Option, Some, None}
+use Rattle.std.specs.Prelude.{ℕ, zero, suc, Bool, true, false, ◌&&◌, ◌||◌, nat_eq, nat_lt, List, [], ◌∷◌, ◌++◌, map, Option, Some, None}
 use Rattle.sch_word.specs.trees.NumberSets.{has, insert, union}
-use Rattle.sch_word.specs.trees.Bindings.{numbers, scope_with, remove, without}
+use Rattle.sch_word.specs.trees.Bindings.{numbers, scope_with, remove, without, pushed}
 use Rattle.sch_word.specs.values.CellBytes.{where_assigned}
 use Rattle.sch_cells.specs.declared.tree.NewCell.{NewCell}
 use Rattle.sch_cells.specs.Tree.{Tree, Trees, Lambdas, constant, literal, variable, global, set_variable, set_global, define, branch, sequence, bind, fix, letrec, lambda, call, operation, new_cells, cell_get, cell_set, no_trees, and_tree, no_lambdas, and_lambda, count, count_lambdas}
@@ -18,8 +18,7 @@ all_in (y ∷ ys) xs = has y xs && all_in ys xs
 
 -- the variables of new cells, and those whose values the cells hold
 abbrev pub cells_bound : List NewCell → List ℕ
-cells_bound [] = []
-cells_bound (c ∷ cs) = c.variable ∷ cells_bound cs
+cells_bound cells = map (λ c. c.variable) cells
 
 abbrev pub and_some : Option ℕ → List ℕ → List ℕ
 and_some None xs = xs
@@ -28,11 +27,6 @@ and_some (Some x) xs = insert x xs
 abbrev pub cells_used : List NewCell → List ℕ
 cells_used [] = []
 cells_used (c ∷ cs) = and_some c.content (cells_used cs)
-
--- a scope with some variables more
-abbrev pub scope_of : List ℕ → List ℕ → List ℕ
-scope_of [] scope = scope
-scope_of (x ∷ xs) scope = scope_of xs (x ∷ scope)
 
 -- the free variables, each once
 abbrev mutual
@@ -151,7 +145,7 @@ abbrev mutual
   closed (lambda name first formals rest e) scope = closed e (scope_with first formals scope)
   closed (call site spread f es) scope = closed f scope && closed_each es scope
   closed (operation site which es) scope = closed_each es scope
-  closed (new_cells cs e) scope = all_in (cells_used cs) scope && closed e (scope_of (cells_bound cs) scope)
+  closed (new_cells cs e) scope = all_in (cells_used cs) scope && closed e (pushed (cells_bound cs) scope)
   closed (cell_get x) scope = has x scope
   closed (cell_set x e) scope = has x scope && closed e scope
 

@@ -6,6 +6,7 @@ pub mod DiskSteps
 mod ImageExamples
 pub mod ImageStatus
 pub mod InTime
+mod LineExamples
 pub mod LoneRuns
 pub mod MachineEnds
 pub mod NoImageStatus

@@ -1,6 +1,6 @@
 -- The turns of the loops that make flat trees.
 use Rattle.std.proofs.Common.{◌≡◌, ℕ, zero, suc, ◌+◌, ◌<◌, ◌≤◌, Bool, List, [], ◌∷◌, ◌++◌, length, map, drop, get_or, refl, sym, ap, ◌∙◌, subst, arith, add-one, append_assoc, append-nil}
-use Rattle.std.specs.Prelude.{nat_eq, slice_get, slice_set, Some}
+use Rattle.std.specs.Prelude.{cond, nat_eq, slice_get, slice_set, Some}
 use Rattle.std.proofs.lemmas.List.{drop_all, get_or_default, map-append}
 use Rattle.std.proofs.lemmas.Bool.{eq-eqb}
 use Rattle.sch_word.specs.trees.Walk.{onto}
@@ -30,7 +30,7 @@ use Rattle.sch_word.proofs.facts.Lists.{map_length, some_same}
 -- ## Places
 
 module _ (fields : List ℕ) (k x : ℕ) (whole : flat.Variable) (l : k < length fields) where
-  place_turn : place_from k (drop k fields) x ≡ whole → closing.this_or (nat_eq x (get_or fields k 0)) (flat.free k) (place_from (suc k) (drop (suc k) fields) x) ≡ whole
+  place_turn : place_from k (drop k fields) x ≡ whole → cond (nat_eq x (get_or fields k 0)) (flat.free k) (place_from (suc k) (drop (suc k) fields) x) ≡ whole
   place_turn h = next_left fields k (λ r. place_from k r x ≡ whole) (get_or fields k 0) l (get_or_default fields k 0 (get_or fields k 0) l) h
 
   pub place_here : x ≡ get_or fields k 0 → place_from k (drop k fields) x ≡ whole → flat.free k ≡ whole

@@ -1,11 +1,11 @@
 -- A flat tree runs as the tree that it was made from.
 use Rattle.std.proofs.Common.{◌≡◌, ℕ, zero, suc, ◌+◌, Bool, true, false, List, [], ◌∷◌, ◌++◌, length, map, Option, Some, None, refl, sym, ap, ◌∙◌, arith, append_assoc, length-append}
-use Rattle.std.specs.Prelude.{slice_get, nat_eq, ◌||◌}
+use Rattle.std.specs.Prelude.{cond, slice_get, nat_eq, ◌||◌}
 use Rattle.std.proofs.lemmas.Bool.{eqb-true}
 use Rattle.sch_word.specs.values.Values.{Value, unspecified, is_true, cell, fixnum, character, boolean, nil, symbol, object, procedure}
 use Rattle.sch_word.specs.trees.NumberSets.{has, union, In}
 use Rattle.sch_word.specs.trees.Bindings.{Bindings, bound_to, this_or, value_or, value_of, with_variables, numbers, scope_with, remove, without}
-use Rattle.sch_word.specs.runs.Computation.{Computation, read_literal, read_global, write_global, take_entry}
+use Rattle.sch_word.specs.runs.Computation.{Computation, read_literal, read_global, write_global, take_entry, with_cell}
 use Rattle.sch_word.specs.runs.Charges.{charge, charge_each, procedure_bytes, fit}
 use Rattle.sch_word.specs.values.CellBytes.{cells_bytes}
 use Rattle.sch_word.specs.runs.Orders.{Orders, order_at}
@@ -24,7 +24,6 @@ use Rattle.sch_flat.specs.Tree as flat
 use Rattle.sch_flat.specs.Meaning as to
 use Rattle.sch_flat.specs.Meaning.{Environment, value_in, values_in, and_values}
 use Rattle.sch_flat.specs.Run as runs
-use Rattle.sch_closure.specs.Closed as closing
 use Rattle.sch_closure.specs.Closed.{place_from, place, place_or_none, placed, procedures, procedures_each, procedures_lambdas, fields_of, closed, closed_each, made_each, body_of, labels, closed_source}
 use Rattle.sch_closure.specs.Fresh.{Fresh, FreshEach, FreshLambdas, Stand, StandEach, StandLambdas}
 use Rattle.sch_closure.proofs.Sets.{remove_other, without_scope}
@@ -53,7 +52,7 @@ pub place_bound : (k : ℕ) (fs : List ℕ) (x : ℕ) → has x fs ≡ false →
 place_bound k [] x e = refl
 place_bound k (y ∷ fs) x e = go (place_bound (suc k) fs x) (nat_eq x y) e
   where
-    go : (has x fs ≡ false → place_from (suc k) fs x ≡ flat.bound x) → (b : Bool) → (b || has x fs) ≡ false → closing.this_or b (flat.free k) (place_from (suc k) fs x) ≡ flat.bound x
+    go : (has x fs ≡ false → place_from (suc k) fs x ≡ flat.bound x) → (b : Bool) → (b || has x fs) ≡ false → cond b (flat.free k) (place_from (suc k) fs x) ≡ flat.bound x
     go deeper true e = absurd (cc)
     go deeper false e = deeper e
 
@@ -65,7 +64,7 @@ push_other k [] x y v h e = rw e refl
 push_other k (z ∷ fs) x y v h e = go (nat_eq x z) (push_other (suc k) fs x y v h e)
   where
     go : (b : Bool) → value_in (push y v h) (place_from (suc k) fs x) ≡ value_in h (place_from (suc k) fs x)
-        → value_in (push y v h) (closing.this_or b (flat.free k) (place_from (suc k) fs x)) ≡ value_in h (closing.this_or b (flat.free k) (place_from (suc k) fs x))
+        → value_in (push y v h) (cond b (flat.free k) (place_from (suc k) fs x)) ≡ value_in h (cond b (flat.free k) (place_from (suc k) fs x))
     go true d = refl
     go false d = d
 
@@ -95,7 +94,7 @@ seen_with {fs} {xs} {environment} {h} x (suc m) (v ∷ vs) l a s =
     seen_with (suc x) m vs (omega arith) (apart_tail x (numbers (suc x) m) fs a) (seen_push x v (apart_head x (numbers (suc x) m) fs a) s)
 
 seen_cells : {fs xs : List ℕ} (gs : List ℕ) {environment : Bindings Value} {h : Environment} (cs : List NewCell) (ns : List ℕ) → length ns ≡ length cs → Apart (cells_bound cs) fs
-    → Seen fs (without_each (cells_bound cs) xs) environment h → Seen fs xs (from.with_cells cs ns environment) (to.and_cells (map (placed gs) cs) ns h)
+    → Seen fs (without_each (cells_bound cs) xs) environment h → Seen fs xs (from.with_new_cells cs ns environment) (to.and_cells (map (placed gs) cs) ns h)
 seen_cells gs [] ns l a s = s
 seen_cells gs (c ∷ cs) [] l a s = absurd (omega arith)
 seen_cells {fs} {xs} gs {environment} {h} (c ∷ cs) (n ∷ ns) l a s =
@@ -124,7 +123,7 @@ field_found (y ∷ fs) x k before environment l i = go (nat_eq x y) refl i
   where
     go : (b : Bool) → nat_eq x y ≡ b → (b || has x fs) ≡ true
         → (In x fs → value_in (of_fields ((before ++ value_of y environment ∷ []) ++ values_of fs environment)) (place_from (suc k) fs x) ≡ value_of x environment)
-        → value_in (of_fields (before ++ value_of y environment ∷ values_of fs environment)) (closing.this_or b (flat.free k) (place_from (suc k) fs x)) ≡ value_of x environment
+        → value_in (of_fields (before ++ value_of y environment ∷ values_of fs environment)) (cond b (flat.free k) (place_from (suc k) fs x)) ≡ value_of x environment
     go true e j deeper = rw (l, get_seam before (values_of fs environment) (value_of y environment)) (ap (λ z. value_of z environment) (sym (eqb-true x y e)))
     go false e j deeper = rw (← append_assoc before (value_of y environment ∷ []) (values_of fs environment)) (deeper j)
 
@@ -184,10 +183,10 @@ module _ (all : List flat.Body) where
       (groups ls fs (suc n + procedures e) (seen_right (fields_of x m e) (free_lambdas ls) s) f.1 t.1)
 
   same_cell : {v v' : Value} {c : ℕ → Computation (Closure Value) Value} {d : ℕ → Computation Procedure Value} → v' ≡ v → ((k : ℕ) → DoesSame Becomes (c k) (d k))
-      → DoesSame Becomes (from.with_cell v c) (to.with_cell v' d)
+      → DoesSame Becomes (with_cell v c) (to.with_cell v' d)
   same_cell {v} {c = c} {d = d} e h = rw e (go v)
     where
-      go : (v : Value) → DoesSame Becomes (from.with_cell v c) (to.with_cell v d)
+      go : (v : Value) → DoesSame Becomes (with_cell v c) (to.with_cell v d)
       go (fixnum n) = similar_unreached (same_store Becomes)
       go (character b) = similar_unreached (same_store Becomes)
       go (boolean b) = similar_unreached (same_store Becomes)

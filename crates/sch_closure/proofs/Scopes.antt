@@ -4,9 +4,9 @@ use Rattle.std.specs.Prelude.{IsTrue, nat_eq, ◌||◌, ◌&&◌}
 use Rattle.std.proofs.lemmas.Bool.{eqb-true}
 use Rattle.sch_word.proofs.facts.NumberSets.{in_deeper}
 use Rattle.sch_word.specs.trees.NumberSets.{has, In}
-use Rattle.sch_word.specs.trees.Bindings.{numbers, without, scope_with}
+use Rattle.sch_word.specs.trees.Bindings.{numbers, without, scope_with, pushed}
 use Rattle.sch_cells.specs.Tree.{Tree, Trees, Lambdas, constant, literal, variable, global, set_variable, set_global, define, branch, sequence, bind, fix, letrec, lambda, call, operation, new_cells, cell_get, cell_set, no_trees, and_tree, no_lambdas, and_lambda, count, count_lambdas}
-use Rattle.sch_cells.specs.Variables.{free, free_each, free_lambdas, scope_of, cells_bound, cells_used, all_in}
+use Rattle.sch_cells.specs.Variables.{free, free_each, free_lambdas, cells_bound, cells_used, all_in}
 use Rattle.sch_cells.specs.Measures.{over, over_each, over_lambdas, shape}
 use Rattle.sch_cells.specs.Valid.{has_form}
 use Rattle.sch_cells.specs.Clear.{Apart, Clear, ClearEach, ClearLambdas}
@@ -59,7 +59,7 @@ mutual
   free_within (call site spread f es) S c = union_within (free f) (free_each es) S (free_within f S c.0) (each_within es S c.1)
   free_within (operation site which es) S c = each_within es S c
   free_within (new_cells cs e) S c =
-      union_within (cells_used cs) _ S (all_within (cells_used cs) S c.0) (without_each_scope (cells_bound cs) (free e) S (free_within e (scope_of (cells_bound cs) S) c.2))
+      union_within (cells_used cs) _ S (all_within (cells_used cs) S c.0) (without_each_scope (cells_bound cs) (free e) S (free_within e (pushed (cells_bound cs) S) c.2))
   free_within (cell_get y) S c = alone y S c
   free_within (cell_set y e) S c = union_within (y ∷ []) (free e) S (alone y S c.0) (free_within e S c.1)
 
@@ -126,7 +126,7 @@ mutual
       (fresh f fs S w c.0 q.0, fresh_each es fs S w c.1 q.1)
   fresh (operation site which es) fs S w c p = fresh_each es fs S w c p
   fresh (new_cells cs e) fs S w c p =
-      (apart_within (cells_bound cs) fs S w c.1, fresh e fs (scope_of (cells_bound cs) S) (λ y i. in_under (cells_bound cs) y S (w y i)) c.2 p)
+      (apart_within (cells_bound cs) fs S w c.1, fresh e fs (pushed (cells_bound cs) S) (λ y i. in_under (cells_bound cs) y S (w y i)) c.2 p)
   fresh (cell_get y) fs S w c p = tt
   fresh (cell_set y e) fs S w c p = fresh e fs S w c.1 p
 

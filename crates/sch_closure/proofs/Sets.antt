@@ -3,9 +3,9 @@ use Rattle.std.proofs.Common.{◌≡◌, ℕ, zero, suc, Bool, true, false, List
 use Rattle.std.specs.Prelude.{nat_eq, ◌||◌}
 use Rattle.std.proofs.lemmas.Bool.{eqb-true}
 use Rattle.sch_word.specs.trees.NumberSets.{has, unless, insert, union, In}
-use Rattle.sch_word.specs.trees.Bindings.{remove, without, scope_with}
-use Rattle.sch_cells.specs.Variables.{scope_of, without_each}
-use Rattle.sch_word.proofs.facts.NumberTests.{same as self}
+use Rattle.sch_word.specs.trees.Bindings.{remove, without, scope_with, pushed}
+use Rattle.sch_cells.specs.Variables.{without_each}
+use Rattle.sch_word.proofs.facts.NumberTests.{differ, same as self}
 use Rattle.sch_word.proofs.facts.NumberSets.{in_more, in_here}
 
 -- another number stays
@@ -60,11 +60,7 @@ remove_not y (z ∷ xs) = go (nat_eq z y) refl (nat_eq y z) refl (remove_not y x
     go false e false f k = rw f k
 
 remove_differs : (x y : ℕ) (xs : List ℕ) → In x (remove y xs) → nat_eq x y ≡ false
-remove_differs x y xs h = go (nat_eq x y) refl
-  where
-    go : (b : Bool) → nat_eq x y ≡ b → b ≡ false
-    go true e = absurd (let q : x ≡ y = eqb-true x y e in let r : has y (remove y xs) ≡ true = subst (λ z. has z (remove y xs) ≡ true) q h in let n = remove_not y xs in cc)
-    go false e = refl
+remove_differs x y xs h = differ x y (λ q. let r : has y (remove y xs) ≡ true = subst (λ z. has z (remove y xs) ≡ true) q h in let n = remove_not y xs in cc)
 
 pub without_scope : (a m : ℕ) (xs S : List ℕ) → ((y : ℕ) → In y xs → In y (scope_with a m S)) → (y : ℕ) → In y (without a m xs) → In y S
 without_scope a zero xs S f y h = f y h
@@ -72,7 +68,7 @@ without_scope a (suc m) xs S f y h =
     in_cons y a S (remove_differs y a (without (suc a) m xs) h) (without_scope (suc a) m xs (a ∷ S) f y (remove_in y a (without (suc a) m xs) h))
 
 -- the same for any list of numbers
-pub without_each_scope : (ys xs S : List ℕ) → ((y : ℕ) → In y xs → In y (scope_of ys S)) → (y : ℕ) → In y (without_each ys xs) → In y S
+pub without_each_scope : (ys xs S : List ℕ) → ((y : ℕ) → In y xs → In y (pushed ys S)) → (y : ℕ) → In y (without_each ys xs) → In y S
 without_each_scope [] xs S f y h = f y h
 without_each_scope (a ∷ ys) xs S f y h =
     in_cons y a S (remove_differs y a (without_each ys xs) h) (without_each_scope ys xs (a ∷ S) f y (remove_in y a (without_each ys xs) h))

@@ -1,5 +1,5 @@
 -- What closing makes of a tree: a flat tree, and the bodies of the procedures in it.
-use Rattle.std.specs.Prelude.{ℕ, suc, ◌+◌, Bool, true, false, List, [], ◌∷◌, ◌++◌, length, map, nat_eq, Option, Some, None}
+use Rattle.std.specs.Prelude.{ℕ, suc, ◌+◌, Bool, cond, List, [], ◌∷◌, ◌++◌, length, map, nat_eq, Option, Some, None}
 use Rattle.sch_word.specs.trees.Bindings.{without}
 use Rattle.sch_cells.specs.declared.tree.NewCell.{NewCell}
 use Rattle.sch_cells.specs.Tree as from
@@ -9,14 +9,10 @@ use Rattle.sch_flat.specs.Tree as to
 
 -- ## Variables
 
-abbrev pub this_or : Bool → to.Variable → to.Variable → to.Variable
-this_or true v other = v
-this_or false v other = other
-
 -- a variable in a body whose record has these, of which `k` stand before
 abbrev pub place_from : (k : ℕ) → List ℕ → ℕ → to.Variable
 place_from k [] x = to.bound x
-place_from k (y ∷ fields) x = this_or (nat_eq x y) (to.free k) (place_from (suc k) fields x)
+place_from k (y ∷ fields) x = cond (nat_eq x y) (to.free k) (place_from (suc k) fields x)
 
 -- a variable in a body whose record has these: a field where it is one of them, else one that the body binds
 abbrev pub place : List ℕ → ℕ → to.Variable

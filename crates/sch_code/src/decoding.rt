@@ -153,11 +153,75 @@ fn long(r: u8, b: u8, bytes: &[u8]) -> Option<(Insn, usize)>
     } }
 }
 
+/// The forms with W and the opcode 81: a number of four bytes stands behind the operand, which takes `size` bytes.
+#[tactic(auto, unfolding(sch_insn::specs::Decode::wide_of))]
+#[inline(always)]
+fn with_number(r: u8, m: Arg, size: usize, bytes: &[u8]) -> Option<(Insn, usize)>
+    requires { size + 1 ≤ length bytes.now }
+    ensures { result ≡ wide_of 0x81 r m (size + 2) (drop (size + 1) bytes.now) }
+{
+    rows! { r, &bytes[size + 1..], size + 2; {
+        0 => Insn::AddNumber(m, n), n = number + 4;
+        1 => Insn::OrNumber(m, n), n = number + 4;
+        4 => Insn::AndNumber(m, n), n = number + 4;
+        5 => Insn::SubNumber(m, n), n = number + 4;
+        6 => Insn::XorNumber(m, n), n = number + 4;
+        7 => Insn::CmpNumber(m, n), n = number + 4;
+    } }
+}
+
+/// Those with the opcode 83: a number of one byte stands there.
+#[tactic(auto, unfolding(sch_insn::specs::Decode::wide_of))]
+#[inline(always)]
+fn with_number_of_1(r: u8, m: Arg, size: usize, bytes: &[u8]) -> Option<(Insn, usize)>
+    requires { size + 1 ≤ length bytes.now }
+    ensures { result ≡ wide_of 0x83 r m (size + 2) (drop (size + 1) bytes.now) }
+{
+    rows! { r, &bytes[size + 1..], size + 2; {
+        0 => Insn::AddNumber8(m, n), n = number_of_1 + 1;
+        1 => Insn::OrNumber8(m, n), n = number_of_1 + 1;
+        4 => Insn::AndNumber8(m, n), n = number_of_1 + 1;
+        5 => Insn::SubNumber8(m, n), n = number_of_1 + 1;
+        6 => Insn::XorNumber8(m, n), n = number_of_1 + 1;
+        7 => Insn::CmpNumber8(m, n), n = number_of_1 + 1;
+    } }
+}
+
+/// Shifts, those with the opcode C1: a count stands there.
+#[tactic(auto, unfolding(sch_insn::specs::Decode::wide_of))]
+#[inline(always)]
+fn shift(r: u8, m: Arg, size: usize, bytes: &[u8]) -> Option<(Insn, usize)>
+    requires { size + 1 ≤ length bytes.now }
+    ensures { result ≡ wide_of 0xC1 r m (size + 2) (drop (size + 1) bytes.now) }
+{
+    rows! { r, &bytes[size + 1..], size + 2; {
+        4 => Insn::Shl(m, k), k = count + 1;
+        5 => Insn::Shr(m, k), k = count + 1;
+        7 => Insn::Sar(m, k), k = count + 1;
+    } }
+}
+
 /// The forms with W and an opcode of one byte, behind which the operand takes `size` bytes.
 #[tactic(auto, unfolding(sch_insn::specs::Decode::wide_of))]
 #[inline(always)]
 fn wide(op: u8, r: u8, m: Arg, size: usize, bytes: &[u8]) -> Option<(Insn, usize)>
     requires { size + 1 ≤ length bytes.now }
+    ensures { result ≡ wide_of op r m (size + 2) (drop (size + 1) bytes.now) }
+{
+    match op {
+        0x81 => with_number(r, m, size, bytes),
+        0x83 => with_number_of_1(r, m, size, bytes),
+        0xC1 => shift(r, m, size, bytes),
+        _ => other_wide(op, r, m, size, bytes),
+    }
+}
+
+/// Those with another opcode.
+#[tactic(auto, unfolding(sch_insn::specs::Decode::wide_of))]
+#[inline(always)]
+fn other_wide(op: u8, r: u8, m: Arg, size: usize, bytes: &[u8]) -> Option<(Insn, usize)>
+    requires within { size + 1 ≤ length bytes.now }
+    requires other { (op ≢ 0x81) × (op ≢ 0x83) × (op ≢ 0xC1) }
     ensures { result ≡ wide_of op r m (size + 2) (drop (size + 1) bytes.now) }
 {
     rows! { op, &bytes[size + 1..], size + 2; {
@@ -173,25 +237,10 @@ fn wide(op: u8, r: u8, m: Arg, size: usize, bytes: &[u8]) -> Option<(Insn, usize
         0x33 => Insn::XorFrom(r, m);
         0x39 => Insn::CmpTo(m, r);
         0x3B => Insn::CmpFrom(r, m);
-        0x81 if r == 0 => Insn::AddNumber(m, n), n = number + 4;
-        0x81 if r == 1 => Insn::OrNumber(m, n), n = number + 4;
-        0x81 if r == 4 => Insn::AndNumber(m, n), n = number + 4;
-        0x81 if r == 5 => Insn::SubNumber(m, n), n = number + 4;
-        0x81 if r == 6 => Insn::XorNumber(m, n), n = number + 4;
-        0x81 if r == 7 => Insn::CmpNumber(m, n), n = number + 4;
-        0x83 if r == 0 => Insn::AddNumber8(m, n), n = number_of_1 + 1;
-        0x83 if r == 1 => Insn::OrNumber8(m, n), n = number_of_1 + 1;
-        0x83 if r == 4 => Insn::AndNumber8(m, n), n = number_of_1 + 1;
-        0x83 if r == 5 => Insn::SubNumber8(m, n), n = number_of_1 + 1;
-        0x83 if r == 6 => Insn::XorNumber8(m, n), n = number_of_1 + 1;
-        0x83 if r == 7 => Insn::CmpNumber8(m, n), n = number_of_1 + 1;
         0x85 => Insn::TestTo(m, r);
         0x89 => Insn::MovTo(m, r);
         0x8B => Insn::MovFrom(r, m);
         0x8D if in_memory(m) => Insn::Lea(r, m);
-        0xC1 if r == 4 => Insn::Shl(m, k), k = count + 1;
-        0xC1 if r == 5 => Insn::Shr(m, k), k = count + 1;
-        0xC1 if r == 7 => Insn::Sar(m, k), k = count + 1;
         0xC7 if r == 0 => Insn::MovNumber(m, n), n = number + 4;
         0xF7 if r == 3 => Insn::Neg(m);
         0xF7 if r == 7 => Insn::Idiv(m);

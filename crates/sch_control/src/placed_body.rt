@@ -37,7 +37,8 @@ pub struct PlacedBody<const N: usize> {
     ghost live: { ∥ HasLiveSets (restored_listed exp) ∥₁ },
     ghost apart: { IsTrue (regions_apart variables (restored exp) no_region) },
     ghost saved: { IsTrue (restores_saved (restored exp) no_region) },
-    // Each variable has a place: the return address R15, the closure R14, any other one of six registers or a slot.
+    // Each variable has a place: the return address `LINK_REGISTER`, the closure `CLOSURE_REGISTER`, any other one of six registers or a
+    // slot.
     ghost whole: { length places ≡ variables },
     ghost link: { place_of places 0 ≡ link_place },
     ghost closure: { place_of places 1 ≡ closure_place },

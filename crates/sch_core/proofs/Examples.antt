@@ -1,9 +1,10 @@
--- Worked rows: the limits on variables, 1,000 of a body, and the first form that has more; names and drafts of definitions.
-use Rattle.std.proofs.Common.{◌≡◌, ℕ, [], ◌∷◌, Option, Some, None, true, false, refl}
+-- Worked rows: the limits on variables and on free variables, 1,000 each, and the first form that has more; names and drafts of
+-- definitions.
+use Rattle.std.proofs.Common.{◌≡◌, ℕ, zero, suc, [], ◌∷◌, Option, Some, None, true, false, refl}
 use Rattle.sch_word.specs.declared.constant.Const.TheVariants.{Nil}
-use Rattle.sch_lang.specs.Tree.{constant, lambda, no_expressions, and_expression}
+use Rattle.sch_lang.specs.Tree.{Expressions, constant, lambda, local, sequence, no_expressions, and_expression}
 use Rattle.sch_core.specs.declared.error.Kind.{Kind}
-use Rattle.sch_core.specs.declared.error.Kind.TheVariants.{Variables}
+use Rattle.sch_core.specs.declared.error.Kind.TheVariants.{Free, Variables}
 use Rattle.sch_sketch.specs.Draft as draft
 use Rattle.sch_link_tables.specs.Programs.{Definition}
 use Rattle.sch_core.specs.Excess.{first_definition_excess}
@@ -16,6 +17,25 @@ most_variables = refl
 
 one_more_variable : excess 1001 (constant Nil) ≡ Some Variables
 one_more_variable = refl
+
+-- n variables, each nearer than the one before it
+variables_down : ℕ → Expressions
+variables_down zero = no_expressions
+variables_down (suc n) = and_expression (local n) (variables_down n)
+
+-- Of the parts of a sequence that are free variables each but the last counts as a variable. With one free variable too many
+-- there are as many variables as there may be; with two there is one too many, which is said before the free ones.
+most_free : excess 0 (sequence (variables_down 1000)) ≡ None
+unfolding variables_down
+most_free = refl
+
+one_more_free : excess 0 (sequence (variables_down 1001)) ≡ Some Free
+unfolding variables_down
+one_more_free = refl
+
+variables_before_free : excess 0 (sequence (variables_down 1002)) ≡ Some Variables
+unfolding variables_down
+variables_before_free = refl
 
 -- the second form, which stands at 7, is the first with too many
 second_form : ◌≡◌ {A = Option (Kind × ℕ)}

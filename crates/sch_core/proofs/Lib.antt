@@ -5,6 +5,7 @@ pub mod ExcessWithoutNumbers
 pub mod texts
 pub mod DatumLaws
 pub mod DataLaws
+pub mod readings
 pub mod items
 mod Examples
 pub mod drafts

@@ -9,4 +9,5 @@ pub mod SizesOfStatics
 pub mod SmallDefinitions
 pub mod SoundDrafts
 pub mod TextForms
+pub mod TextLaws
 pub mod ValidityLaws

@@ -8,6 +8,7 @@ ghost use Rattle.sch_core.specs.declared.error.CoreError.{CoreError as TheError}
 ghost use Rattle.sch_core.specs.Answer.{IsErrorIn};
 ghost use Rattle.sch_core.specs.ExpansionLaws.{AtMostOne, NoFault, FaultOrDraft};
 ghost use Rattle.sch_core.specs.Programs.{IsProgramOf};
+ghost use Rattle.sch_core.specs.TextLaws.{AssignsTheNamesFound};
 
 use crate::error::CoreError;
 
@@ -40,4 +41,10 @@ pub fn data_have_one_error()
 /// With a library, data have one program at most.
 pub fn data_have_one_program()
     ensures { (ds : List Definition) (items : Data) (p q : Source) → IsProgramOf ds items p → IsProgramOf ds items q → p ≡ q }
+{}
+
+/// What the forms of a text assign is found in its first reading, in which it assigns nothing yet: where a text has
+/// drafts, these assign the names found, and no others.
+pub fn text_assigns_the_names_found()
+    ensures { AssignsTheNamesFound }
 {}

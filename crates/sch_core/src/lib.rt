@@ -17,7 +17,7 @@ pub use error::{CoreError, Kind};
 pub use expander::core;
 pub use laws::{
     data_have_a_program_or_an_error, data_have_one_error, data_have_one_program,
-    expansion_is_unique, fault_or_expansion,
+    expansion_is_unique, fault_or_expansion, text_assigns_the_names_found,
 };
 pub use libraries::Library;
 pub use library_laws::{

@@ -1,3 +1,4 @@
+pub mod FieldsInTurn
 pub mod FileOfImage
 pub mod HeaderTable
 pub mod WrittenStands

@@ -1,16 +1,16 @@
 -- Worked rows of choices and operations (R5RS 4.1.2, 4.1.5, 4.2.1, 6.2.5 and 6.3): each sketch computes.
 use Rattle.std.proofs.Common.{◌≡◌, pos, true, false, [], ◌∷◌, Some, None, codes, refl}
-use Rattle.sch_word.specs.declared.constant.Const.TheVariants.{Fixnum, Character, Boolean}
-use Rattle.sch_word.specs.declared.primitive.Primitive.TheVariants.{Add, Less, Eqv, MakeString}
+use Rattle.sch_word.specs.declared.constant.Const.TheVariants.{Fixnum, Character, Boolean, Unspecified}
+use Rattle.sch_word.specs.declared.primitive.Primitive.TheVariants.{Add, Subtract, Multiply, Less, Eqv, MakeString, MakeVector}
 use Rattle.sch_read.specs.Grammar.{Datum, Data, atom, list, none, cons, symbol as symbol_atom}
 use Rattle.sch_names.specs.declared.keyword.Keyword.TheVariants.{And, Or, Begin}
-use Rattle.sch_names.specs.declared.operation.Operation.TheVariants.{Filled, Not}
+use Rattle.sch_names.specs.declared.operation.Operation.TheVariants.{Exact, Unit, UnitAnd, Nested, Chained, Filled, Not}
 use Rattle.sch_names.specs.Words.{keyword_of}
 use Rattle.sch_sketch.specs.declared.fault.Fault.TheVariants.{BadForm}
 use Rattle.sch_sketch.specs.declared.sketch.Position.TheVariants.{Value, Test}
 use Rattle.sch_sketch.specs.declared.sketch.Row.TheVariants.{Form, Clauses, Cases, Tests, Chain, Join}
 use Rattle.sch_sketch.specs.Draft.{constant, symbol, literal, local}
-use Rattle.sch_sketch.specs.Sketch.{text, rest, wrong, leaf, node, choosing, sequencing, binding, calling, operating, nothing}
+use Rattle.sch_sketch.specs.Sketch.{text, rest, wrong, leaf, node, and_sketch, choosing, sequencing, binding, calling, operating, nothing}
 use Rattle.sch_sketch.specs.Small.{two, three}
 use Rattle.sch_sketch.proofs.WorkedData.{number, named, x}
 use Rattle.sch_form_choices.specs.Choices.{row_quote, row_begin, row_if, row_and, row_or, row_cond, row_clauses}
@@ -181,16 +181,75 @@ local_arrow_row : row_clauses (Some (codes "=>") ∷ []) Value 1 (cons (list 4 (
 unfolding arrow
 local_arrow_row = refl
 
--- `(+ 5 7 9)` is `(let (a 5) (b 7) (c 9) (+ (+ a b) c))`
+-- ## Operations
+
+-- `(+)` is 0 and `(*)` is 1
+no_sum_row : combination (Unit Add) 1 none ≡ leaf 1 (constant (Fixnum (pos 0)))
+no_sum_row = refl
+
+no_product_row : combination (Unit Multiply) 1 none ≡ leaf 1 (constant (Fixnum (pos 1)))
+no_product_row = refl
+
+-- `(+ 5)` is `(+ 0 5)`, `(* 5)` is `(* 1 5)`, and `(- 5)` is `(- 0 5)`
+one_summand_row : combination (UnitAnd Add) 1 (cons (number 5) none) ≡ node (operating Add) 1 (two (leaf 1 (constant (Fixnum (pos 0)))) (text (number 5)))
+one_summand_row = refl
+
+one_factor_row : combination (UnitAnd Multiply) 1 (cons (number 5) none) ≡
+    node (operating Multiply) 1 (two (leaf 1 (constant (Fixnum (pos 1)))) (text (number 5)))
+one_factor_row = refl
+
+negated_row : combination (UnitAnd Subtract) 1 (cons (number 5) none) ≡
+    node (operating Subtract) 1 (two (leaf 1 (constant (Fixnum (pos 0)))) (text (number 5)))
+negated_row = refl
+
+-- `(- 5 7)`
+exact_row : combination (Exact Subtract) 1 both ≡ node (operating Subtract) 1 (two (text (number 5)) (text (number 7)))
+unfolding both
+exact_row = refl
+
+-- three operands, with variables of which the last is nearest
+several : Data
+several = cons (number 5) (cons (number 7) (cons (number 9) none))
+
+-- `(- 5 7 9)` is `(let (a 5) (b 7) (c 9) (- (- a b) c))`: a has two variables nearer, b one, and c none
+nested_row : combination (Nested Subtract) 1 several ≡
+    node (binding (None ∷ (None ∷ (None ∷ [])))) 1
+    (and_sketch (text (number 5)) (three (text (number 7)) (text (number 9)) (rest (Join Subtract 2 2) 1 none none)))
+unfolding several
+nested_row = refl
+
+last_joined_row : row_join Subtract 2 2 1 ≡ node (operating Subtract) 1 (two (rest (Join Subtract 1 2) 1 none none) (leaf 1 (local 0)))
+last_joined_row = refl
+
+second_joined_row : row_join Subtract 1 2 1 ≡ node (operating Subtract) 1 (two (rest (Join Subtract 0 2) 1 none none) (leaf 1 (local 1)))
+second_joined_row = refl
+
+first_joined_row : row_join Subtract 0 2 1 ≡ leaf 1 (local 2)
+first_joined_row = refl
+
+-- `(+ a b)` of two variables
 joined_row : row_join Add 1 1 1 ≡ node (operating Add) 1 (two (rest (Join Add 0 1) 1 none none) (leaf 1 (local 0)))
 joined_row = refl
 
--- `(< 5 7 9)`, from its first operand on, is `(if (< a b) (< b c) #f)`
-chained_row : row_chain Less 1 (cons (number 5) (cons (number 7) (cons (number 9) none))) ≡
+-- `(< 5 7 9)` is `(let (a 5) (b 7) (c 9) (if (< a b) (< b c) #f))`
+compared_row : combination (Chained Less) 1 several ≡
+    node (binding (None ∷ (None ∷ (None ∷ [])))) 1
+    (and_sketch (text (number 5)) (three (text (number 7)) (text (number 9)) (rest (Chain Less) 1 several none)))
+unfolding several
+compared_row = refl
+
+chained_row : row_chain Less 1 several ≡
     node choosing 1 (three (node (operating Less) 1 (two (leaf 1 (local 2)) (leaf 1 (local 1))))
     (rest (Chain Less) 7 (cons (number 7) (cons (number 9) none)) none) (leaf 1 (constant (Boolean false))))
+unfolding several
 chained_row = refl
 
--- `(make-string 5)` is filled with spaces
+last_chained_row : row_chain Less 7 (cons (number 7) (cons (number 9) none)) ≡ node (operating Less) 7 (two (leaf 7 (local 1)) (leaf 7 (local 0)))
+last_chained_row = refl
+
+-- `(make-string 5)` is filled with spaces, and `(make-vector 5)` with the unspecified value
 filled_row : combination (Filled MakeString) 1 (cons (number 5) none) ≡ node (operating MakeString) 1 (two (text (number 5)) (leaf 1 (constant (Character 32))))
 filled_row = refl
+
+filled_vector_row : combination (Filled MakeVector) 1 (cons (number 5) none) ≡ node (operating MakeVector) 1 (two (text (number 5)) (leaf 1 (constant Unspecified)))
+filled_vector_row = refl

@@ -7,9 +7,9 @@ use sch_control::{Member, Operation};
 use sch_word::{List, MarkKind, Place};
 
 /// An instruction of a body. There is one accumulator beside the places. The operator of a call stands in
-/// R14, its operands in RBX, R8, R9, R10, RSI and RDI, in this order, and behind these in slots: of the frame
-/// that the call opens, from its first slot on, or in a tail call of the frame itself. R15 holds where the
-/// activation returns.
+/// `CLOSURE_REGISTER`, its operands in `ARGUMENT_REGISTERS`, in this order, and behind these in slots: of the
+/// frame that the call opens, from its first slot on, or in a tail call of the frame itself. `LINK_REGISTER`
+/// holds where the activation returns.
 #[derive(Drop)]
 pub enum Instruction {
     /// The operation's value into the accumulator.

@@ -169,7 +169,7 @@ module _ (entry : Option Entry) (e : Expression) (places : List Place) where
           ap (λ o. same_place (home entry e places x) (lives_in o)) i
           ∙ (let lt = slot_before y j i in let least = home_least x in ne_eqb (home_number x) j (λ i. omega (arith, lt, least, i)))
 
-    -- the return address lives in R15, and what lives in registers has homes
+    -- the return address lives in its register, and what lives in registers has homes
     pub homes_are : slice_get places 0 ≡ Some link_place → Homes (homes_plan entry e places)
     homes_are link = record { link = ap lives_in link; home = home_apart }
 

@@ -69,7 +69,8 @@ fn argument_keeps_off_earlier(
     j: u32,
 ) -> bool
     requires { j ≤ suc max_operands }
-    ensures { result ≡ straight.keeps_off_earlier tail j (operand_tree (calls.argument_of (arguments_at (place_in lives.now.places.now) a.now) j)) }
+    ensures { result ≡ straight.keeps_off_earlier tail j
+        (operand_tree (calls.argument_of (arguments_at (place_in lives.now.places.now) a.now) j)) }
 {
     if j == 0 {
         return true;

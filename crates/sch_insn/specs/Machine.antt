@@ -6,7 +6,7 @@ use Rattle.std.specs.Prelude.{nat_lt, nat_le, ◌==◌, Option, Some, None, ℤ,
 use Rattle.std.specs.Int.{w64, cast_unsigned, to_le_bytes, from_le_bytes}
 use Rattle.sch_word.specs.values.Memory.{Segment}
 use Rattle.sch_word.specs.declared.answer.Answer.{Answer}
-use Rattle.sch_word.specs.values.Options.{first_or_0}
+use Rattle.sch_word.specs.values.Options.{first_or_0, when_ok}
 use Rattle.sch_insn.specs.declared.insn.Arg.{Arg}
 use Rattle.sch_insn.specs.declared.insn.Arg.TheVariants.{Reg, Base, Base8, Base32, Rip}
 use Rattle.sch_insn.specs.declared.state.Flags.{Flags}
@@ -30,11 +30,6 @@ pub record State : Type 0 where
   pub output : List ℕ
   pub answers : List Answer
   pub spare : List ℕ
-
--- What follows from a value, where there was no cause to be stuck.
-abbrev pub when_ok : {A B : Type 0} → Result A StuckCause → (A → Result B StuckCause) → Result B StuckCause
-when_ok (Ok x) f = f x
-when_ok (Err cause) f = Err cause
 
 -- ---- the parts of a core
 

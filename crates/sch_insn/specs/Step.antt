@@ -16,8 +16,8 @@ use Rattle.sch_insn.specs.declared.state.StuckCause.{StuckCause}
 use Rattle.sch_word.specs.declared.registers.TheConstants.{RAX, RCX, RDX, RSI, RDI, R11}
 use Rattle.sch_insn.specs.declared.state.StuckCause.TheVariants.{Fetch, Flag, Divide, Kernel}
 use Rattle.sch_insn.specs.Decode.{decode}
-use Rattle.sch_word.specs.values.Options.{when_some, first_or_0}
-use Rattle.sch_insn.specs.Machine.{Core, State, Computed, when_ok, with_register, with_flags, with_place, word, add64, is_negative, magnitude, differ, signed}
+use Rattle.sch_word.specs.values.Options.{when_some, first_or_0, when_ok, rest_of}
+use Rattle.sch_insn.specs.Machine.{Core, State, Computed, with_register, with_flags, with_place, word, add64, is_negative, magnitude, differ, signed}
 use Rattle.sch_insn.specs.Machine.{bytes_from, byte_at, write_bytes, address_of, load, store, unknown_flags, sum_of, difference_of, bits_of, product_of}
 use Rattle.sch_insn.specs.Machine.{shifted, shift_right_signed, condition, set_register}
 use Rattle.sch_insn.specs.declared.system_call.TheConstants.{SYS_EXIT, SYS_WRITE, STDOUT}
@@ -70,10 +70,6 @@ jump_if c d None = Err Flag
 jump_if c d (Some holds) = Ok (with_place (cond holds (add64 c.place (word d)) c.place) c)
 
 -- ---- the kernel
-
-abbrev pub rest_of : {A : Type 0} → List A → List A
-rest_of [] = []
-rest_of (x ∷ xs) = xs
 
 -- After a write rax has the answer, rcx and r11 have the next two spare words, or 0, every flag is
 -- unknown, and the bytes taken have joined the output.

@@ -73,7 +73,8 @@ fn suffix_minima(numbers: &mut Vec<usize>)
 fn prefix_maxima(numbers: &mut Vec<usize>)
     requires close { (i : ℕ) → i < length numbers.old.items → slice_index numbers.old.items i ≤ i + reach }
     ensures size { length numbers.new.items ≡ length numbers.old.items }
-    ensures greatest { (i j : ℕ) → i ≤ j → j < length numbers.old.items → slice_index numbers.old.items i ≤ slice_index numbers.new.items j }
+    ensures greatest { (i j : ℕ) → i ≤ j → j < length numbers.old.items
+        → slice_index numbers.old.items i ≤ slice_index numbers.new.items j }
     ensures close { (i : ℕ) → i < length numbers.old.items → slice_index numbers.new.items i ≤ i + reach }
 {
     let mut greatest = 0;

@@ -5,7 +5,7 @@ use Rattle.std.proofs.lemmas.List.{append-nil}
 use Rattle.sch_word.specs.declared.answer.Answer.{Answer}
 use Rattle.sch_word.specs.values.Values.{Value, unspecified, is_true}
 use Rattle.sch_word.specs.trees.Growth.{GrowsTo}
-use Rattle.sch_word.specs.runs.Computation.{Outcome, gives, stops, spent, State, Action, Computation, in_store, after, all_values, new_cells, write_cells, some_each, unset_each}
+use Rattle.sch_word.specs.runs.Computation.{Outcome, gives, stops, spent, State, Action, Computation, in_store, after, all_values, new_cells, write_cells, some_each, unset_each, when_known}
 use Rattle.sch_word.specs.runs.Charges.{charge_each}
 use Rattle.sch_word.specs.runs.Runs.{Run, End, ended, going, run_with, seen, starting_store, starting_state}
 use Rattle.sch_word.proofs.Steady.{Steady, steady_charge, steady_charge_each, steady_fit, steady_primitive, steady_read_global, steady_write_global, steady_read_literal}
@@ -14,7 +14,7 @@ use Rattle.sch_word.specs.runs.Orders.{Orders, order_at}
 use Rattle.sch_word.specs.values.CellBytes.{cells_bytes}
 use Rattle.sch_lang.specs.Tree.{Expression, Expressions, constant, literal, local, global, set_local, set_global, define, branch, sequence, bind, fix, letrec, lambda, call, operation, no_expressions, and_expression, count, count_lambdas, Source}
 use Rattle.sch_lang.specs.Variables.{cells_of}
-use Rattle.sch_lang.specs.Meaning.{Closure, Enter, with_cell, onto, closures, lambda_bytes, lambdas_bytes, evaluate, each, parts, enter}
+use Rattle.sch_lang.specs.Meaning.{Closure, Enter, onto, closures, lambda_bytes, lambdas_bytes, evaluate, each, parts, enter}
 use Rattle.sch_lang.specs.Run.{outcome}
 use Rattle.sch_lang.specs.Laws.{GoesFurther, MoreEntries}
 
@@ -23,19 +23,19 @@ use Rattle.sch_lang.specs.Laws.{GoesFurther, MoreEntries}
 steady_grows : {V : Type 0} {f : Action V} → Steady f → Grows {P = Closure} (in_store f)
 steady_grows {f = f} h = grows_in_store f h.grows
 
-with_cell_grows : {V : Type 0} (o : Option ℕ) {next : ℕ → Computation Closure V} → ((c : ℕ) → Grows (next c)) → Grows (with_cell o next)
-with_cell_grows None h = grows_stops _
-with_cell_grows (Some c) h = h c
+known_grows : {V : Type 0} (o : Option ℕ) {next : ℕ → Computation Closure V} → ((c : ℕ) → Grows (next c)) → Grows (when_known o next)
+known_grows None h = grows_stops _
+known_grows (Some c) h = h c
 
 module _ (orders : Orders) (enter1 : Enter) (enter_grows : (p : Closure) (vs : List Value) (depth : ℕ) → Grows (enter1 p vs depth)) where
   mutual
     evaluate_grows : (e : Expression) (environment : List ℕ) (depth : ℕ) (tail : Bool) → Grows (evaluate orders enter1 e environment depth tail)
     evaluate_grows (constant c) environment depth tail = grows_gives _
     evaluate_grows (literal n) environment depth tail = steady_grows (steady_read_literal n)
-    evaluate_grows (local k) environment depth tail = with_cell_grows (slice_get environment k) grows_read_cell
+    evaluate_grows (local k) environment depth tail = known_grows (slice_get environment k) grows_read_cell
     evaluate_grows (global g) environment depth tail = steady_grows (steady_read_global g)
     evaluate_grows (set_local k e) environment depth tail =
-        grows_after (evaluate_grows e environment depth false) (λ v. with_cell_grows (slice_get environment k) (λ c. grows_write_cell c v))
+        grows_after (evaluate_grows e environment depth false) (λ v. known_grows (slice_get environment k) (λ c. grows_write_cell c v))
     evaluate_grows (set_global g e) environment depth tail =
         grows_after (evaluate_grows e environment depth false) (λ v. steady_grows (steady_write_global g v))
     evaluate_grows (define g e) environment depth tail =
@@ -88,9 +88,9 @@ enter_grows orders (suc n) p vs depth =
 
 -- ## More entries
 
-with_cell_ahead : {V : Type 0} (k : ℕ) (o : Option ℕ) {next : ℕ → Computation Closure V} → ((c : ℕ) → Ahead k (next c) (next c)) → Ahead k (with_cell o next) (with_cell o next)
-with_cell_ahead k None h = ahead_stops k _
-with_cell_ahead k (Some c) h = h c
+known_ahead : {V : Type 0} (k : ℕ) (o : Option ℕ) {next : ℕ → Computation Closure V} → ((c : ℕ) → Ahead k (next c) (next c)) → Ahead k (when_known o next) (when_known o next)
+known_ahead k None h = ahead_stops k _
+known_ahead k (Some c) h = h c
 
 module _ (k : ℕ) (orders : Orders) (enter1 enter2 : Enter)
     (enter_ahead : (p : Closure) (vs : List Value) (depth : ℕ) → Ahead k (enter1 p vs depth) (enter2 p vs depth))
@@ -116,11 +116,11 @@ module _ (k : ℕ) (orders : Orders) (enter1 enter2 : Enter)
     evaluate_ahead : (e : Expression) (environment : List ℕ) (depth : ℕ) (tail : Bool) → Ahead k (evaluate orders enter1 e environment depth tail) (evaluate orders enter2 e environment depth tail)
     evaluate_ahead (constant c) environment depth tail = ahead_gives k _
     evaluate_ahead (literal n) environment depth tail = ahead_in_store k (steady_read_literal n)
-    evaluate_ahead (local j) environment depth tail = with_cell_ahead k (slice_get environment j) (ahead_read_cell k)
+    evaluate_ahead (local j) environment depth tail = known_ahead k (slice_get environment j) (ahead_read_cell k)
     evaluate_ahead (global g) environment depth tail = ahead_in_store k (steady_read_global g)
     evaluate_ahead (set_local j e) environment depth tail =
-        ahead_after k (evaluate_ahead e environment depth false) (λ v. with_cell_ahead k (slice_get environment j) (λ c. ahead_write_cell k c v))
-        (λ v. with_cell_grows (slice_get environment j) (λ c. grows_write_cell c v))
+        ahead_after k (evaluate_ahead e environment depth false) (λ v. known_ahead k (slice_get environment j) (λ c. ahead_write_cell k c v))
+        (λ v. known_grows (slice_get environment j) (λ c. grows_write_cell c v))
     evaluate_ahead (set_global g e) environment depth tail =
         ahead_after k (evaluate_ahead e environment depth false) (λ v. ahead_in_store k (steady_write_global g v)) (λ v. steady_grows (steady_write_global g v))
     evaluate_ahead (define g e) environment depth tail =

@@ -15,15 +15,15 @@ use Rattle.sch_word.specs.values.Values.{Value, fixnum, character, unspecified, 
 use Rattle.sch_word.specs.runs.Store.{Store}
 use Rattle.sch_word.specs.runs.Stops.{status_of}
 use Rattle.sch_word.specs.values.Checked.{Checked, passes, refused, exhausted, unreachable, on_passed}
-use Rattle.sch_word.specs.runs.Computation.{Outcome, gives, stops, spent, State, Action, Computation, with_rest, in_store, on_value, after, either, require, at_place, in_order, in_turn, blanks, all_values, set_or_stop, read_cell, write_cell, write_cells, new_procedure, new_fix, new_cells, some_each, unset_each, read_global, write_global, known_value, read_literal, known_procedure, callee, depth_left, entry_left, checked, checked_call, call_with, taken, take_entry}
+use Rattle.sch_word.specs.runs.Computation.{Outcome, gives, stops, spent, State, Action, Computation, with_rest, in_store, on_value, after, either, require, at_place, in_order, in_turn, blanks, all_values, set_or_stop, read_cell, write_cell, write_cells, new_procedure, new_fix, new_cells, some_each, unset_each, read_global, write_global, known_value, read_literal, known_procedure, callee, depth_left, entry_left, checked, checked_call, call_with, taken, take_entry, when_known}
 use Rattle.sch_word.specs.runs.Charges.{charge, charge_each, new_object, new_list, fit}
 use Rattle.sch_word.specs.values.CellBytes.{cells_bytes}
 use Rattle.sch_word.specs.runs.Orders.{Orders, order_at}
-use Rattle.sch_word.specs.values.PrimitiveRows.{unary, binary, ternary, as_fixnum, as_character, known_name, as_symbol, object_at, pair_or_stop, vector_or_stop, string_or_stop, as_pair, as_vector, as_string, object_test, write_object, element, piece, put_piece, primitive}
+use Rattle.sch_word.specs.values.PrimitiveRows.{unary, binary, ternary, as_fixnum, as_character, as_symbol, object_at, pair_or_stop, vector_or_stop, string_or_stop, as_pair, as_vector, as_string, object_test, write_object, element, piece, put_piece, primitive}
 use Rattle.sch_word.specs.runs.Runs.{End, ended, going, seen, starting_store, starting_state}
 use Rattle.sch_lang.specs.Tree.{Expression, Expressions, constant, literal, local, global, set_local, set_global, define, branch, sequence, bind, fix, letrec, lambda, call, operation, no_expressions, and_expression, count, count_lambdas, Source}
 use Rattle.sch_lang.specs.Variables.{cells_of}
-use Rattle.sch_lang.specs.Meaning.{Closure, Enter, with_cell, onto, closures, lambda_bytes, lambdas_bytes, evaluate, each, parts, enter}
+use Rattle.sch_lang.specs.Meaning.{Closure, Enter, onto, closures, lambda_bytes, lambdas_bytes, evaluate, each, parts, enter}
 use Rattle.sch_lang.specs.Run.{outcome, run}
 use Rattle.sch_word.specs.runs.Answers.{TakesNothing}
 use Rattle.sch_lang.specs.Laws.{FailsByAnswer}
@@ -105,7 +105,7 @@ module _ (R : Type 0) where
   keeps_as_character (character byte) h = h byte
   keeps_as_character _ h = keeps_stops _ tt
 
-  keeps_known_name : (o : Option (List ℕ)) {next : List ℕ → Action Value} → ((name : List ℕ) → Acts (next name)) → Acts (known_name o next)
+  keeps_known_name : (o : Option (List ℕ)) {next : List ℕ → Action Value} → ((name : List ℕ) → Acts (next name)) → Acts (when_known o next)
   keeps_known_name (Some name) h = h name
   keeps_known_name None h = keeps_stops _ tt
 
@@ -126,7 +126,7 @@ module _ (R : Type 0) where
   keeps_looking look act h = record { from = λ t g. (h (look t)).from t g }
 
   keeps_as_symbol : (v : Value) {next : List ℕ → Action Value} → ((name : List ℕ) → Acts (next name)) → Acts (as_symbol v next)
-  keeps_as_symbol (symbol n) {next} h = keeps_looking (λ t. slice_get t.constants.symbols n) (λ o. known_name o next) (λ o. keeps_known_name o h)
+  keeps_as_symbol (symbol n) {next} h = keeps_looking (λ t. slice_get t.constants.symbols n) (λ o. when_known o next) (λ o. keeps_known_name o h)
   keeps_as_symbol _ h = keeps_stops _ tt
 
   keeps_as_pair : (v : Value) {next : Value → Value → Action Value} → ((a d : Value) → Acts (next a d)) → Acts (as_pair v next)
@@ -295,9 +295,9 @@ module _ (R : Type 0) where
   keeps_new_fix : (k : ℕ) (make : List ℕ → List Closure) → Computes (new_fix k make)
   keeps_new_fix k make = record { from = λ s g. g }
 
-  keeps_with_cell : {V : Type 0} (o : Option ℕ) {next : ℕ → Computation Closure V} → ((c : ℕ) → Computes (next c)) → Computes (with_cell o next)
-  keeps_with_cell None h = keeps_stops _ tt
-  keeps_with_cell (Some c) h = h c
+  keeps_known : {V : Type 0} (o : Option ℕ) {next : ℕ → Computation Closure V} → ((c : ℕ) → Computes (next c)) → Computes (when_known o next)
+  keeps_known None h = keeps_stops _ tt
+  keeps_known (Some c) h = h c
 
   -- ## Calls, whose checks refuse with no failed output
 
@@ -352,10 +352,10 @@ module _ (R : Type 0) where
       evaluate_keeps : (e : Expression) (environment : List ℕ) (depth : ℕ) (tail : Bool) → Computes (evaluate orders enter1 e environment depth tail)
       evaluate_keeps (constant c) environment depth tail = keeps_gives _
       evaluate_keeps (literal k) environment depth tail = keeps_in_store (keeps_read_literal k)
-      evaluate_keeps (local k) environment depth tail = keeps_with_cell (slice_get environment k) keeps_read_cell
+      evaluate_keeps (local k) environment depth tail = keeps_known (slice_get environment k) keeps_read_cell
       evaluate_keeps (global g) environment depth tail = keeps_in_store (keeps_read_global g)
       evaluate_keeps (set_local k e) environment depth tail =
-          keeps_after (evaluate_keeps e environment depth false) (λ v. keeps_with_cell (slice_get environment k) (λ c. keeps_write_cell c v))
+          keeps_after (evaluate_keeps e environment depth false) (λ v. keeps_known (slice_get environment k) (λ c. keeps_write_cell c v))
       evaluate_keeps (set_global g e) environment depth tail = keeps_after (evaluate_keeps e environment depth false) (λ v. keeps_in_store (keeps_write_global g v))
       evaluate_keeps (define g e) environment depth tail = keeps_after (evaluate_keeps e environment depth false) (λ v. keeps_in_store (keeps_write_global g v))
       evaluate_keeps (branch a b c) environment depth tail =

@@ -2,7 +2,7 @@
 use Rattle.std.proofs.Common.{◌≡◌, ℕ, zero, suc, Bool, true, false, List, [], ◌∷◌, ◌++◌, length, Option, Some, None, refl}
 use Rattle.std.specs.Prelude.{slice_get}
 use Rattle.sch_word.specs.values.Values.{Value, unspecified, is_true}
-use Rattle.sch_word.specs.runs.Computation.{Computation, read_literal, read_global, write_global, some_each, unset_each, take_entry}
+use Rattle.sch_word.specs.runs.Computation.{Computation, read_literal, read_global, write_global, some_each, unset_each, take_entry, when_known}
 use Rattle.sch_word.specs.runs.Charges.{charge, charge_each, fit}
 use Rattle.sch_word.specs.values.PrimitiveRows.{primitive}
 use Rattle.sch_word.specs.runs.Runs.{starting_store}
@@ -14,7 +14,7 @@ use Rattle.sch_word.specs.values.CellBytes.{cells_bytes}
 use Rattle.sch_lang.specs.Tree.{Expression, Expressions, Lambdas, constant, literal, local, global, set_local, set_global, define, branch, sequence, bind, fix, letrec, lambda, call, operation, no_expressions, and_expression, no_lambdas, and_lambda, count, count_lambdas, Source}
 use Rattle.sch_lang.specs.Variables.{cells_of}
 use Rattle.sch_lang.specs.Measures.{over, over_each, over_lambdas, site_here}
-use Rattle.sch_lang.specs.Meaning.{Closure, Enter, with_cell, onto, closures, lambda_bytes, lambdas_bytes, evaluate, each, parts, enter}
+use Rattle.sch_lang.specs.Meaning.{Closure, Enter, onto, closures, lambda_bytes, lambdas_bytes, evaluate, each, parts, enter}
 use Rattle.sch_lang.specs.Laws.{AgreeOn, NeedsOwnOrders}
 
 abbrev joined : List (ℕ × ℕ) → List (ℕ × ℕ) → List (ℕ × ℕ)
@@ -48,9 +48,9 @@ module _ (orders orders' : Orders) where
   closures_become (and_lambda name formals rest e ls) environment a =
       and_pair (record { same = refl; agree = agree_left (sites e) (sites_lambdas ls) a }) (closures_become ls environment (agree_right (sites e) (sites_lambdas ls) a))
 
-  with_cell_same : {V : Type 0} (o : Option ℕ) {next : ℕ → Computation Closure V} → ((c : ℕ) → DoesSame Becomes (next c) (next c)) → DoesSame Becomes (with_cell o next) (with_cell o next)
-  with_cell_same None h = similar_unreached (same_store Becomes)
-  with_cell_same (Some c) h = h c
+  known_same : {V : Type 0} (o : Option ℕ) {next : ℕ → Computation Closure V} → ((c : ℕ) → DoesSame Becomes (next c) (next c)) → DoesSame Becomes (when_known o next) (when_known o next)
+  known_same None h = similar_unreached (same_store Becomes)
+  known_same (Some c) h = h c
 
   module _ (enter1 enter2 : Enter) (same_enter : (p q : Closure) → Becomes p q → (vs : List Value) (depth : ℕ) → DoesSame Becomes (enter1 p vs depth) (enter2 q vs depth)) where
     mutual
@@ -58,10 +58,10 @@ module _ (orders orders' : Orders) where
           → DoesSame Becomes (evaluate orders enter1 e environment depth tail) (evaluate orders' enter2 e environment depth tail)
       evaluate_same (constant c) a environment depth tail = similar_gives (same_store Becomes) _ _ (λ _ _. refl)
       evaluate_same (literal n) a environment depth tail = same_in_store Becomes (read_literal n)
-      evaluate_same (local k) a environment depth tail = with_cell_same (slice_get environment k) (same_read_cell Becomes)
+      evaluate_same (local k) a environment depth tail = known_same (slice_get environment k) (same_read_cell Becomes)
       evaluate_same (global g) a environment depth tail = same_in_store Becomes (read_global g)
       evaluate_same (set_local k e) a environment depth tail =
-          similar_then (same_store Becomes) (evaluate_same e a environment depth false) (λ _ _ v. with_cell_same (slice_get environment k) (λ c. same_write_cell Becomes c v))
+          similar_then (same_store Becomes) (evaluate_same e a environment depth false) (λ _ _ v. known_same (slice_get environment k) (λ c. same_write_cell Becomes c v))
       evaluate_same (set_global g e) a environment depth tail =
           similar_then (same_store Becomes) (evaluate_same e a environment depth false) (λ _ _ v. same_in_store Becomes (write_global g v))
       evaluate_same (define g e) a environment depth tail =

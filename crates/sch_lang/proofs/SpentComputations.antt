@@ -7,7 +7,7 @@ use Rattle.sch_word.specs.declared.stop.Stop.{Stop}
 use Rattle.sch_word.specs.values.Values.{Value, unspecified, is_true}
 use Rattle.sch_word.specs.runs.Store.{Store}
 use Rattle.sch_word.specs.values.Checked.{Checked, passes, refused, exhausted, unreachable}
-use Rattle.sch_word.specs.runs.Computation.{Outcome, gives, stops, spent, State, Action, Computation, with_rest, in_store, on_value, after, either, at_place, in_order, in_turn, blanks, all_values, set_or_stop, read_cell, write_cell, write_cells, new_procedure, new_fix, new_cells, some_each, unset_each, checked, checked_call, call_with, taken, take_entry}
+use Rattle.sch_word.specs.runs.Computation.{Outcome, gives, stops, spent, State, Action, Computation, with_rest, in_store, on_value, after, either, at_place, in_order, in_turn, blanks, all_values, set_or_stop, read_cell, write_cell, write_cells, new_procedure, new_fix, new_cells, some_each, unset_each, checked, checked_call, call_with, taken, take_entry, when_known}
 use Rattle.sch_word.specs.runs.Runs.{going, seen, starting_store, starting_state}
 use Rattle.sch_word.proofs.Steady.{OutcomeGrows, NeverSpent, Steady, steady_charge, steady_charge_each, steady_fit, steady_read_global, steady_write_global, steady_read_literal, steady_primitive}
 use Rattle.sch_word.proofs.NoEntryLeft.{Exhausts, exhausts_checked_call}
@@ -15,7 +15,7 @@ use Rattle.sch_word.specs.runs.Orders.{Orders, order_at}
 use Rattle.sch_word.specs.values.CellBytes.{cells_bytes}
 use Rattle.sch_lang.specs.Tree.{Expression, Expressions, constant, literal, local, global, set_local, set_global, define, branch, sequence, bind, fix, letrec, lambda, call, operation, no_expressions, and_expression, count, count_lambdas, Source}
 use Rattle.sch_lang.specs.Variables.{cells_of}
-use Rattle.sch_lang.specs.Meaning.{Closure, Enter, with_cell, onto, closures, lambda_bytes, lambdas_bytes, evaluate, each, parts, enter}
+use Rattle.sch_lang.specs.Meaning.{Closure, Enter, onto, closures, lambda_bytes, lambdas_bytes, evaluate, each, parts, enter}
 use Rattle.sch_lang.specs.Run.{outcome}
 use Rattle.sch_lang.specs.Laws.{GoesOnWhenSpent}
 
@@ -112,9 +112,9 @@ module _ (n : ℕ) where
   spends_new_fix : (k : ℕ) (make : List ℕ → List Closure) → Spends n (new_fix k make)
   spends_new_fix k make = record { from = λ s g. g }
 
-  spends_with_cell : {V : Type 0} (o : Option ℕ) {next : ℕ → Computation Closure V} → ((c : ℕ) → Spends n (next c)) → Spends n (with_cell o next)
-  spends_with_cell None h = spends_stops _
-  spends_with_cell (Some c) h = h c
+  spends_known : {V : Type 0} (o : Option ℕ) {next : ℕ → Computation Closure V} → ((c : ℕ) → Spends n (next c)) → Spends n (when_known o next)
+  spends_known None h = spends_stops _
+  spends_known (Some c) h = h c
 
   -- ## Calls
 
@@ -150,10 +150,10 @@ module _ (n : ℕ) (orders : Orders) (enter1 : Enter) (enter_spends : (p : Closu
     evaluate_spends : (e : Expression) (environment : List ℕ) (depth : ℕ) (tail : Bool) → Spends n (evaluate orders enter1 e environment depth tail)
     evaluate_spends (constant c) environment depth tail = spends_gives n _
     evaluate_spends (literal k) environment depth tail = spends_in_store n (steady_read_literal k)
-    evaluate_spends (local k) environment depth tail = spends_with_cell n (slice_get environment k) (spends_read_cell n)
+    evaluate_spends (local k) environment depth tail = spends_known n (slice_get environment k) (spends_read_cell n)
     evaluate_spends (global g) environment depth tail = spends_in_store n (steady_read_global g)
     evaluate_spends (set_local k e) environment depth tail =
-        spends_after n (evaluate_spends e environment depth false) (λ v. spends_with_cell n (slice_get environment k) (λ c. spends_write_cell n c v))
+        spends_after n (evaluate_spends e environment depth false) (λ v. spends_known n (slice_get environment k) (λ c. spends_write_cell n c v))
     evaluate_spends (set_global g e) environment depth tail =
         spends_after n (evaluate_spends e environment depth false) (λ v. spends_in_store n (steady_write_global g v))
     evaluate_spends (define g e) environment depth tail =

@@ -1,8 +1,8 @@
 -- What an expression does (R5RS 4.1, 4.2.2, 4.2.3 and 7.2, over an explicit store).
-use Rattle.std.specs.Prelude.{ℕ, zero, suc, Bool, true, false, List, [], ◌∷◌, ◌++◌, length, reverse, Option, Some, None, slice_get}
+use Rattle.std.specs.Prelude.{ℕ, zero, suc, Bool, true, false, List, [], ◌∷◌, ◌++◌, length, reverse, slice_get}
 use Rattle.sch_word.specs.values.Values.{Value, unspecified, constant_value, is_true}
 use Rattle.sch_word.specs.runs.Computation as computation
-use Rattle.sch_word.specs.runs.Computation.{Computation, gives, spent, unreached, after, either, in_store, all_values, in_turn, read_literal, read_global, write_global, read_cell, write_cell, write_cells, new_cells, some_each, unset_each, new_procedure, new_fix, take_entry, call_with}
+use Rattle.sch_word.specs.runs.Computation.{Computation, gives, spent, after, either, in_store, all_values, in_turn, read_literal, read_global, write_global, read_cell, write_cell, write_cells, new_cells, some_each, unset_each, new_procedure, new_fix, take_entry, call_with, when_known}
 use Rattle.sch_word.specs.runs.Charges.{charge, charge_each, procedure_bytes, fit}
 use Rattle.sch_word.specs.values.CellBytes.{cells_bytes}
 use Rattle.sch_word.specs.runs.Orders.{Orders}
@@ -20,10 +20,6 @@ pub record Closure : Type 0 where
 
 abbrev pub Enter : Type 0
 Enter = computation.Enter Closure
-
-abbrev pub with_cell : {V : Type 0} → Option ℕ → (ℕ → Computation Closure V) → Computation Closure V
-with_cell None next = unreached
-with_cell (Some c) next = next c
 
 -- what was just bound, as the cells of new variables, in front of an environment: the last is the nearest
 abbrev pub onto : {A : Type 0} → List A → List A → List A
@@ -50,10 +46,10 @@ module _ (orders : Orders) (enter : Enter) where
     pub evaluate : Expression → (environment : List ℕ) → (depth : ℕ) → (tail : Bool) → Computation Closure Value
     evaluate (constant c) environment depth tail = gives (constant_value c)
     evaluate (literal n) environment depth tail = in_store (read_literal n)
-    evaluate (local k) environment depth tail = with_cell (slice_get environment k) read_cell
+    evaluate (local k) environment depth tail = when_known (slice_get environment k) read_cell
     evaluate (global g) environment depth tail = in_store (read_global g)
     evaluate (set_local k e) environment depth tail =
-        after (evaluate e environment depth false) (λ v. with_cell (slice_get environment k) (λ c. write_cell c v))
+        after (evaluate e environment depth false) (λ v. when_known (slice_get environment k) (λ c. write_cell c v))
     evaluate (set_global g e) environment depth tail =
         after (evaluate e environment depth false) (λ v. in_store (write_global g v))
     evaluate (define g e) environment depth tail =

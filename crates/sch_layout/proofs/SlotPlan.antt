@@ -44,7 +44,8 @@ module _ (base : ℕ) where
 abbrev is_late : (formals : ℕ) → ℕ → Bool
 is_late formals x = nat_le 8 x && nat_lt x (2 + formals)
 
--- R15 for the return address; the slot in which it arrives for a late formal; and for each other variable a slot behind a base
+-- LINK_REGISTER for the return address; the slot in which it arrives for a late formal; and for each other variable a slot behind
+-- a base
 abbrev own_place : (formals base : ℕ) → ℕ → Place
 own_place formals base zero = link_place
 own_place formals base (suc x) = cond (is_late formals (suc x)) (Slot (suc x - 8)) (Slot (base + suc x))

@@ -27,7 +27,7 @@ pub record HomeApart (plan : Plan) (x : ℕ) : Type 0 where
   pub places : (y : ℕ) → same_place (plan.home x) (plan.place y) ≡ false
   pub homes : (y : ℕ) → is_slot (plan.place y) ≡ false → x ≢ y → same_place (plan.home x) (plan.home y) ≡ false
 
--- The return address lives in R15, and what lives in registers has homes.
+-- The return address lives in LINK_REGISTER, and what lives in registers has homes.
 pub record Homes (plan : Plan) : Type 0 where
   pub link : plan.place 0 ≡ link_place
   pub home : (x : ℕ) → is_slot (plan.place x) ≡ false → HomeApart plan x

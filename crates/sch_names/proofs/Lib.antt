@@ -2,3 +2,4 @@ pub mod NameTables
 pub mod NameNumbers
 pub mod ScopeLists
 pub mod Counts
+mod Examples

@@ -1,2 +1,3 @@
 pub mod PrinterTasks
 pub mod RoundTrip
+mod Examples

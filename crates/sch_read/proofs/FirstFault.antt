@@ -4,7 +4,8 @@ use Rattle.std.specs.Prelude.{Result, IsOkAnd, IfOk}
 use Rattle.std.proofs.lemmas.List.{append-nil}
 use Rattle.sch_read.specs.Grammar.{Token, Open, Close, Dot, Plain, Huge, Bad, parenthesis, hash_parenthesis, quote_mark, Atom, boolean, Datum, Data, atom, list, vector, none, cons, join, one, quoted, with_tail, Reads, plain, end}
 use Rattle.sch_read.specs.Fault.{Fault, Unclosed, Mark, open_list, open_quote, settled, opened, open_after, IsInnermost, Begins, AreAccepted, TakesAtom, IsFaultOf, CannotFollow, IsFirstFault}
-use Rattle.sch_read.specs.Parser.Stack.{Frame, Items, AfterDot, Tail, Elements, Waiting, State, put, shut, start, step, run, and_then, finish, place_of}
+use Rattle.sch_word.specs.values.Options.{when_ok}
+use Rattle.sch_read.specs.Parser.Stack.{Frame, Items, AfterDot, Tail, Elements, Waiting, State, put, shut, start, step, run, finish, place_of}
 use Rattle.sch_read.proofs.Completions.{Gets, Completes, Goes, HeadTakes, IsSound, put-sound, step-forth, step-back, join-none}
 use Rattle.sch_read.proofs.Runs.{step-sound, done-forth}
 
@@ -262,7 +263,7 @@ goes-first : (r : Result State Fault) (ms : List Mark) (C : List Token → Data 
     ((us : List Token) × (o : Data) × C us o) →
     IfOk r (λ v. IsSound v.open_) → IfOk r (λ v. marks v.open_ ≡ opened ms t) →
     ((s : State) → IsSound s.open_ → run s.spare s.open_ s.top ts ≡ Err f → Stops (Completes s.spare s.open_ s.top) ts f ⊎ Short (marks s.open_) (Completes s.spare s.open_ s.top) ts f) →
-    and_then r (λ v. run v.spare v.open_ v.top ts) ≡ Err f → Stops C (t ∷ ts) f ⊎ Short ms C (t ∷ ts) f
+    when_ok r (λ v. run v.spare v.open_ v.top ts) ≡ Err f → Stops C (t ∷ ts) f ⊎ Short ms C (t ∷ ts) f
 goes-first (Ok s) ms C t ts f to from kind some sound same next e = later ms (marks s.open_) C (Completes s.spare s.open_ s.top) t ts f to from same (next s sound e)
 goes-first (Err x) ms C t ts f to from kind some sound same next e = inl (record {
   front = [];

@@ -11,3 +11,4 @@ pub mod Validity
 pub mod ReleaseEffort
 pub mod texts
 pub mod CappedDigits
+mod Examples

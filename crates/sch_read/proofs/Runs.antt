@@ -3,7 +3,8 @@ use Rattle.std.proofs.Common.{◌≡◌, ℕ, zero, suc, List, [], ◌∷◌, re
 use Rattle.std.specs.Prelude.{Result, IsOkAnd, IfOk}
 use Rattle.sch_read.specs.Grammar.{Token, Open, Close, Dot, Plain, Huge, Bad, parenthesis, hash_parenthesis, quote_mark, Datum, Data, atom, list, vector, none, cons, ReadsOne, ReadsMany, Reads, end, more}
 use Rattle.sch_read.specs.Fault.{Fault}
-use Rattle.sch_read.specs.Parser.Stack.{Frame, Items, AfterDot, Tail, Elements, Waiting, State, start, step, run, and_then, read_dot, finish}
+use Rattle.sch_word.specs.values.Options.{when_ok}
+use Rattle.sch_read.specs.Parser.Stack.{Frame, Items, AfterDot, Tail, Elements, Waiting, State, start, step, run, read_dot, finish}
 use Rattle.sch_read.specs.Grammar.{join}
 use Rattle.sch_read.proofs.Completions.{Completes, Goes, HeadTakes, IsSound, put-sound, shut-sound, step-forth, step-back, join-none}
 
@@ -27,7 +28,7 @@ done-forth n (Elements at xs ∷ fs) top out (d, rest, c, g) = absurd (nothing-m
 done-forth n (Waiting at ∷ fs) top out (d, rest, c, g) = absurd (nothing-one n c.x rest c.reads)
 
 goes-forth : (r : Result State Fault) (ts : List Token) (out : Data) → ((s : State) → Goes ts out s → run s.spare s.open_ s.top ts ≡ Ok out) →
-    IsOkAnd r (Goes ts out) → and_then r (λ s. run s.spare s.open_ s.top ts) ≡ Ok out
+    IsOkAnd r (Goes ts out) → when_ok r (λ s. run s.spare s.open_ s.top ts) ≡ Ok out
 goes-forth (Ok s) ts out f g = f s g
 goes-forth (Err e) ts out f g = absurd g
 
@@ -84,7 +85,7 @@ done-back n [] top out e = record { ds = none; reads = end n []; is = (let k : o
 done-back n (f ∷ fs) top out e = cc
 
 goes-back : (r : Result State Fault) (ts : List Token) (out : Data) → ((s : State) → IsSound s.open_ → run s.spare s.open_ s.top ts ≡ Ok out → Goes ts out s) →
-    IfOk r (λ v. IsSound v.open_) → and_then r (λ v. run v.spare v.open_ v.top ts) ≡ Ok out → IsOkAnd r (Goes ts out)
+    IfOk r (λ v. IsSound v.open_) → when_ok r (λ v. run v.spare v.open_ v.top ts) ≡ Ok out → IsOkAnd r (Goes ts out)
 goes-back (Ok v) ts out f h e = f v h e
 goes-back (Err x) ts out f h e = cc
 

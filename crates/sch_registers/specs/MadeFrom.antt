@@ -42,9 +42,9 @@ pub record HasEagerRestores (tree : Expression) : Type 0 where
   pub exact : EagerRestores tree
   pub by_paths : RestoredByPaths tree
 
--- The return address lives in R15, the closure in R14, formals where they arrive, and any other variable in one of six registers
--- or in a slot. In a slot it is only where each of the six registers holds another variable that is live directly after its
--- binding.
+-- The return address lives in LINK_REGISTER, the closure in CLOSURE_REGISTER, formals where they arrive, and any other variable in
+-- one of six registers or in a slot. In a slot it is only where each of the six registers holds another variable that is live
+-- directly after its binding.
 pub record HasFewSlots (c : control.Code) (tree : Expression) (place : ℕ → Place) : Type 0 where
   pub link : place 0 ≡ link_place
   pub closure : place 1 ≡ closure_place

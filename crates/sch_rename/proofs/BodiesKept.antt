@@ -10,6 +10,7 @@ use Rattle.sch_word.specs.trees.VariableCounts.{one_unless}
 use Rattle.sch_lang.specs.Measures.{variables, variables_each, variables_operands, variables_parts, onto_assigned, onto_all, bound_count, counts_nothing, procedure, procedures}
 use Rattle.sch_lang.specs.Bodies.{form, bodies, bodies_each, bodies_lambdas, bodies_forms, bodies_of}
 use Rattle.sch_word.proofs.facts.Lists.{append_same, cons_same}
+use Rattle.sch_cells.proofs.Unassigned.{all_same_length}
 use Rattle.sch_cells.specs.Bodies as to
 use Rattle.sch_rename.specs.Made.{binds, binds_each, binds_lambdas, renamed, renamed_each, renamed_lambdas, renamed_source}
 use Rattle.sch_lang.specs.InScope.{InScope, EachInScope, LambdasInScope, IsClosed}
@@ -53,10 +54,6 @@ all_onto : (m : ℕ) (b : Bool) (once : List Bool) → onto_all m b once ≡ ont
 all_onto zero b once = refl
 all_onto (suc m) b once = sym (all_one_more m b once) ∙ all_onto m b (b ∷ once) ∙ sym (onto_more b (to.all_same m b) once)
 
-all_length : (m : ℕ) (b : Bool) → length (to.all_same m b) ≡ m
-all_length zero b = refl
-all_length (suc m) b = ap suc (all_length m b)
-
 unassigned_kept : (e : Expression) (x m : ℕ) (s : List ℕ) (y : ℕ) → Falls (scope_with x m s) y → InScope e (length s + m) → to.unassigned x m (renamed e (scope_with x m s) y) ≡ flags m e
 unassigned_kept e x zero s y f i = refl
 unassigned_kept e x (suc m) s y f i =
@@ -77,7 +74,7 @@ assigned_fits {s} {once} {once'} e x m y f g i h =
     rw (unassigned_kept e x m s y g i, r) (fits_with x m (flags m e) (flags_length m e) f h)
 
 all_fits : {s : List ℕ} {once : List Bool} {once' : Bindings Bool} (x m : ℕ) (b : Bool) → Falls s x → Fits s once once' → Fits (scope_with x m s) (onto_all m b once) (with_variables x (to.all_same m b) once')
-all_fits {s} {once} {once'} x m b f h = rw (all_onto m b once) (fits_with x m (to.all_same m b) (all_length m b) f h)
+all_fits {s} {once} {once'} x m b f h = rw (all_onto m b once) (fits_with x m (to.all_same m b) (all_same_length m b) f h)
 
 -- ## The counts
 

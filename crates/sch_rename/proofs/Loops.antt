@@ -3,7 +3,7 @@ use Rattle.std.proofs.Common.{◌≡◌, ℕ, zero, suc, ◌+◌, ◌-◌, ◌<�
 use Rattle.std.proofs.lemmas.List.{get_or-reverse, reverse-append}
 use Rattle.sch_lang.specs.declared.tree.Exp.{Exp}
 use Rattle.sch_lang.specs.declared.tree.Lambda.{Lambda}
-use Rattle.sch_lang.specs.Tree.{Lambdas, Source, count}
+use Rattle.sch_lang.specs.Tree.{Source, count}
 use Rattle.sch_lang.specs.View.{expression, expressions_of, lambdas_of, function}
 use Rattle.sch_lang.proofs.ListViews.{expressions_of_list, lambdas_of_list, left, left_lambdas}
 use Rattle.sch_word.specs.declared.statics.Statics as declared

@@ -2,7 +2,7 @@
 use Rattle.std.proofs.Common.{◌≡◌, ℕ, zero, suc, ◌+◌, ◌<◌, Bool, true, false, List, [], ◌∷◌, length, Option, Some, None, refl, ap, ◌∙◌, arith}
 use Rattle.std.specs.Prelude.{slice_get}
 use Rattle.sch_word.specs.values.Values.{Value, unspecified, is_true}
-use Rattle.sch_word.specs.runs.Computation.{Computation, read_literal, read_global, write_global, some_each, unset_each, take_entry}
+use Rattle.sch_word.specs.runs.Computation.{Computation, read_literal, read_global, write_global, some_each, unset_each, take_entry, when_known}
 use Rattle.sch_word.specs.runs.Charges.{charge, charge_each, fit}
 use Rattle.sch_word.specs.values.PrimitiveRows.{primitive}
 use Rattle.sch_word.specs.runs.Runs.{SameRuns, starting_store}
@@ -12,7 +12,7 @@ use Rattle.sch_word.proofs.SameStore.{same_store, Pairs, no_pairs, and_pair, Doe
 use Rattle.sch_lang.specs.Tree.{Expression, Expressions, Lambdas, Source, constant, literal, local, global, set_local, set_global, define, branch, sequence, bind, fix, letrec, lambda, call, operation, no_expressions, and_expression, no_lambdas, and_lambda, count, count_lambdas}
 use Rattle.sch_lang.specs.Variables.{cells_of}
 use Rattle.sch_lang.specs.Meaning as from
-use Rattle.sch_lang.specs.Meaning.{with_cell, lambda_bytes, lambdas_bytes}
+use Rattle.sch_lang.specs.Meaning.{lambda_bytes, lambdas_bytes}
 use Rattle.sch_word.specs.values.CellBytes.{cells_bytes}
 use Rattle.sch_word.specs.runs.Orders.{Orders, order_at}
 use Rattle.sch_lang.specs.Run as source
@@ -66,7 +66,7 @@ closures_become (and_lambda name m rest e ls) s x {environment} {environment'} f
     and_pair (record { scope = s; first = x; environment' = environment'; is = refl; falls = f; inside = i.0; fits = h })
     (closures_become ls s (x + m + binds e) (falls_more s x _ (omega arith) f) i.1 h)
 
-same_variable : {o : Option ℕ} (o' : Option ℕ) {c : ℕ → Computation from.Closure Value} {d : ℕ → Computation (procedures.Closure ℕ) Value} → o' ≡ o → ((k : ℕ) → DoesSame Becomes (c k) (d k)) → DoesSame Becomes (with_cell o c) (to.with_cell o' d)
+same_variable : {o : Option ℕ} (o' : Option ℕ) {c : ℕ → Computation from.Closure Value} {d : ℕ → Computation (procedures.Closure ℕ) Value} → o' ≡ o → ((k : ℕ) → DoesSame Becomes (c k) (d k)) → DoesSame Becomes (when_known o c) (when_known o' d)
 same_variable None e h = rw (← e) (similar_unreached (same_store Becomes))
 same_variable (Some k) e h = rw (← e) (h k)
 

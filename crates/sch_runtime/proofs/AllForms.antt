@@ -1,13 +1,14 @@
--- All routines keep to the form of routines, and name the frame's register only to put its address into RCX. Neither sees how long a
--- number or a displacement is, nor where the heap ends.
+-- All routines keep to the form of routines, name the frame's register only to put its address into RCX, and read RCX only where they have
+-- set it or were handed a word in it; and in them the heap's register goes on by what is charged. None of this sees how long a number or a
+-- displacement is, nor where the heap ends.
 use Rattle.std.proofs.Common.{◌≡◌, ℕ, ◌+◌, List, [], ◌∷◌, ◌++◌, true, Option, Some, None, cond, refl, sym, ap, ◌∙◌, ◌&&◌}
-use Rattle.std.specs.Prelude.{ℤ, Bool, IsTrue, false, nat_eq, nat_le}
+use Rattle.std.specs.Prelude.{ℤ, Bool, IsTrue, false, not, nat_eq, nat_le, ◌||◌}
 use Rattle.std.specs.List.{list_all}
 use Rattle.std.proofs.lemmas.List.{map-append}
 use Rattle.sch_insn.specs.declared.insn.Arg.TheVariants.{Base8, Base32}
 use Rattle.sch_insn.specs.declared.insn.Insn.{Insn}
 use Rattle.sch_insn.specs.declared.insn.Insn.TheVariants.{MovTo, AddNumber}
-use Rattle.sch_word.specs.declared.registers.TheConstants.{R11}
+use Rattle.sch_word.specs.declared.registers.TheConstants.{RCX, R11}
 use Rattle.sch_asm.specs.declared.item.Item.{Item}
 use Rattle.sch_asm.specs.declared.item.Item.TheVariants as item
 use Rattle.sch_asm.specs.Narrow.{narrow_item, narrowed, short_number, with_operand}
@@ -16,6 +17,8 @@ use Rattle.sch_runtime.specs.Form.{Return, in_register, in_word, exits, behind, 
 use Rattle.sch_runtime.specs.Form.{labels_at, leaves}
 use Rattle.sch_select_memory.specs.ValueCode.{value_code}
 use Rattle.sch_runtime.specs.FrameRegister.{leaves_frame}
+use Rattle.sch_runtime.specs.HeapRegister.{passes_by_numbers}
+use Rattle.sch_runtime.specs.HandedWord.{calls_kernel, falls_through, comes_with_word, reads_register, sets_first, sets_register}
 use Rattle.sch_asm.proofs.NarrowItems.{item_same}
 
 -- ## The form
@@ -126,3 +129,57 @@ wide_quiet heap_end = refl
 pub routines_quiet : (heap_end : ℕ) → IsTrue (list_all leaves_frame (all_routines heap_end))
 routines_quiet heap_end =
     ap (list_all leaves_frame) (sym (map-append narrow_item (value_code heap_end) routine_items)) ∙ quiet_same (value_code heap_end ++ routine_items) ∙ wide_quiet heap_end
+
+-- ## What is read of RCX
+
+handed_numbers : (unset : Bool) (rest : List Item) (i : Insn) → sets_first unset (item.Plain (short_number i) ∷ rest) ≡ sets_first unset (item.Plain i ∷ rest)
+handed_numbers unset rest (AddNumber m n) = refl
+handed_numbers unset rest _ = refl
+
+handed_operands : (unset : Bool) (rest : List Item) (i : Insn) (b : ℕ) (d : ℤ)
+    → sets_first unset (item.Plain (with_operand (Base8 b d) i) ∷ rest) ≡ sets_first unset (item.Plain (with_operand (Base32 b d) i) ∷ rest)
+handed_operands unset rest (MovTo m r) b d = refl
+handed_operands unset rest _ b d = refl
+
+handed_same : (unset : Bool) (is : List Item) → sets_first unset (narrowed is) ≡ sets_first unset is
+handed_same unset [] = refl
+handed_same unset (item.Plain i ∷ is) =
+    item_same (λ k. sets_first unset (k ∷ narrowed is)) (handed_numbers unset (narrowed is)) (handed_operands unset (narrowed is)) (item.Plain i)
+    ∙ ap (λ b. (not (reads_register RCX i) || not unset) && b) (handed_same (calls_kernel i || (falls_through i && (not (sets_register RCX i) && unset))) is)
+handed_same unset (item.Label l ∷ is) = ap (λ b. (not (comes_with_word l) || not unset) && b) (handed_same (not (comes_with_word l)) is)
+handed_same unset (item.Jump l ∷ is) = ap (λ b. (not (comes_with_word l) || not unset) && b) (handed_same false is)
+handed_same unset (item.JumpIf c l ∷ is) = ap (λ b. (not (comes_with_word l) || not unset) && b) (handed_same unset is)
+handed_same unset (item.LoadLabel r l ∷ is) = ap (λ b. not (comes_with_word l) && b) (handed_same (not (nat_eq r RCX) && unset) is)
+handed_same unset (item.LoadWord r a ∷ is) = handed_same (not (nat_eq r RCX) && unset) is
+handed_same unset (item.StoreWord a r ∷ is) = ap (λ b. (not (nat_eq r RCX) || not unset) && b) (handed_same unset is)
+handed_same unset (item.Mark m ∷ is) = handed_same unset is
+
+wide_handed : (heap_end : ℕ) → sets_first true (value_code heap_end ++ routine_items) ≡ true
+wide_handed heap_end = refl
+
+pub routines_handed : (heap_end : ℕ) → IsTrue (sets_first true (all_routines heap_end))
+routines_handed heap_end =
+    ap (sets_first true) (sym (map-append narrow_item (value_code heap_end) routine_items)) ∙ handed_same true (value_code heap_end ++ routine_items) ∙ wide_handed heap_end
+
+-- ## The heap's register
+
+heap_numbers : (i : Insn) → passes_by_numbers (item.Plain (short_number i)) ≡ passes_by_numbers (item.Plain i)
+heap_numbers (AddNumber m n) = refl
+heap_numbers _ = refl
+
+heap_operands : (i : Insn) (b : ℕ) (d : ℤ) → passes_by_numbers (item.Plain (with_operand (Base8 b d) i)) ≡ passes_by_numbers (item.Plain (with_operand (Base32 b d) i))
+heap_operands (MovTo m r) b d = refl
+heap_operands _ b d = refl
+
+heap_same : (is : List Item) → list_all passes_by_numbers (narrowed is) ≡ list_all passes_by_numbers is
+heap_same [] = refl
+heap_same (i ∷ is) =
+    ap (λ b. b && list_all passes_by_numbers (narrowed is)) (item_same passes_by_numbers heap_numbers heap_operands i)
+    ∙ ap (λ b. passes_by_numbers i && b) (heap_same is)
+
+wide_heap : (heap_end : ℕ) → list_all passes_by_numbers (value_code heap_end ++ routine_items) ≡ true
+wide_heap heap_end = refl
+
+pub routines_heap : (heap_end : ℕ) → IsTrue (list_all passes_by_numbers (all_routines heap_end))
+routines_heap heap_end =
+    ap (list_all passes_by_numbers) (sym (map-append narrow_item (value_code heap_end) routine_items)) ∙ heap_same (value_code heap_end ++ routine_items) ∙ wide_heap heap_end

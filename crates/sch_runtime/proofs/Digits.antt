@@ -4,11 +4,12 @@ use Rattle.std.specs.Prelude.{pos, not, nat_lt, Result, Ok, if◌then◌else◌}
 use Rattle.std.specs.Fmt.{digit_glyph, digits_onto}
 use Rattle.std.proofs.lemmas.Bool.{eqb-false}
 use Rattle.std.proofs.lemmas.Bool.Decides.{nat_tests}
+use Rattle.sch_word.specs.values.Options.{when_ok}
 use Rattle.sch_word.specs.runs.ProgramLayout.{data_address}
 use Rattle.sch_insn.specs.declared.insn.Arg.TheVariants.{Reg, Base}
 use Rattle.sch_insn.specs.declared.insn.Insn.TheVariants.{MovNumber, Idiv, AddNumber8, SubNumber8, CmpNumber8}
 use Rattle.sch_insn.specs.declared.state.StuckCause.{StuckCause}
-use Rattle.sch_insn.specs.Machine.{set_register, add64, sub64, magnitude, difference_of, sum_of, unknown_flags, condition, when_ok, with_flags, with_register, with_place}
+use Rattle.sch_insn.specs.Machine.{set_register, add64, sub64, magnitude, difference_of, sum_of, unknown_flags, condition, with_flags, with_register, with_place}
 use Rattle.sch_insn.specs.Step.{Runs, moved, perform, quotient_of, dividend_magnitude, is_quotient}
 use Rattle.sch_insn.proofs.Paths.{leads_then, leads_on}
 use Rattle.sch_word.specs.declared.registers.TheConstants.{RAX, RCX, RDX, RSI, RDI, R11}

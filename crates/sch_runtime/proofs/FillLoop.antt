@@ -25,7 +25,7 @@ use Rattle.sch_runtime.proofs.ZeroTests.{ne_zero}
 unscratched : (r : ℕ) → is_scratch r ≡ false → ((r == RAX) ≡ false) × ((r == RDX) ≡ false)
 unscratched r e = by (r == RAX) (r == RCX) (r == RDX) (r == R11) e
   where
-    by : (a b c d : Bool) → (a || (b || (c || d))) ≡ false → (a ≡ false) × (c ≡ false)
+    by : (a b c d : Bool) → (a || (b || (c || (d || false)))) ≡ false → (a ≡ false) × (c ≡ false)
     by true b c d e = absurd cc
     by false true c d e = absurd cc
     by false false true d e = absurd cc

@@ -30,7 +30,7 @@ own_word size a long low high = record { low = low; high = omega arith }
 others_of : (r : ℕ) → is_scratch r ≡ false → (r == RSI) ≡ false → (r == RDI) ≡ false → is_other r ≡ true
 others_of r e f g = by (r == RAX) (r == RCX) (r == RDX) (r == RSI) (r == RDI) (r == R11) e f g
   where
-    by : (a b c d h k : Bool) → (a || (b || (c || k))) ≡ false → d ≡ false → h ≡ false → (not a && (not b && (not c && (not d && (not h && not k))))) ≡ true
+    by : (a b c d h k : Bool) → (a || (b || (c || (k || false)))) ≡ false → d ≡ false → h ≡ false → (not a && (not b && (not c && (not d && (not h && not k))))) ≡ true
     by true b c d h k e f g = absurd cc
     by false true c d h k e f g = absurd cc
     by false false true d h k e f g = absurd cc

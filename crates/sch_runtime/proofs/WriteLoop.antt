@@ -10,10 +10,10 @@ use Rattle.sch_word.specs.declared.answer.Answer.{Answer}
 use Rattle.sch_word.specs.declared.answer.Answer.TheVariants.{Took, Failed}
 use Rattle.sch_insn.specs.declared.insn.Arg.TheVariants.{Reg}
 use Rattle.sch_insn.specs.declared.insn.Insn.TheVariants.{MovNumber, AddTo, SubTo, CmpNumber8, Syscall}
-use Rattle.sch_word.specs.values.Options.{first_or_0}
+use Rattle.sch_word.specs.values.Options.{first_or_0, rest_of}
 use Rattle.sch_word.specs.runs.ProgramLayout.{data_address}
 use Rattle.sch_insn.specs.Machine.{set_register, add64, sub64, difference_of, sum_of, unknown_flags, condition}
-use Rattle.sch_insn.specs.Step.{Runs, answered, rest_of, write_row, piece_written}
+use Rattle.sch_insn.specs.Step.{Runs, answered, write_row, piece_written}
 use Rattle.sch_insn.proofs.Paths.{leads_then, leads_on}
 use Rattle.sch_word.specs.declared.registers.TheConstants.{RAX, RCX, RDX, RSI, RDI, R11}
 use Rattle.sch_insn.specs.declared.condition.TheConstants.{E, LE}

@@ -1,3 +1,5 @@
 pub mod Code
 pub mod Form
 pub mod FrameRegister
+pub mod HandedWord
+pub mod HeapRegister

@@ -1,6 +1,6 @@
 //! The items of the run-time routines, made.
 
-ghost use Rattle.std.specs.Prelude.{◌≡◌, ◌<◌, ◌≤◌, ◌%◌, [], ◌∷◌, ◌++◌, IfOk, IsTrue, OnOk};
+ghost use Rattle.std.specs.Prelude.{◌≡◌, ◌<◌, ◌≤◌, ◌%◌, [], ◌∷◌, ◌++◌, true, IfOk, IsTrue, OnOk};
 ghost use Rattle.std.specs.List.{list_all};
 ghost use Rattle.sch_asm.specs.declared.item.Item.TheVariants as item;
 ghost use Rattle.sch_asm.specs.Items.{AreRoutines};
@@ -12,6 +12,8 @@ ghost use Rattle.sch_select_memory.specs.Addresses.{max_heap_end};
 ghost use Rattle.sch_select_memory.specs.ValueCode.{value_code};
 ghost use Rattle.sch_runtime.specs.Form.{keeps_form};
 ghost use Rattle.sch_runtime.specs.FrameRegister.{leaves_frame};
+ghost use Rattle.sch_runtime.specs.HandedWord.{sets_first};
+ghost use Rattle.sch_runtime.specs.HeapRegister.{passes_by_numbers};
 ghost use Rattle.sch_runtime.specs.Code.{all_routines, digit_code, digit_label, done_code, done_label, exit_code, fixnum_code, put_code, fill_code, routine_items};
 
 use crate::new_list::rest_routine;
@@ -79,6 +81,10 @@ pub fn routines(alloc: Global, heap_end: u32) -> Result<Asm, Mem>
     ensures form { IfOk result (λ r. IsTrue (keeps_form r.items)) }
     // The frame's register is nowhere in them, but that its address goes into RCX.
     ensures frame { IfOk result (λ r. IsTrue (list_all leaves_frame r.items)) }
+    // They set RCX before they read it, but for those that are handed a word in it.
+    ensures handed { IfOk result (λ r. IsTrue (sets_first true r.items)) }
+    // The heap's register is set to no word of memory, of another register or of an instruction: it goes on by multiples of 16 bytes.
+    ensures heap { IfOk result (λ r. IsTrue (list_all passes_by_numbers r.items)) }
 {
     let items = all_items(alloc, heap_end)?;
     Ok(Asm {

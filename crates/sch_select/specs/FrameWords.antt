@@ -1,11 +1,14 @@
 -- The address that the frame's register has goes into no other register and no word of memory. That register is set to a number
--- only where it gets the address at which the frames begin, and each word that is named by its number ends before the heap begins, so
--- that it lies in front of all frames. What the routine of lists leaves in RCX, the address of a slot, is followed by SlotAddress, and
+-- by the first item alone, to the address at which the frames begin, and each word that is named by its number ends before the heap begins,
+-- so that it lies in front of all frames. What the routine of lists leaves in RCX, the address of a slot, is followed by SlotAddress, and
 -- what the bases of all operands have by KnownBases. A word of the frame is an operand in memory whose base is the frame's register
 -- (SDM volume 2, section 2.1.5).
-use Rattle.std.specs.Prelude.{ℕ, ◌+◌, nat_eq, nat_le, Bool, true, false, ◌&&◌, ◌||◌, not, ℤ, pos, negsuc, List}
+--
+-- The heap's register, which is a base of operands too, gets the address at which the heap begins by the second item alone, and then goes on
+-- by multiples of 16 bytes, or by what RDX has (HeapRegister of sch_runtime).
+use Rattle.std.specs.Prelude.{ℕ, ◌+◌, nat_eq, nat_le, Bool, true, false, ◌&&◌, ◌||◌, not, ℤ, pos, negsuc, List, ◌∷◌}
 use Rattle.std.specs.List.{list_all}
-use Rattle.sch_word.specs.declared.registers.TheConstants.{FRAME_REGISTER}
+use Rattle.sch_word.specs.declared.registers.TheConstants.{FRAME_REGISTER, HEAP_REGISTER}
 use Rattle.sch_insn.specs.declared.insn.Insn.{Insn}
 use Rattle.sch_insn.specs.declared.insn.Insn.TheVariants as insn
 use Rattle.sch_asm.specs.declared.item.Item.{Item}
@@ -14,6 +17,7 @@ use Rattle.sch_asm.specs.Narrow.{operand_of}
 use Rattle.sch_frames.specs.Tree.{Source}
 use Rattle.sch_select_data.specs.Data.{heap_of}
 use Rattle.sch_runtime.specs.FrameRegister.{has_base, is_frame_itself, is_frame_register, register_of}
+use Rattle.sch_runtime.specs.HeapRegister.{leaves_heap}
 
 -- a frame is opened behind another one, or closed
 abbrev pub moves_frame : Insn → Bool
@@ -28,10 +32,12 @@ abbrev pub addresses_frame : Insn → Bool
 addresses_frame (insn.Lea r m) = has_base FRAME_REGISTER m
 addresses_frame _ = false
 
--- The frame's register is the base of an operand in memory, or a number is added to it or taken from it, or it is set to a number,
--- or it is not there.
+-- The frame's register is the base of an operand in memory, or a number is added to it or taken from it, or it is not there.
 abbrev pub keeps_address : Insn → Bool
+keeps_address (insn.MovWord r n) = not (nat_eq r FRAME_REGISTER)
 keeps_address i = not (is_frame_register (register_of i)) && ((moves_frame i || not (is_frame_itself (operand_of i))) && not (addresses_frame i))
+
+-- ## All items
 
 abbrev pub is_number : ℤ → ℕ → Bool
 is_number (pos n) m = nat_eq n m
@@ -39,22 +45,32 @@ is_number (negsuc n) m = false
 
 -- the heap and the frames begin at these addresses, the frames last
 module _ (heap stack : ℕ) where
-  -- the frame's register gets no number but the address of the first frame
-  abbrev pub begins_frames : Insn → Bool
-  begins_frames (insn.MovWord r n) = not (nat_eq r FRAME_REGISTER) || is_number n stack
-  begins_frames _ = true
-
   -- a word that is named by its number
   abbrev pub lies_before : (address : ℕ) → Bool
   lies_before a = nat_le (a + 8) heap
 
   abbrev pub keeps_frame : Item → Bool
-  keeps_frame (item.Plain i) = begins_frames i && keeps_address i
+  keeps_frame (item.Plain i) = keeps_address i
   keeps_frame (item.LoadLabel r l) = not (nat_eq r FRAME_REGISTER)
   keeps_frame (item.LoadWord r a) = not (nat_eq r FRAME_REGISTER) && lies_before a
   keeps_frame (item.StoreWord a r) = not (nat_eq r FRAME_REGISTER) && lies_before a
   keeps_frame _ = true
 
+  -- both registers are kept
+  abbrev pub keeps_both : Item → Bool
+  keeps_both i = leaves_heap i && keeps_frame i
+
+  -- the frame's register is set to where the frames begin, and then that of the heap to where the heap does
+  abbrev pub begins_there : Item → Item → Bool
+  begins_there (item.Plain (insn.MovWord r n)) (item.Plain (insn.MovWord q k)) =
+      (nat_eq r FRAME_REGISTER && is_number n stack) && (nat_eq q HEAP_REGISTER && is_number k heap)
+  begins_there _ _ = false
+
+  -- so the first two items do, and all others keep both
+  abbrev pub begins_and_keeps : List Item → Bool
+  begins_and_keeps (i ∷ (j ∷ is)) = begins_there i j && list_all keeps_both is
+  begins_and_keeps _ = false
+
 -- the items of a program whose heap may have this number of bytes, behind which the frames begin
 abbrev pub keeps_frames : Source → (limit : ℕ) → List Item → Bool
-keeps_frames p limit is = list_all (keeps_frame (heap_of p) (heap_of p + limit)) is
+keeps_frames p limit is = begins_and_keeps (heap_of p) (heap_of p + limit) is

@@ -1,9 +1,11 @@
 -- Where the base of each operand in memory comes from. It is the frame's register, the heap's register, or one of RAX, RCX and the
--- closure's register where that has got a word of memory, a word of a register of variables or of the heap, or where the tag of its word
+-- closure's register where that has got a word of memory, of a register in which bodies have words or of the heap's, or where the tag of its word
 -- was tested not to be 0, with what was added to it since. So a register that an instruction sets to a number is no base, nor is what a
--- scratch register had before. A number may still come to be one by way of a variable, a word of memory, the heap's register, a tag or an
--- addition: that the word is that of an object is told by the meaning of the items, and not here. What is known is known from the last
--- label on. No operand is an address without a base, but those of words that are named by their numbers (FrameWords).
+-- scratch register had before. A number may still come to be one by way of a variable, a word of memory, a tag or an addition: that the
+-- word is that of an object is told by the meaning of the items, and not here. To which number the heap's register is set is told by FrameWords, and
+-- how far an operand lies from its base is not looked at.
+-- What is known is known from the last label on. No operand is an address without a base, but those of words that are named by their numbers
+-- (FrameWords).
 use Rattle.std.specs.Prelude.{ℕ, nat_eq, nat_lt, Bool, true, false, ◌&&◌, ◌||◌, not, List, [], ◌∷◌}
 use Rattle.sch_word.specs.trees.NumberSets.{has}
 use Rattle.sch_word.specs.declared.registers.TheConstants.{CLOSURE_REGISTER, FRAME_REGISTER, HEAP_REGISTER}

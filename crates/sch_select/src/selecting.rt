@@ -158,13 +158,15 @@ pub fn select(alloc: Global, p: &FrameProgram, limits: Limits) -> Result<Asm, Me
     ensures marks { IfOk result (λ a. kinds_in a.items ≡ kinds_of 0 (source p.now).bodies) }
     // Where each mark of a body stands at its instruction, each write of memory through the frame's register stands behind one.
     ensures stores { IfOk result (λ a. IsTrue (all_marks_stand (source p.now).bodies) → IsTrue (stores_marked None a.items)) }
-    // The address that the frame's register has goes into no other register and no word of memory. That register is set to no number
-    // but that where the frames begin, and each word that is named by its number ends before the heap begins.
+    // The address that the frame's register has goes into no other register and no word of memory. The first two items set that register to
+    // where the frames begin, and the heap's to where the heap does: behind them neither gets a number, and the heap's goes on by
+    // multiples of 16 bytes, or by what RDX has. Each word that is named by its number ends before the heap begins.
     ensures frame { IfOk result (λ a. IsTrue (keeps_frames (source p.now) limits.heap a.items)) }
-    // The address of a slot that the routine of lists leaves in RCX is overwritten before an item reads it.
+    // The address of a slot that the routine of lists leaves in RCX is overwritten before an item reads it, and before a jump to a routine
+    // that is handed a word in RCX.
     ensures slot { IfOk result (λ a. IsTrue (overwrites_slot (own_label (source p.now)) true [] a.items)) }
-    // Each base of an operand in memory is the frame's register, the heap's, or one that has got a word of memory or of a variable, or
-    // whose tag was tested: none was set to a number since.
+    // Each base of an operand in memory is the frame's register, the heap's, or one that has got a word of memory, of the heap's register or of
+    // one in which bodies have words, or whose tag was tested not to be 0: none was set to a number since.
     ensures bases { IfOk result (λ a. IsTrue (bases_known false false false a.items)) }
     // The words end where the heap begins.
     ensures words { IfOk result (λ a. data_address + 8 * length a.words ≡ heap_of (source p.now)) }

@@ -1,17 +1,19 @@
 //! The definitions at the head of a body, and whether data are a body (R5RS 5.2.2).
 
-ghost use Rattle.std.specs.Prelude.{◌≡◌, ◌++◌, ◌-◌, length, drop, IfOk, OnOk};
-ghost use Rattle.sch_read.specs.Views.{data_of};
+ghost use Rattle.std.specs.Prelude.{◌≡◌, ◌++◌, ◌-◌, length, drop, true, false, IfOk, IsTrue, OnOk};
+ghost use Rattle.sch_read.specs.Views.{data_of, tree_of};
+ghost use Rattle.sch_names.specs.Scope as names;
 ghost use Rattle.sch_names.specs.Scope.{onto};
 ghost use Rattle.sch_names.specs.ScopeView.{given_names};
 ghost use Rattle.sch_sketch.specs.Sketch as words;
 ghost use Rattle.sch_sketch.specs.SketchView.{ahead};
 ghost use Rattle.sch_sketch.specs.BodyHeads as table;
+ghost use Rattle.sch_sketch.specs.Definitions as definitions;
 
 use crate::definitions::{add_definition, are_definitions, is_definition};
 use crate::distinct::are_distinct;
 use crate::sketch::Sketch;
-use sch_names::{Name, Scope};
+use sch_names::{Keyword, Name, Scope, keyword_of};
 use sch_read::Datum;
 use sch_word::{List, Mem};
 use std::alloc::Global;
@@ -51,7 +53,39 @@ fn is_body_here(alloc: Global, scope: &Scope, items: &[Datum]) -> Result<bool, M
     Ok(distinct)
 }
 
+/// Whether a datum is no definition by its form and its head, whatever variables there are.
+fn never_defines(d: &Datum) -> bool
+    ensures { IsTrue result → (s : names.Scope) → definitions.is_definition s (tree_of d.now) ≡ false }
+{
+    let Some(items) = d.items() else {
+        return true;
+    };
+    let Some((operator, _)) = Datum::split(items) else {
+        return true;
+    };
+    let Some(x) = operator.name() else {
+        return true;
+    };
+    match keyword_of(x) {
+        Some(Keyword::Define) => false,
+        Some(Keyword::Begin) => false,
+        _ => true,
+    }
+}
+
+/// Whether data are a body by the first of them, whatever variables there are.
+fn begins_with_expression(items: &[Datum]) -> bool
+    ensures { IsTrue result → (s : names.Scope) → table.is_body s (data_of items.now) ≡ true }
+{
+    let Some((first, _)) = Datum::split(items) else {
+        return false;
+    };
+    never_defines(first)
+}
+
 /// Whether data are a body inside these variables.
+///
+/// Where the first is no definition, nothing is bound to find that out.
 pub fn is_body(
     alloc: Global,
     scope: &mut Scope,
@@ -61,6 +95,9 @@ pub fn is_body(
     ensures is { IfOk result (λ b. b ≡ table.is_body (onto (given_names names.now) scope.old) (data_of items.now)) }
     ensures scope { OnOk result (scope.new ≡ scope.old) }
 {
+    if begins_with_expression(items) {
+        return Ok(true);
+    }
     let depth = scope.depth();
     scope.bind_all(alloc, names)?;
     let is = is_body_here(alloc, scope, items)?;

@@ -4,10 +4,11 @@ use Rattle.std.proofs.lemmas.Bool.Decides.{nat_tests}
 use Rattle.std.proofs.lemmas.List.{map-set, length-map, length-set}
 use Rattle.std.specs.Prelude.{map, Result, Ok, Err}
 use Rattle.std.specs.Result.{result_err}
+use Rattle.sch_word.specs.values.Options.{when_ok}
 use Rattle.sch_word.specs.values.Memory as words
 use Rattle.sch_insn.specs.declared.state.StuckCause.{StuckCause}
 use Rattle.sch_insn.specs.declared.state.StuckCause.TheVariants.{Access}
-use Rattle.sch_insn.specs.Machine.{Core, holds, bytes_from, put_bytes, with_bytes, behind_segment, stored, or_access, when_ok, with_segments, write_bytes}
+use Rattle.sch_insn.specs.Machine.{Core, holds, bytes_from, put_bytes, with_bytes, behind_segment, stored, or_access, with_segments, write_bytes}
 use Rattle.sch_insn.proofs.PutSize.{size_put}
 use Rattle.sch_step.specs.declared.segment.Segment.{Segment}
 use Rattle.sch_step.specs.Layout.{segment_view, segment_at, IsMemory, NoneHolds}

@@ -1,8 +1,9 @@
 //! What each instruction does, a row for each form.
 
 ghost use Rattle.std.specs.Prelude.{◌≡◌, ◌+◌, ◌*◌, ◌/◌, ◌%◌, ◌<◌, ◌≤◌, ◌^◌, ◌∷◌, [], OnErr, Ok, bit_and, bit_or, bit_xor};
+ghost use Rattle.sch_word.specs.values.Options.{when_ok};
 ghost use Rattle.sch_insn.specs.Spelling.{IsArg, IsValid};
-ghost use Rattle.sch_insn.specs.Machine.{when_ok, with_register, with_flags, with_place, byte_at, write_bytes, address_of, load as load_of, store as store_of};
+ghost use Rattle.sch_insn.specs.Machine.{with_register, with_flags, with_place, byte_at, write_bytes, address_of, load as load_of, store as store_of};
 ghost use Rattle.sch_insn.specs.Machine.{sum_of, difference_of, bits_of, product_of, shifted, shift_right_signed as shift_right_signed_of};
 ghost use Rattle.sch_insn.specs.Machine.{condition as condition_of};
 ghost use Rattle.sch_insn.specs.Step.{change, gather, compare, divide, sign_word, jump_if};

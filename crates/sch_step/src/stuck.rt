@@ -2,8 +2,9 @@
 
 ghost use Rattle.std.specs.Prelude.{◌≡◌, ◌+◌, ◌<◌, ◌≤◌, ◌^◌, ℕ, List, length, None, Ok};
 ghost use Rattle.std.specs.Result.{result_err};
+ghost use Rattle.sch_word.specs.values.Options.{when_ok};
 ghost use Rattle.sch_insn.specs.Spelling.{IsArg, IsValid};
-ghost use Rattle.sch_insn.specs.Machine.{Core, Computed, when_ok, with_place, load as load_of, store as store_of, write_bytes};
+ghost use Rattle.sch_insn.specs.Machine.{Core, Computed, with_place, load as load_of, store as store_of, write_bytes};
 ghost use Rattle.sch_insn.specs.Step.{change};
 
 use crate::division::divided;

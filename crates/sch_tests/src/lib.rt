@@ -12,6 +12,8 @@ mod defaults;
 #[cfg(test)]
 mod failing;
 #[cfg(test)]
+mod free;
+#[cfg(test)]
 mod generated;
 #[cfg(test)]
 mod hostile;

@@ -83,6 +83,18 @@ const LIMITS: &[(Repeated, Wanted)] = &[
     ((b"(+", b" 1", 201, b")"), (7, b"", OPERANDS)),
     ((b"(list", b" 1", 200, b")"), (0, b"", b"")),
     ((b"(list", b" 1", 201, b")"), (7, b"", OPERANDS)),
+    // 2,000 levels are the most: each element of an `or` but the last is two.
+    ((b"(or", b" 1", 1000, b")"), (0, b"", b"")),
+    (
+        (b"(or", b" 1", 1001, b")"),
+        (7, b"", b"a: byte 2002: limit core\n"),
+    ),
+    // 1,000 variables of a body are the most: each value that is dropped is one.
+    ((b"(let ()", b" (car 1)", 1001, b")"), (0, b"", b"")),
+    (
+        (b"(let ()", b" (car 1)", 1002, b")"),
+        (7, b"", b"a: byte 0: limit variables\n"),
+    ),
     // A source of the greatest length.
     ((b"", b" ", 1_048_576, b""), (0, b"", b"")),
     ((b"", b" ", 1_048_577, b""), (7, b"", b"a: limit file\n")),

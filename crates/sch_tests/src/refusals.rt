@@ -35,7 +35,33 @@ const TEXTS: &[Ended] = &[
         b"(let ((x 1) (x 2)) x)",
         (5, b"", b"p.scm: byte 0: bad form\n"),
     ),
+    // Keywords that are left out.
     (b"(quasiquote x)", (5, b"", b"p.scm: byte 0: bad form\n")),
+    (b"(unquote x)", (5, b"", b"p.scm: byte 0: bad form\n")),
+    (
+        b"1 (unquote-splicing x)",
+        (5, b"", b"p.scm: byte 2: bad form\n"),
+    ),
+    (
+        b"(display (delay 1))",
+        (5, b"", b"p.scm: byte 9: bad form\n"),
+    ),
+    (
+        b"(define-syntax f 1)",
+        (5, b"", b"p.scm: byte 0: bad form\n"),
+    ),
+    (
+        b"1 (let-syntax () 2)",
+        (5, b"", b"p.scm: byte 2: bad form\n"),
+    ),
+    (
+        b"(+ 1 (letrec-syntax () 2))",
+        (5, b"", b"p.scm: byte 5: bad form\n"),
+    ),
+    (
+        b"(if 1 (syntax-rules ()))",
+        (5, b"", b"p.scm: byte 6: bad form\n"),
+    ),
     (b"(+ 1 (begin))", (5, b"", b"p.scm: byte 5: bad form\n")),
     (b"(lambda (x x) x)", (5, b"", b"p.scm: byte 0: bad form\n")),
     (
@@ -44,6 +70,16 @@ const TEXTS: &[Ended] = &[
     ),
     (b"(foo)", (6, b"", b"p.scm: byte 1: unbound foo\n")),
     (b"(set! y 1)", (6, b"", b"p.scm: byte 6: unbound y\n")),
+    // Names of the library's own operations are no names of a source.
+    (
+        b"(%symbol-length 'a)",
+        (6, b"", b"p.scm: byte 1: unbound %symbol-length\n"),
+    ),
+    (
+        b"1 (%symbol-ref 'a 0)",
+        (6, b"", b"p.scm: byte 3: unbound %symbol-ref\n"),
+    ),
+    (b"(%put 1)", (6, b"", b"p.scm: byte 1: unbound %put\n")),
     (
         b"(display 1152921504606846976)",
         (7, b"", b"p.scm: byte 9: limit literal\n"),

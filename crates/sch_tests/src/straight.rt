@@ -8,6 +8,11 @@ const PROGRAMS: &[(&[u8], &[u8])] = &[
         b"(define x 7)(let ((y (* x 6))) (if (< y 40) (display 0) (display (- y 50))))",
         b"-8",
     ),
+    // Differences from the left; sums, products and differences of one operand and of none.
+    (
+        b"(display (- 10 2 3))(display (*))(display (* 5))(display (+))(display (+ 4))(display (- 4))",
+        b"51504-4",
+    ),
     (
         b"(display (quotient -7 2))(display (remainder -7 2))(display (modulo -7 2))",
         b"-3-11",

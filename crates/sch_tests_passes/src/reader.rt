@@ -57,6 +57,7 @@ const PRINTED: &[(&str, &str)] = &[
         "(quote abc)\n#(a \"b\\\\\n\t\\\"\")\n",
     ),
     ("(a b . (c . (d e . ((f) . g))))", "(a b c d e (f) . g)\n"),
+    ("'(A . (b c))", "(quote (a b c))\n"),
     (
         "#\\a #\\NEWLINE #T () ...",
         "#\\a\n#\\newline\n#t\n()\n...\n",

@@ -33,8 +33,9 @@ FormsRead globals items f es = PartsRead globals sequencing true 1 [] Value (ske
 -- The names that a text assigns by a `set!` that finds no local variable (R5RS 4.1.6): they are read off a reading
 -- as if it assigned nothing. What it assigns depends on scopes, and on what is an operation only where a level
 -- is too deep: operands lie as deep in an operation as in a call, but for `not`, whose operand is read for its truth,
--- where an `or` nests less. A name that is assigned is no operation in the second reading, so no `set!` of that is
--- missed here.
+-- where an `or` nests less. A name that is assigned is no operation in the second reading, whose operands are the
+-- same: so where a text expands, its drafts assign these names and no others (`text_assigns_the_names_found` of
+-- `sch_core`).
 pub record Assigns (seen : List (List ℕ)) (items : Data) (names : List (List ℕ)) : Type 0 where
   pub fault : Option Fault
   pub drafts : Drafts

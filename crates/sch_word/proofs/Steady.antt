@@ -14,9 +14,9 @@ use Rattle.sch_word.specs.values.Put as puts
 use Rattle.sch_word.specs.values.Values.{Value, fixnum, character, boolean, nil, unspecified, symbol, object, procedure, cell, Object, pair, vector, string}
 use Rattle.sch_word.specs.runs.Store.{Store}
 use Rattle.sch_word.specs.trees.Growth.{GrowsTo}
-use Rattle.sch_word.specs.runs.Computation.{Outcome, gives, stops, spent, Action, on_value, after, require, set_or_stop, read_global, write_global, known_value, read_literal}
+use Rattle.sch_word.specs.runs.Computation.{Outcome, gives, stops, spent, Action, on_value, after, require, when_known, set_or_stop, read_global, write_global, known_value, read_literal}
 use Rattle.sch_word.specs.runs.Charges.{string_bytes, vector_bytes, charge, charge_each, new_object, charged_object, linked, list_value, new_list, fit}
-use Rattle.sch_word.specs.values.PrimitiveRows.{unary, binary, ternary, as_fixnum, as_character, known_name, as_symbol, object_at, pair_or_stop, vector_or_stop, string_or_stop, as_pair, as_vector, as_string, in_range, as_length, fixnum_or_stop, arithmetic, comparison, division, object_test, is_pair, is_vector, is_string, int_modulo, is_natural, is_index, write_object, element, piece, put_piece, primitive}
+use Rattle.sch_word.specs.values.PrimitiveRows.{unary, binary, ternary, as_fixnum, as_character, as_symbol, object_at, pair_or_stop, vector_or_stop, string_or_stop, as_pair, as_vector, as_string, in_range, as_length, fixnum_or_stop, arithmetic, comparison, division, object_test, is_pair, is_vector, is_string, int_modulo, is_natural, is_index, write_object, element, piece, put_piece, primitive}
 
 -- ## Growth
 
@@ -221,12 +221,12 @@ steady_as_character : (v : Value) {next : ℕ → Action Value} → ((byte : ℕ
 steady_as_character (character byte) h = h byte
 steady_as_character _ h = steady_stops _
 
-steady_known_name : {next : List ℕ → Action Value} → ((name : List ℕ) → Steady (next name)) → (o : Option (List ℕ)) → Steady (known_name o next)
-steady_known_name h (Some name) = h name
-steady_known_name h None = steady_stops _
+steady_known : {next : List ℕ → Action Value} → ((name : List ℕ) → Steady (next name)) → (o : Option (List ℕ)) → Steady (when_known o next)
+steady_known h (Some name) = h name
+steady_known h None = steady_stops _
 
 steady_as_symbol : (v : Value) {next : List ℕ → Action Value} → ((name : List ℕ) → Steady (next name)) → Steady (as_symbol v next)
-steady_as_symbol (symbol n) {next} h = steady_looking (λ t. slice_get t.constants.symbols n) (λ o. known_name o next) (λ _ t. refl) (steady_known_name h)
+steady_as_symbol (symbol n) {next} h = steady_looking (λ t. slice_get t.constants.symbols n) (λ o. when_known o next) (λ _ t. refl) (steady_known h)
 steady_as_symbol _ h = steady_stops _
 
 object_at_blind : (v : Value) (n : ℕ) (t : Store) → object_at v (with_entries n t) ≡ object_at v t

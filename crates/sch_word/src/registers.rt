@@ -51,5 +51,5 @@ pub const CLOSURE_REGISTER: u8 = R14;
 /// Where the activation returns.
 pub const LINK_REGISTER: u8 = R15;
 
-/// What an instruction of a body may overwrite.
+/// What an instruction of a body may overwrite beside its own place.
 pub const SCRATCH_REGISTERS: [u8; 4] = [RAX, RCX, RDX, R11];

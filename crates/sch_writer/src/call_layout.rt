@@ -36,8 +36,8 @@ fn operand_target(tail: bool, limit: u32, k: u32) -> Place
     }
 }
 
-/// Where an argument of a call is wanted: the operator, argument 0, in R14; an operand in its register, or in a slot: in a
-/// tail call in one of the own frame, and else in one of the frame that the call opens, whose slots begin at a limit.
+/// Where an argument of a call is wanted: the operator, argument 0, in `CLOSURE_REGISTER`; an operand in its register, or in a
+/// slot: in a tail call in one of the own frame, and else in one of the frame that the call opens, whose slots begin at a limit.
 pub fn target(tail: bool, limit: u32, argument: u32) -> Place
     requires { limit + argument < 2 ^ 32 }
     ensures { result ≡ target tail limit argument }

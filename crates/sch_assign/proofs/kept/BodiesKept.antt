@@ -5,14 +5,14 @@ use Rattle.std.specs.Prelude.{not, slice_get, nat_eq}
 use Rattle.std.proofs.lemmas.List.{append-nil}
 use Rattle.sch_word.proofs.facts.Booleans.{neither}
 use Rattle.sch_word.proofs.facts.Lists.{append_same, cons_same}
-use Rattle.sch_cells.proofs.Unassigned.{all_unassigned, bound_count_unassigned}
+use Rattle.sch_cells.proofs.Unassigned.{all_unassigned, bound_count_unassigned, all_same_length}
 use Rattle.sch_word.specs.trees.Bindings.{Bindings, bound_to, with_variables, scope_with}
 use Rattle.sch_cells.specs.declared.tree.NewCell.{NewCell}
 use Rattle.sch_cells.specs.Tree.{Tree, Trees, Lambdas, Source, constant, literal, variable, global, set_variable, set_global, define, branch, sequence, bind, fix, letrec, lambda, call, operation, new_cells, cell_get, cell_set, no_trees, and_tree, no_lambdas, and_lambda, count, count_lambdas}
 use Rattle.sch_cells.specs.Variables.{assigns, assigns_each, assigns_lambdas}
 use Rattle.sch_word.specs.values.Options.{or_false}
 use Rattle.sch_word.specs.trees.VariableCounts.{one_unless, twice_if, three_each}
-use Rattle.sch_cells.specs.Bodies.{counts_nothing, unassigned, all_same, bound_count, with_cells, variables, variables_each, variables_operands, variables_parts, procedure, procedures, bodies, bodies_each, bodies_lambdas, bodies_forms, bodies_of}
+use Rattle.sch_cells.specs.Bodies.{counts_nothing, unassigned, all_same, bound_count, once_with_cells, variables, variables_each, variables_operands, variables_parts, procedure, procedures, bodies, bodies_each, bodies_lambdas, bodies_forms, bodies_of}
 use Rattle.sch_assign.specs.Converted.{and_cell, cells_for, empty_cells, filling, reading, wrapped, converted, converted_each, converted_lambdas, converted_source, Agree, AllAre, Low, Right, RightEach, RightLambdas}
 use Rattle.sch_assign.proofs.Lookups.{Apart, Where, inside, outside, where_is, inside_variables, outside_variables, agree_next, empty_length}
 use Rattle.sch_assign.proofs.kept.FreeMoved.{AllLow, low_with, count_same, count_lambdas_same, lambda_free}
@@ -88,24 +88,20 @@ module _ (has_cell : ℕ → Bool) (n : ℕ) where
   unassigned_get x (suc m) zero e l = let q : x + 0 ≡ x = omega arith in rw q refl
   unassigned_get x (suc m) (suc i) e l = let q : x + suc i ≡ suc x + i = omega arith in rw q (unassigned_get (suc x) m i e (omega (arith, l)))
 
-  all_same_length : (m : ℕ) (b : Bool) → length (all_same m b) ≡ m
-  all_same_length zero b = refl
-  all_same_length (suc m) b = ap suc (all_same_length m b)
-
   all_same_get : (m i : ℕ) (b : Bool) → i < m → slice_get (all_same m b) i ≡ Some b
   all_same_get zero i b l = absurd (omega (arith, l))
   all_same_get (suc m) zero b l = refl
   all_same_get (suc m) (suc i) b l = all_same_get m i b (omega (arith, l))
 
-  cells_high : (x m y : ℕ) (once : Bindings Bool) → y < n → bound_to y (with_cells (cells_for has_cell n x m) once) ≡ bound_to y once
+  cells_high : (x m y : ℕ) (once : Bindings Bool) → y < n → bound_to y (once_with_cells (cells_for has_cell n x m) once) ≡ bound_to y once
   cells_high x zero y once l = refl
   cells_high x (suc m) y once l = go (has_cell x) (λ o. cells_high (suc x) m y o l)
     where
-      go : (b : Bool) → ((o : Bindings Bool) → bound_to y (with_cells (cells_for has_cell n (suc x) m) o) ≡ bound_to y o) → bound_to y (with_cells (and_cell n b x (cells_for has_cell n (suc x) m)) once) ≡ bound_to y once
+      go : (b : Bool) → ((o : Bindings Bool) → bound_to y (once_with_cells (cells_for has_cell n (suc x) m) o) ≡ bound_to y o) → bound_to y (once_with_cells (and_cell n b x (cells_for has_cell n (suc x) m)) once) ≡ bound_to y once
       go true k = k ((x + n, true) ∷ once) ∙ (let t : nat_eq y (x + n) ≡ false = differ y (x + n) (λ e. omega (arith, e, l)) in rw t refl)
       go false k = k once
 
-  empty_high : (x m y : ℕ) (once : Bindings Bool) → y < n → bound_to y (with_cells (empty_cells n x m) once) ≡ bound_to y once
+  empty_high : (x m y : ℕ) (once : Bindings Bool) → y < n → bound_to y (once_with_cells (empty_cells n x m) once) ≡ bound_to y once
   empty_high x zero y once l = refl
   empty_high x (suc m) y once l = empty_high (suc x) m y ((x + n, true) ∷ once) l ∙ (let t : nat_eq y (x + n) ≡ false = differ y (x + n) (λ e. omega (arith, e, l)) in rw t refl)
 
@@ -117,7 +113,7 @@ module _ (has_cell : ℕ → Bool) (n : ℕ) where
     celled : (y : ℕ) → y < n → has_cell y ≡ true → or_false (bound_to y once) ≡ false
 
   counts_group : (x m : ℕ) (e : Tree) (once once' : Bindings Bool) → Agree has_cell n x m e → Counts once once' →
-      Counts (with_variables x (unassigned x m e) once) (with_cells (cells_for has_cell n x m) (with_variables x (all_same m true) once'))
+      Counts (with_variables x (unassigned x m e) once) (once_with_cells (cells_for has_cell n x m) (with_variables x (all_same m true) once'))
   counts_group x m e once once' agree h = record { plain = λ y l a. go y l a (where_is x m y); celled = λ y l a. gone y l a (where_is x m y) }
     where
       before : (y : ℕ) → Apart x m y → Apart x (length (unassigned x m e)) y
@@ -129,7 +125,7 @@ module _ (has_cell : ℕ → Bool) (n : ℕ) where
       source : (i : ℕ) → i < m → bound_to (x + i) (with_variables x (unassigned x m e) once) ≡ Some (not (assigns e (x + i)))
       source i l = inside_variables x i (unassigned x m e) once (let k = unassigned_length x m e in omega (arith, l, k)) ∙ unassigned_get x m i e l
 
-      go : (y : ℕ) → y < n → has_cell y ≡ false → Where x m y → or_false (bound_to y (with_cells (cells_for has_cell n x m) (with_variables x (all_same m true) once'))) ≡ or_false (bound_to y (with_variables x (unassigned x m e) once))
+      go : (y : ℕ) → y < n → has_cell y ≡ false → Where x m y → or_false (bound_to y (once_with_cells (cells_for has_cell n x m) (with_variables x (all_same m true) once'))) ≡ or_false (bound_to y (with_variables x (unassigned x m e) once))
       go y l a (inside i k q) =
           let a' : has_cell (x + i) ≡ false = rw q at a in
           let s : assigns e (x + i) ≡ false = sym (agree.at i k) ∙ a' in
@@ -166,13 +162,13 @@ module _ (has_cell : ℕ → Bool) (n : ℕ) where
       gone y l a (outside p) = rw (outside_variables x y (all_same m b) once (apart_from y b p)) (h.celled y l a)
 
   -- a Rec, in its inits: its variables are not there, but their cells are
-  counts_rec : (x m : ℕ) (once once' : Bindings Bool) → AllAre has_cell n true x m → Counts once once' → Counts (with_variables x (all_same m false) once) (with_cells (empty_cells n x m) once')
+  counts_rec : (x m : ℕ) (once once' : Bindings Bool) → AllAre has_cell n true x m → Counts once once' → Counts (with_variables x (all_same m false) once) (once_with_cells (empty_cells n x m) once')
   counts_rec x m once once' all h = record { plain = λ y l a. go y l a (where_is x m y); celled = λ y l a. gone y l a (where_is x m y) }
     where
       apart_from : (y : ℕ) → Apart x m y → Apart x (length (all_same m false)) y
       apart_from y p = record { at = λ i l. p.at i (let k = all_same_length m false in omega (arith, l, k)) }
 
-      go : (y : ℕ) → y < n → has_cell y ≡ false → Where x m y → or_false (bound_to y (with_cells (empty_cells n x m) once')) ≡ or_false (bound_to y (with_variables x (all_same m false) once))
+      go : (y : ℕ) → y < n → has_cell y ≡ false → Where x m y → or_false (bound_to y (once_with_cells (empty_cells n x m) once')) ≡ or_false (bound_to y (with_variables x (all_same m false) once))
       go y l a (inside i k q) = absurd (let a' : has_cell (x + i) ≡ false = rw q at a in let b : has_cell (x + i) ≡ true = all.at i k in cc)
       go y l a (outside p) = rw (empty_high x m y once' l, outside_variables x y (all_same m false) once (apart_from y p)) (h.plain y l a)
 
@@ -218,13 +214,13 @@ module _ (has_cell : ℕ → Bool) (n : ℕ) where
   nothing_kept (cell_get x) S o o' r g h = absurd r
   nothing_kept (cell_set x e) S o o' r g h = absurd r
 
-  wrapped_variables : (cs : List NewCell) (e : Tree) (once : Bindings Bool) → variables (wrapped cs e) once ≡ length cs + variables e (with_cells cs once)
+  wrapped_variables : (cs : List NewCell) (e : Tree) (once : Bindings Bool) → variables (wrapped cs e) once ≡ length cs + variables e (once_with_cells cs once)
   wrapped_variables [] e once = omega arith
   wrapped_variables (c ∷ cs) e once = refl
 
   -- the variables of a group, with those of what they are bound in
   group_total : (x m : ℕ) (e : Tree) (once once' : Bindings Bool) → Agree has_cell n x m e →
-      variables (converted has_cell n e) (with_cells (cells_for has_cell n x m) (with_variables x (all_same m true) once')) ≡ variables e (with_variables x (unassigned x m e) once) →
+      variables (converted has_cell n e) (once_with_cells (cells_for has_cell n x m) (with_variables x (all_same m true) once')) ≡ variables e (with_variables x (unassigned x m e) once) →
       bound_count x m (wrapped (cells_for has_cell n x m) (converted has_cell n e)) + variables (wrapped (cells_for has_cell n x m) (converted has_cell n e)) (with_variables x (unassigned x m (wrapped (cells_for has_cell n x m) (converted has_cell n e))) once')
       ≡ bound_count x m e + variables e (with_variables x (unassigned x m e) once)
   group_total x m e once once' agree h =
@@ -267,7 +263,7 @@ module _ (has_cell : ℕ → Bool) (n : ℕ) where
     variables_kept (bind site x es e) S o o' r g h =
         let m = count es in
         let k = group_total x m e o o' r.1
-        (variables_kept e (scope_with x m S) (with_variables x (unassigned x m e) o) (with_cells (cells_for has_cell n x m) (with_variables x (all_same m true) o')) r.3 (low_with has_cell n x m S r.2 g) (counts_group x m e o o' r.1 h)) in
+        (variables_kept e (scope_with x m S) (with_variables x (unassigned x m e) o) (once_with_cells (cells_for has_cell n x m) (with_variables x (all_same m true) o')) r.3 (low_with has_cell n x m S r.2 g) (counts_group x m e o o' r.1 h)) in
         rw (count_same has_cell n es, each_kept es S o o' r.0 g h, k) refl
     variables_kept (fix x ls e) S o o' r g h =
         let m = count_lambdas ls in
@@ -281,7 +277,7 @@ module _ (has_cell : ℕ → Bool) (n : ℕ) where
         let T = scope_with x m S in
         let low = low_with has_cell n x m S r.1 g in
         let o1 = with_variables x (all_same m false) o in
-        let u = with_cells (empty_cells n x m) o' in
+        let u = once_with_cells (empty_cells n x m) o' in
         let v = with_variables x (all_same m true) u in
         let Q = sequence (filling n x m (converted has_cell n e)) in
         let hu = counts_rec x m o o' r.0 h in
@@ -321,7 +317,7 @@ module _ (has_cell : ℕ → Bool) (n : ℕ) where
       procedure name x m rest (wrapped (cells_for has_cell n x m) (converted has_cell n e)) ≡ procedure name x m rest e
   procedure_kept name x m rest e S agree low r g =
       let k = group_total x m e [] [] agree
-      (variables_kept e (scope_with x m S) (with_variables x (unassigned x m e) []) (with_cells (cells_for has_cell n x m) (with_variables x (all_same m true) [])) r (low_with has_cell n x m S low g) (counts_group x m e [] [] agree counts_nil)) in
+      (variables_kept e (scope_with x m S) (with_variables x (unassigned x m e) []) (once_with_cells (cells_for has_cell n x m) (with_variables x (all_same m true) [])) r (low_with has_cell n x m S low g) (counts_group x m e [] [] agree counts_nil)) in
       rw (lambda_free has_cell n x m e S low r g, k) refl
 
   pub procedures_kept : (ls : Lambdas) (S : List ℕ) → RightLambdas has_cell n ls S → AllLow has_cell n S → procedures (converted_lambdas has_cell n ls) ≡ procedures ls

@@ -3,10 +3,10 @@ use Rattle.std.proofs.Common.{◌≡◌, ℕ, zero, suc, ◌+◌, ◌<◌, Bool,
 use Rattle.std.specs.Prelude.{IsTrue, ◌&&◌, ◌||◌, nat_eq}
 use Rattle.sch_word.proofs.facts.Booleans.{and_of}
 use Rattle.sch_word.specs.trees.NumberSets.{has, unless, insert, In}
-use Rattle.sch_word.specs.trees.Bindings.{scope_with}
+use Rattle.sch_word.specs.trees.Bindings.{scope_with, pushed}
 use Rattle.sch_cells.specs.declared.tree.NewCell.{NewCell}
 use Rattle.sch_cells.specs.Tree.{Tree, Trees, Lambdas, Source, constant, literal, variable, global, set_variable, set_global, define, branch, sequence, bind, fix, letrec, lambda, call, operation, new_cells, cell_get, cell_set, no_trees, and_tree, no_lambdas, and_lambda, count, count_lambdas}
-use Rattle.sch_cells.specs.Variables.{scope_of, cells_bound, cells_used, all_in, closed, closed_each, closed_lambdas}
+use Rattle.sch_cells.specs.Variables.{cells_bound, cells_used, all_in, closed, closed_each, closed_lambdas}
 use Rattle.sch_cells.proofs.Clearing.{in_under}
 use Rattle.sch_assign.specs.Converted.{and_cell, cells_for, empty_cells, filling, reading, wrapped, converted, converted_each, converted_lambdas, AllAre, Right, RightEach, RightLambdas}
 use Rattle.sch_assign.proofs.Lookups.{Where, inside, outside, where_is, in_outside, in_group}
@@ -18,11 +18,11 @@ use Rattle.sch_word.proofs.facts.NumberTests.{same}
 
 -- ## Scopes with more variables
 
-in_list : (zs : List ℕ) (y : ℕ) (S : List ℕ) → In y zs → In y (scope_of zs S)
+in_list : (zs : List ℕ) (y : ℕ) (S : List ℕ) → In y zs → In y (pushed zs S)
 in_list [] y S i = absurd (cc)
 in_list (z ∷ zs) y S i = go (nat_eq y z) refl (in_list zs y (z ∷ S))
   where
-    go : (b : Bool) → nat_eq y z ≡ b → (In y zs → In y (scope_of zs (z ∷ S))) → In y (scope_of zs (z ∷ S))
+    go : (b : Bool) → nat_eq y z ≡ b → (In y zs → In y (pushed zs (z ∷ S))) → In y (pushed zs (z ∷ S))
     go true e k = in_under zs y (z ∷ S) (rw e refl)
     go false e k = let j : (false || has y zs) ≡ true = rw e at i in k j
 
@@ -37,7 +37,7 @@ all_inside : (x m : ℕ) (ys S : List ℕ) → AllInside x m ys → IsTrue (all_
 all_inside x m [] S h = refl
 all_inside x m (y ∷ ys) S h = and_of _ _ (subst (λ z. In z (scope_with x m S)) (sym h.0.is) (in_group x m h.0.i S h.0.low)) (all_inside x m ys S h.1)
 
-wrapped_closed : (cs : List NewCell) (e : Tree) (S : List ℕ) → IsTrue (all_in (cells_used cs) S) → IsTrue (closed e (scope_of (cells_bound cs) S)) → IsTrue (closed (wrapped cs e) S)
+wrapped_closed : (cs : List NewCell) (e : Tree) (S : List ℕ) → IsTrue (all_in (cells_used cs) S) → IsTrue (closed e (pushed (cells_bound cs) S)) → IsTrue (closed (wrapped cs e) S)
 wrapped_closed [] e S u h = h
 wrapped_closed (c ∷ cs) e S u h = and_of _ _ u h
 
@@ -69,14 +69,14 @@ module _ (has_cell : ℕ → Bool) (n : ℕ) where
     plain : (y : ℕ) → In y S → has_cell y ≡ false → In y T
     cell : (y : ℕ) → In y S → has_cell y ≡ true → In (y + n) T
 
-  covers_group : (x m : ℕ) (S T : List ℕ) → Covers S T → Covers (scope_with x m S) (scope_of (cells_bound (cells_for has_cell n x m)) (scope_with x m T))
+  covers_group : (x m : ℕ) (S T : List ℕ) → Covers S T → Covers (scope_with x m S) (pushed (cells_bound (cells_for has_cell n x m)) (scope_with x m T))
   covers_group x m S T h = record { plain = λ y i a. go y i a (where_is x m y); cell = λ y i a. gone y i a (where_is x m y) }
     where
-      go : (y : ℕ) → In y (scope_with x m S) → has_cell y ≡ false → Where x m y → In y (scope_of (cells_bound (cells_for has_cell n x m)) (scope_with x m T))
+      go : (y : ℕ) → In y (scope_with x m S) → has_cell y ≡ false → Where x m y → In y (pushed (cells_bound (cells_for has_cell n x m)) (scope_with x m T))
       go y i a (inside j l q) = in_under (cells_bound (cells_for has_cell n x m)) y (scope_with x m T) (subst (λ z. In z (scope_with x m T)) (sym q) (in_group x m j T l))
       go y i a (outside p) = in_under (cells_bound (cells_for has_cell n x m)) y (scope_with x m T) (in_deeper x m y T (h.plain y (in_outside x m y S p i) a))
 
-      gone : (y : ℕ) → In y (scope_with x m S) → has_cell y ≡ true → Where x m y → In (y + n) (scope_of (cells_bound (cells_for has_cell n x m)) (scope_with x m T))
+      gone : (y : ℕ) → In y (scope_with x m S) → has_cell y ≡ true → Where x m y → In (y + n) (pushed (cells_bound (cells_for has_cell n x m)) (scope_with x m T))
       gone y i a (inside j l q) = in_list (cells_bound (cells_for has_cell n x m)) (y + n) (scope_with x m T) (key_there x m j y l q a)
       gone y i a (outside p) = in_under (cells_bound (cells_for has_cell n x m)) (y + n) (scope_with x m T) (in_deeper x m (y + n) T (h.cell y (in_outside x m y S p i) a))
 
@@ -91,14 +91,14 @@ module _ (has_cell : ℕ → Bool) (n : ℕ) where
       gone y i a (inside j l q) = absurd (let b : has_cell (x + j) ≡ false = all.at j l in let c : has_cell (x + j) ≡ true = rw q at a in cc)
       gone y i a (outside p) = in_deeper x m (y + n) T (h.cell y (in_outside x m y S p i) a)
 
-  covers_rec : (x m : ℕ) (S T : List ℕ) → AllAre has_cell n true x m → Covers S T → Covers (scope_with x m S) (scope_of (cells_bound (empty_cells n x m)) T)
+  covers_rec : (x m : ℕ) (S T : List ℕ) → AllAre has_cell n true x m → Covers S T → Covers (scope_with x m S) (pushed (cells_bound (empty_cells n x m)) T)
   covers_rec x m S T all h = record { plain = λ y i a. go y i a (where_is x m y); cell = λ y i a. gone y i a (where_is x m y) }
     where
-      go : (y : ℕ) → In y (scope_with x m S) → has_cell y ≡ false → Where x m y → In y (scope_of (cells_bound (empty_cells n x m)) T)
+      go : (y : ℕ) → In y (scope_with x m S) → has_cell y ≡ false → Where x m y → In y (pushed (cells_bound (empty_cells n x m)) T)
       go y i a (inside j l q) = absurd (let b : has_cell (x + j) ≡ true = all.at j l in let c : has_cell (x + j) ≡ false = rw q at a in cc)
       go y i a (outside p) = in_under (cells_bound (empty_cells n x m)) y T (h.plain y (in_outside x m y S p i) a)
 
-      gone : (y : ℕ) → In y (scope_with x m S) → has_cell y ≡ true → Where x m y → In (y + n) (scope_of (cells_bound (empty_cells n x m)) T)
+      gone : (y : ℕ) → In y (scope_with x m S) → has_cell y ≡ true → Where x m y → In (y + n) (pushed (cells_bound (empty_cells n x m)) T)
       gone y i a (inside j l q) = in_list (cells_bound (empty_cells n x m)) (y + n) T (keys_have has_cell n x m j (y + n) l (omega (arith, q)))
       gone y i a (outside p) = in_under (cells_bound (empty_cells n x m)) (y + n) T (h.cell y (in_outside x m y S p i) a)
 
@@ -124,14 +124,14 @@ module _ (has_cell : ℕ → Bool) (n : ℕ) where
         let m = count es in
         rw (count_same has_cell n es) (and_of _ _ (each_closed es S T r.0 h)
         (wrapped_closed (cells_for has_cell n x m) (converted has_cell n e) (scope_with x m T) (all_inside x m (cells_used (cells_for has_cell n x m)) T (used_inside has_cell n x m))
-        (tree_closed e (scope_with x m S) (scope_of (cells_bound (cells_for has_cell n x m)) (scope_with x m T)) r.3 (covers_group x m S T h))))
+        (tree_closed e (scope_with x m S) (pushed (cells_bound (cells_for has_cell n x m)) (scope_with x m T)) r.3 (covers_group x m S T h))))
     tree_closed (fix x ls e) S T r h =
         let m = count_lambdas ls in
         let g = covers_fix x m S T r.0 h in
         rw (count_lambdas_same has_cell n ls) (and_of _ _ (lambdas_closed ls (scope_with x m S) (scope_with x m T) r.2 g) (tree_closed e (scope_with x m S) (scope_with x m T) r.3 g))
     tree_closed (letrec site x es e) S T r h =
         let m = count es in
-        let U = scope_of (cells_bound (empty_cells n x m)) T in
+        let U = pushed (cells_bound (empty_cells n x m)) T in
         let g = covers_rec x m S T r.0 h in
         rw (empty_used has_cell n x m, count_same has_cell n es)
         (and_of _ _ (each_closed es (scope_with x m S) U r.2 g)
@@ -140,7 +140,7 @@ module _ (has_cell : ℕ → Bool) (n : ℕ) where
         (tree_closed e (scope_with x m S) (scope_with x m U) r.3 (covers_deeper x m (scope_with x m S) U g))))
     tree_closed (lambda name x m rest e) S T r h =
         wrapped_closed (cells_for has_cell n x m) (converted has_cell n e) (scope_with x m T) (all_inside x m (cells_used (cells_for has_cell n x m)) T (used_inside has_cell n x m))
-        (tree_closed e (scope_with x m S) (scope_of (cells_bound (cells_for has_cell n x m)) (scope_with x m T)) r.2 (covers_group x m S T h))
+        (tree_closed e (scope_with x m S) (pushed (cells_bound (cells_for has_cell n x m)) (scope_with x m T)) r.2 (covers_group x m S T h))
     tree_closed (call site spread f es) S T r h = and_of _ _ (tree_closed f S T r.0 h) (each_closed es S T r.1 h)
     tree_closed (operation site which es) S T r h = each_closed es S T r h
     tree_closed (new_cells cs e) S T r h = absurd r
@@ -156,7 +156,7 @@ module _ (has_cell : ℕ → Bool) (n : ℕ) where
     lambdas_closed (and_lambda name x m rest e ls) S T r h =
         and_of _ _
         (wrapped_closed (cells_for has_cell n x m) (converted has_cell n e) (scope_with x m T) (all_inside x m (cells_used (cells_for has_cell n x m)) T (used_inside has_cell n x m))
-        (tree_closed e (scope_with x m S) (scope_of (cells_bound (cells_for has_cell n x m)) (scope_with x m T)) r.0.2 (covers_group x m S T h)))
+        (tree_closed e (scope_with x m S) (pushed (cells_bound (cells_for has_cell n x m)) (scope_with x m T)) r.0.2 (covers_group x m S T h)))
         (lambdas_closed ls S T r.1 h)
 
   pub program_closed : (p : Source) → IsRight has_cell n p → IsTrue (closed_lambdas (converted_lambdas has_cell n p.library) [] && closed_each (converted_each has_cell n p.forms) [])

@@ -1,6 +1,6 @@
 -- In a flat program nodes name what there is and are well formed, and the limits hold.
 use Rattle.std.proofs.Common.{ℕ, suc, ◌+◌, Bool, true, false, List, [], ◌∷◌, ◌++◌, refl}
-use Rattle.std.specs.Prelude.{IsTrue, ◌&&◌, ◌||◌, not, nat_le, nat_eq}
+use Rattle.std.specs.Prelude.{cond, IsTrue, ◌&&◌, ◌||◌, not, nat_le, nat_eq}
 use Rattle.std.specs.List.{list_all}
 use Rattle.sch_word.proofs.facts.Booleans.{and_of, and_parts}
 use Rattle.sch_word.specs.trees.Shape as shapes
@@ -15,7 +15,6 @@ use Rattle.sch_cells.specs.Clear.{ClearEach}
 use Rattle.sch_flat.specs.Tree as flat
 use Rattle.sch_flat.specs.Measures as to
 use Rattle.sch_flat.specs.Valid.{body_fits, forms_fit}
-use Rattle.sch_closure.specs.Closed as closing
 use Rattle.sch_closure.specs.Closed.{place_from, placed, procedures, procedures_each, procedures_lambdas, fields_of, closed, closed_each, body_of, all_procedures, all_of_each, all_of_lambdas, closed_source}
 use Rattle.sch_closure.specs.Fresh.{Fresh, FreshEach, FreshLambdas}
 use Rattle.sch_closure.proofs.Same.{made_length, none_within}
@@ -157,7 +156,7 @@ field_test : (test' : Shape → Bool) (fs : List ℕ) (k x : ℕ) → IsTrue (te
 field_test test' [] k x p q = p
 field_test test' (y ∷ fs) k x p q = go (nat_eq x y) (field_test test' fs (suc k) x p q)
   where
-    go : (b : Bool) → IsTrue (test' (to.shape (flat.variable (place_from (suc k) fs x)))) → IsTrue (test' (to.shape (flat.variable (closing.this_or b (flat.free k) (place_from (suc k) fs x)))))
+    go : (b : Bool) → IsTrue (test' (to.shape (flat.variable (place_from (suc k) fs x)))) → IsTrue (test' (to.shape (flat.variable (cond b (flat.free k) (place_from (suc k) fs x)))))
     go true h = q
     go false h = h
 

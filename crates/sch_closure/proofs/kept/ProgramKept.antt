@@ -16,7 +16,6 @@ use Rattle.sch_word.specs.trees.NodeWeights as weights
 use Rattle.sch_word.specs.trees.NodeWeights.{all_entered, entered, free_of, procedures_weight, weight_of}
 use Rattle.sch_flat.specs.Tree as flat
 use Rattle.sch_flat.specs.Measures as to
-use Rattle.sch_closure.specs.Closed as closing
 use Rattle.sch_closure.specs.Closed.{place, place_from, placed, made_each, procedures, procedures_each, procedures_lambdas, fields_of, closed, closed_each, body_of, all_procedures, all_of_each, all_of_lambdas, closed_source}
 use Rattle.sch_closure.specs.Fresh.{Fresh, FreshEach, FreshLambdas}
 use Rattle.sch_closure.specs.Kept.{SameItems, procedure_of, procedures_in, forms_in, flat_forms}
@@ -35,7 +34,7 @@ field_same m [] k x h = refl
 field_same m (y ∷ fs) k x h = go (nat_eq x y) (field_same m fs (suc k) x h)
   where
     go : (b : Bool) → m shapes.variable ≡ m (to.shape (flat.variable (place_from (suc k) fs x)))
-        → m shapes.variable ≡ m (to.shape (flat.variable (closing.this_or b (flat.free k) (place_from (suc k) fs x))))
+        → m shapes.variable ≡ m (to.shape (flat.variable (cond b (flat.free k) (place_from (suc k) fs x))))
     go true i = sym h
     go false i = i
 

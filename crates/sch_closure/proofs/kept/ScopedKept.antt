@@ -1,19 +1,18 @@
 -- In a flat program each variable is bound in its body or a field of its record, and each record has the fields
 -- that its body asks for.
 use Rattle.std.proofs.Common.{◌≡◌, ℕ, zero, suc, ◌+◌, Bool, true, false, List, [], ◌∷◌, ◌++◌, length, map, Option, Some, None, refl, ap, subst, arith}
-use Rattle.std.specs.Prelude.{IsTrue, nat_eq, not, ◌||◌, ◌&&◌, slice_get}
+use Rattle.std.specs.Prelude.{cond, IsTrue, nat_eq, not, ◌||◌, ◌&&◌, slice_get}
 use Rattle.std.specs.List.{list_all}
 use Rattle.std.proofs.lemmas.Bool.{eqb-true, lt-ltb}
 use Rattle.sch_word.specs.trees.NumberSets.{has, union, without_repeats, In}
-use Rattle.sch_word.specs.trees.Bindings.{numbers, without, remove, scope_with}
+use Rattle.sch_word.specs.trees.Bindings.{numbers, without, remove, scope_with, pushed}
 use Rattle.sch_cells.specs.declared.tree.NewCell.{NewCell}
 use Rattle.sch_cells.specs.Tree.{Tree, Trees, Lambdas, constant, literal, variable, global, set_variable, set_global, define, branch, sequence, bind, fix, letrec, lambda, call, operation, new_cells, cell_get, cell_set, no_trees, and_tree, no_lambdas, and_lambda, count, count_lambdas}
-use Rattle.sch_cells.specs.Variables.{free, free_each, free_lambdas, bound, bound_each, bound_lambdas, cells_bound, cells_used, and_some, without_each, scope_of}
+use Rattle.sch_cells.specs.Variables.{free, free_each, free_lambdas, bound, bound_each, bound_lambdas, cells_bound, cells_used, and_some, without_each}
 use Rattle.sch_cells.specs.Clear.{Apart, Clear, ClearEach, ClearLambdas}
 use Rattle.sch_flat.specs.Tree as flat
 use Rattle.sch_flat.specs.Valid.{is_known, is_content, cells_scope, cell_variables, all_new, is_made, body_scoped}
 use Rattle.sch_flat.specs.Valid as valid
-use Rattle.sch_closure.specs.Closed as closing
 use Rattle.sch_closure.specs.Closed.{place, place_from, place_or_none, placed, procedures, procedures_each, procedures_lambdas, fields_of, made, closed, closed_each, made_each, body_of, all_procedures, all_of_each, all_of_lambdas}
 use Rattle.sch_closure.specs.Fresh.{Fresh, FreshEach, FreshLambdas, Stand, StandEach, StandLambdas}
 use Rattle.sch_closure.proofs.Sets.{remove_other}
@@ -59,7 +58,7 @@ place_known k [] own x h = h refl
 place_known k (y ∷ fs) own x h = go (nat_eq x y) h (λ g. place_known (suc k) fs own x g)
   where
     go : (b : Bool) → ((b || has x fs) ≡ false → In x own) → ((has x fs ≡ false → In x own) → IsTrue (is_known own (suc k + length fs) (place_from (suc k) fs x)))
-        → IsTrue (is_known own (k + suc (length fs)) (closing.this_or b (flat.free k) (place_from (suc k) fs x)))
+        → IsTrue (is_known own (k + suc (length fs)) (cond b (flat.free k) (place_from (suc k) fs x)))
     go true h deeper = lt-ltb k (k + suc (length fs)) (omega arith)
     go false h deeper = let p : suc k + length fs ≡ k + suc (length fs) = omega arith in subst (λ n. IsTrue (is_known own n (place_from (suc k) fs x))) p (deeper h)
 
@@ -112,7 +111,7 @@ within_with : (x m : ℕ) (own S : List ℕ) → Within own S → Within (scope_
 within_with x zero own S w = w
 within_with x (suc m) own S w = within_with (suc x) m (x ∷ own) (x ∷ S) (within_push x own S w)
 
-within_cells : (gs : List ℕ) (cs : List NewCell) (own S : List ℕ) → Within own S → Within (cells_scope (map (placed gs) cs) own) (scope_of (cells_bound cs) S)
+within_cells : (gs : List ℕ) (cs : List NewCell) (own S : List ℕ) → Within own S → Within (cells_scope (map (placed gs) cs) own) (pushed (cells_bound cs) S)
 within_cells gs [] own S w = w
 within_cells gs (c ∷ cs) own S w = within_cells gs cs (c.variable ∷ own) (c.variable ∷ S) (within_push c.variable own S w)
 
@@ -187,7 +186,7 @@ module _ (all : List flat.Body) where
         rw (variables_same fs cs)
         (and_of _ _ (contents_known fs own cs (known_left (cells_used cs) (without_each (cells_bound cs) (free e)) k))
         (and_of _ _ (all_are_new (cells_bound cs) own (distinct_left (cells_bound cs) (bound e) d) (new_here (cells_bound cs) own S w c'.1))
-        (scoped e fs (cells_scope (map (placed fs) cs) own) (scope_of (cells_bound cs) S) n (known_cells fs cs (free e) k') (within_cells fs cs own S w) c'.2 f.1
+        (scoped e fs (cells_scope (map (placed fs) cs) own) (pushed (cells_bound cs) S) n (known_cells fs cs (free e) k') (within_cells fs cs own S w) c'.2 f.1
         (distinct_right (cells_bound cs) (bound e) d) t)))
     scoped (cell_get x) fs own S n k w c' f d t = is_one_known fs own (x ∷ []) x k (in_here x [])
     scoped (cell_set x e) fs own S n k w c' f d t =
@@ -237,7 +236,7 @@ module _ (all : List flat.Body) where
         list_both _ (all_procedures body_of g n) _ (bodies_known g fs S n c'.0 f.0 (distinct_left (bound g) (bound_each es) d) t.0)
         (each_bodies_known es fs S (n + procedures g) c'.1 f.1 (distinct_right (bound g) (bound_each es) d) t.1)
     bodies_known (operation site which es) fs S n c' f d t = each_bodies_known es fs S n c' f d t
-    bodies_known (new_cells cs e) fs S n c' f d t = bodies_known e fs (scope_of (cells_bound cs) S) n c'.2 f.1 (distinct_right (cells_bound cs) (bound e) d) t
+    bodies_known (new_cells cs e) fs S n c' f d t = bodies_known e fs (pushed (cells_bound cs) S) n c'.2 f.1 (distinct_right (cells_bound cs) (bound e) d) t
     bodies_known (cell_get x) fs S n c' f d t = refl
     bodies_known (cell_set x e) fs S n c' f d t = bodies_known e fs S n c'.1 f d t
 

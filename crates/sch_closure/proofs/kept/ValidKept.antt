@@ -28,7 +28,6 @@ use Rattle.sch_flat.specs.Measures as to
 use Rattle.sch_flat.specs.Run as to_run
 use Rattle.sch_flat.specs.Valid as to_valid
 use Rattle.sch_flat.specs.Valid.{has_fields, body_scoped, body_fits, ascending}
-use Rattle.sch_closure.specs.Closed as closing
 use Rattle.sch_closure.specs.Closed.{place_from, procedures, procedures_each, procedures_lambdas, fields_of, captured, body_of, all_procedures, all_of_each, all_of_lambdas, closed_source, labels, starts, closed, closed_each}
 use Rattle.sch_closure.specs.Fresh.{Fresh, FreshEach, FreshLambdas, StandLambdas}
 use Rattle.sch_closure.proofs.Same.{none_within, runs_alike}
@@ -48,7 +47,7 @@ field_site [] k x = refl
 field_site (y ∷ fs) k x = go (nat_eq x y) (field_site fs (suc k) x)
   where
     go : (b : Bool) → shapes.site_of (to.shape (flat.variable (place_from (suc k) fs x))) ≡ []
-        → shapes.site_of (to.shape (flat.variable (closing.this_or b (flat.free k) (place_from (suc k) fs x)))) ≡ []
+        → shapes.site_of (to.shape (flat.variable (cond b (flat.free k) (place_from (suc k) fs x)))) ≡ []
     go true h = refl
     go false h = h
 

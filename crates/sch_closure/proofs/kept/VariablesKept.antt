@@ -1,6 +1,6 @@
 -- A body of a flat program may need as many variables as the procedure that it comes from.
 use Rattle.std.proofs.Common.{◌≡◌, ℕ, zero, suc, ◌+◌, Bool, true, false, List, [], ◌∷◌, refl, subst, arith}
-use Rattle.std.specs.Prelude.{nat_eq, not, ◌||◌}
+use Rattle.std.specs.Prelude.{cond, nat_eq, not, ◌||◌}
 use Rattle.std.proofs.lemmas.Bool.{eqb-true}
 use Rattle.sch_word.specs.trees.NumberSets.{has, union, In}
 use Rattle.sch_word.specs.trees.Bindings.{Bindings, bound_to, this_or, with_variables, numbers, without, remove}
@@ -11,12 +11,11 @@ use Rattle.sch_cells.specs.Bodies as from
 use Rattle.sch_cells.proofs.Unassigned.{all_unassigned, bound_count_unassigned}
 use Rattle.sch_word.specs.values.Options.{or_false}
 use Rattle.sch_word.specs.trees.VariableCounts.{one_unless}
-use Rattle.sch_cells.specs.Bodies.{counts_nothing, all_same, with_cells}
+use Rattle.sch_cells.specs.Bodies.{counts_nothing, all_same, once_with_cells}
 use Rattle.sch_cells.specs.Clear.{Apart}
 use Rattle.sch_flat.specs.Tree as flat
 use Rattle.sch_flat.specs.Measures as to
 use Rattle.sch_flat.specs.Measures.{one_unless_simple}
-use Rattle.sch_closure.specs.Closed as closing
 use Rattle.sch_closure.specs.Closed.{place, place_from, placed, procedures, procedures_each, procedures_lambdas, fields_of, closed, closed_each, body_of}
 use Rattle.sch_closure.specs.Fresh.{Fresh, FreshEach, FreshLambdas}
 use Rattle.sch_closure.proofs.Sets.{remove_other}
@@ -86,7 +85,7 @@ counts_with : {fs xs : List ℕ} {once : Bindings Bool} (x m : ℕ) → Apart (n
 counts_with x zero a k = k
 counts_with {fs} x (suc m) a k = counts_with (suc x) m (apart_tail x (numbers (suc x) m) fs a) (counts_push x (apart_head x (numbers (suc x) m) fs a) k)
 
-counts_cells : {fs xs : List ℕ} {once : Bindings Bool} (cs : List NewCell) → Apart (cells_bound cs) fs → Counts fs (without_each (cells_bound cs) xs) once → Counts fs xs (with_cells cs once)
+counts_cells : {fs xs : List ℕ} {once : Bindings Bool} (cs : List NewCell) → Apart (cells_bound cs) fs → Counts fs (without_each (cells_bound cs) xs) once → Counts fs xs (once_with_cells cs once)
 counts_cells [] a k = k
 counts_cells {fs} (c ∷ cs) a k = counts_cells cs (apart_tail c.variable (cells_bound cs) fs a) (counts_push c.variable (apart_head c.variable (cells_bound cs) fs a) k)
 
@@ -95,7 +94,7 @@ field_counts k [] x h = absurd (cc)
 field_counts k (y ∷ fs) x h = go (nat_eq x y) h (λ g. field_counts (suc k) fs x g)
   where
     go : (b : Bool) → (b || has x fs) ≡ true → (has x fs ≡ true → one_unless_simple (flat.variable (place_from (suc k) fs x)) ≡ 1)
-        → one_unless_simple (flat.variable (closing.this_or b (flat.free k) (place_from (suc k) fs x))) ≡ 1
+        → one_unless_simple (flat.variable (cond b (flat.free k) (place_from (suc k) fs x))) ≡ 1
     go true h deeper = refl
     go false h deeper = deeper h
 

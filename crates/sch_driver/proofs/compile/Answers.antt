@@ -84,6 +84,7 @@ returns-clause-compiled c =
           laid_out = does.laid_out;
           follows = record {
             runs = does.follows (run p orders limits.heap limits.depth) same;
+            sites = c.in_ok-program.program.sited;
             orders = subst (λ sites. IsTrue (is_order_table sites orders)) runs.sites c.in_ok-assembled.ensures.permutations;
           };
         };

@@ -172,17 +172,19 @@ more_variables = refl
 body_variables : is_valid (program 1 [] (function 0 (sequence (expressions (replicate 1002 (global 0)))) ∷ [])) ≡ false
 body_variables = refl
 
--- a lambda inside six of 200 formals, with a number of free variables
+-- a lambda of one formal inside five lets of 200 variables, and in it a lambda with a number of free variables
 abbrev locals_from : (k count : ℕ) → List Expression
 locals_from k zero = []
 locals_from k (suc count) = local k ∷ locals_from (suc k) count
 
-abbrev inside_lambdas : ℕ → Expression → Expression
-inside_lambdas zero e = e
-inside_lambdas (suc n) e = function 200 (inside_lambdas n e)
+abbrev inside_lets : (site lets : ℕ) → Expression → Expression
+inside_lets site zero e = e
+inside_lets site (suc lets) e = bind site (expressions (replicate 200 (number (pos 1)))) (inside_lets (suc site) lets e)
 
 abbrev free_of : ℕ → Source
-free_of variables = program 0 [] (inside_lambdas 6 (function 0 (sequence (expressions (locals_from 0 variables)))) ∷ [])
+free_of variables =
+    let inner = function 0 (sequence (expressions (locals_from 0 variables))) in
+    program 0 (replicate 5 200) (inside_lets 0 5 (function 1 inner) ∷ [])
 
 thousand_free : is_valid (free_of 1000) ≡ true
 thousand_free = refl
@@ -200,15 +202,15 @@ two_thousand_levels = refl
 more_levels : is_valid (program 0 [] (tests_of 2000 ∷ [])) ≡ false
 more_levels = refl
 
--- groups of one procedure, each in the body of the one before: two levels each
-abbrev groups_of : ℕ → Expression
-groups_of zero = number (pos 1)
-groups_of (suc n) = fix (and_lambda [] 0 false (groups_of n) no_lambdas) (number (pos 2))
+-- groups of one procedure, each in the body of the one before, round an expression: two levels each
+abbrev groups_of : ℕ → Expression → Expression
+groups_of zero e = e
+groups_of (suc n) e = fix (and_lambda [] 0 false (groups_of n e) no_lambdas) (number (pos 2))
 
-many_groups : is_valid (program 0 [] (groups_of 999 ∷ [])) ≡ true
+many_groups : is_valid (program 0 [] (groups_of 10 (tests_of 1979) ∷ [])) ≡ true
 many_groups = refl
 
-more_groups : is_valid (program 0 [] (groups_of 1000 ∷ [])) ≡ false
+more_groups : is_valid (program 0 [] (groups_of 10 (tests_of 1980) ∷ [])) ≡ false
 more_groups = refl
 
 -- ## Order tables

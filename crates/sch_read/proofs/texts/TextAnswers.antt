@@ -27,7 +27,7 @@ pub found_of : (text : List ℕ) (r : Result (List Datum) ReadError) → Answers
 found_of text (Ok ds) h = (scan 0 [] text, text-cuts text, accepts-back max_nesting (scan 0 [] text) (data_of ds) h)
 found_of text (Err e) h = tt
 
-fault-has : (text : List ℕ) (f : Fault) → run max_nesting [] none (scan 0 [] text) ≡ Err f → HasFault text f
+pub fault-has : (text : List ℕ) (f : Fault) → run max_nesting [] none (scan 0 [] text) ≡ Err f → HasFault text f
 fault-has text f h = (scan 0 [] text, text-cuts text, first_fault max_nesting (scan 0 [] text) f h)
 
 -- what follows where the machine answers with a fault holds of the fault that the error names

@@ -1,6 +1,7 @@
 -- How the code joins tokens to data: one after another, with a stack of what is open. No public clause
 -- cites this; it is proved to give the grammar's data and the first fault.
 use Rattle.std.specs.Prelude.{ℕ, zero, suc, List, [], ◌∷◌, Result, Ok, Err}
+use Rattle.sch_word.specs.values.Options.{when_ok}
 use Rattle.sch_read.specs.Grammar.{Token, Open, Close, Dot, Plain, Huge, Bad, Opener, parenthesis, hash_parenthesis, quote_mark, bad_token, Datum, Data, atom, list, vector, none}
 use Rattle.sch_read.specs.Grammar.{cons, join, one, quoted, with_tail}
 use Rattle.sch_read.specs.Fault.{Fault, Unclosed, StrayClose, DeepNesting, LiteralRange, Flawed}
@@ -100,14 +101,10 @@ abbrev pub finish : List Frame → Data → Result Data Fault
 finish [] top = Ok top
 finish (f ∷ fs) top = Err (Unclosed (place_of f))
 
-abbrev pub and_then : {A B : Type 0} → Result A Fault → (A → Result B Fault) → Result B Fault
-and_then (Ok x) f = f x
-and_then (Err e) f = Err e
-
 -- what the tokens give
 abbrev pub run : ℕ → List Frame → Data → List Token → Result Data Fault
 run n fs top [] = finish fs top
-run n fs top (t ∷ ts) = and_then (step n fs top t) (λ s. run s.spare s.open_ s.top ts)
+run n fs top (t ∷ ts) = when_ok (step n fs top t) (λ s. run s.spare s.open_ s.top ts)
 
 abbrev pub runs : State → List Token → Result Data Fault
 runs s ts = run s.spare s.open_ s.top ts

@@ -1,4 +1,4 @@
--- How items use the address of the frame, worked.
+-- How items use the address of the frame, and how the heap's register goes on, worked.
 use Rattle.std.proofs.Common.{◌≡◌, [], ◌∷◌, map, replicate, true, false, Some, refl}
 use Rattle.std.specs.Prelude.{pos, negsuc}
 use Rattle.std.specs.List.{list_all}
@@ -9,27 +9,28 @@ use Rattle.sch_control.specs.declared.operation.Operand.TheVariants as operand
 use Rattle.sch_control.specs.declared.operation.Operation.TheVariants as operation
 use Rattle.sch_frames.specs.declared.instruction.Instruction.TheVariants.{Do, Return}
 use Rattle.sch_frames.specs.Tree.{Source}
-use Rattle.sch_insn.specs.declared.insn.Arg.TheVariants.{Reg}
+use Rattle.sch_insn.specs.declared.insn.Arg.TheVariants.{Reg, Base}
 use Rattle.sch_insn.specs.declared.insn.Insn.TheVariants as insn
 use Rattle.sch_asm.specs.declared.item.Item.TheVariants as item
 use Rattle.sch_select_memory.specs.RestCode.{rest_routine, slot_code}
+use Rattle.sch_select_operations.specs.ObjectCode.{pair_code, string_code, vector_code}
 use Rattle.sch_runtime.specs.FrameRegister.{leaves_frame}
 use Rattle.sch_select_data.specs.Data.{heap_of}
-use Rattle.sch_select.specs.FrameWords.{begins_frames, keeps_address, keeps_frame, keeps_frames}
+use Rattle.sch_select.specs.FrameWords.{begins_and_keeps, keeps_address, keeps_frame, keeps_frames}
 use Rattle.sch_select.specs.Program.{program_code, selected_code}
 use Rattle.sch_select.proofs.items.StoreExamples.{part, slot}
 
--- the frame's register is a base, moves by a number, is set to one, or is not there
+-- the frame's register is a base, moves by a number, or is not there
 kept : map keeps_address (insn.MovTo slot 3 ∷ insn.MovFrom 3 slot ∷ insn.AddFrom 0 slot ∷ insn.AddNumber slot (pos 1) ∷ insn.AddNumber (Reg 5) (pos 16)
-    ∷ insn.SubNumber (Reg 5) (pos 16) ∷ insn.MovWord 5 (pos 16) ∷ insn.MovTo part 3 ∷ insn.Lea 3 part ∷ insn.JumpTo (Reg 15) ∷ [])
+    ∷ insn.SubNumber (Reg 5) (pos 16) ∷ insn.MovWord 3 (pos 16) ∷ insn.MovTo part 3 ∷ insn.Lea 3 part ∷ insn.JumpTo (Reg 15) ∷ [])
     ≡ true ∷ true ∷ true ∷ true ∷ true ∷ true ∷ true ∷ true ∷ true ∷ true ∷ []
 kept = refl
 
 -- its address goes elsewhere: to another register, into memory, by arithmetic, as the address of a word; or it gets a word of a
--- register or of memory
+-- register or of memory, or a number
 lost : map keeps_address (insn.MovTo (Reg 3) 5 ∷ insn.MovFrom 3 (Reg 5) ∷ insn.MovTo part 5 ∷ insn.MovTo slot 5 ∷ insn.AddTo (Reg 3) 5 ∷ insn.AddFrom 3 (Reg 5)
-    ∷ insn.Lea 3 slot ∷ insn.CmpTo (Reg 3) 5 ∷ insn.MovTo (Reg 5) 3 ∷ insn.MovFrom 5 slot ∷ insn.JumpTo (Reg 5) ∷ [])
-    ≡ false ∷ false ∷ false ∷ false ∷ false ∷ false ∷ false ∷ false ∷ false ∷ false ∷ false ∷ []
+    ∷ insn.Lea 3 slot ∷ insn.CmpTo (Reg 3) 5 ∷ insn.MovTo (Reg 5) 3 ∷ insn.MovFrom 5 slot ∷ insn.MovWord 5 (pos 16) ∷ insn.JumpTo (Reg 5) ∷ [])
+    ≡ replicate 12 false
 lost = refl
 
 -- nor is it the register beside another operand,
@@ -42,7 +43,8 @@ beside = refl
 -- nor the only operand, unless a number is added to it or taken from it
 alone :
     (map keeps_address (insn.MovNumber (Reg 5) (pos 8) ∷ insn.OrNumber (Reg 5) (pos 8) ∷ insn.AndNumber (Reg 5) (pos 8) ∷ insn.XorNumber (Reg 5) (pos 8)
-    ∷ insn.CmpNumber (Reg 5) (pos 8) ∷ insn.Neg (Reg 5) ∷ insn.Shl (Reg 5) 3 ∷ insn.Idiv (Reg 5) ∷ []) ≡ replicate 8 false)
+    ∷ insn.CmpNumber (Reg 5) (pos 8) ∷ insn.Neg (Reg 5) ∷ insn.Shl (Reg 5) 3 ∷ insn.Idiv (Reg 5) ∷ insn.Shr (Reg 5) 3 ∷ insn.Sar (Reg 5) 3 ∷ insn.OrNumber8 (Reg 5) (pos 8)
+    ∷ insn.AndNumber8 (Reg 5) (pos 8) ∷ insn.XorNumber8 (Reg 5) (pos 8) ∷ insn.CmpNumber8 (Reg 5) (pos 8) ∷ insn.AddTo (Reg 5) 3 ∷ insn.TestTo (Reg 5) 3 ∷ []) ≡ replicate 16 false)
     × (map keeps_address (insn.AddNumber8 (Reg 5) (pos 8) ∷ insn.SubNumber8 (Reg 5) (pos 8) ∷ []) ≡ true ∷ true ∷ [])
 alone = (refl, refl)
 
@@ -66,11 +68,38 @@ named :
     ∷ item.LoadWord 0 0x10000440 ∷ item.StoreWord 0x10000448 0 ∷ []) ≡ true ∷ true ∷ false ∷ false ∷ false ∷ false ∷ []
 named = refl
 
--- RBP is set to where the frames begin, and other registers to any number.
+-- ## Where both registers begin
+
+-- the first item sets RBP to where the frames begin, and the second the heap's register to where the heap does;
 begun :
-    map (begins_frames 0x10000340 0x10000440) (insn.MovWord 5 (pos 0x10000440) ∷ insn.MovWord 5 (pos 0x10000448) ∷ insn.MovWord 5 (negsuc 0)
-    ∷ insn.MovWord 0 (pos 0x10000448) ∷ insn.MovWord 12 (pos 0x10000340) ∷ insn.AddNumber (Reg 5) (pos 16) ∷ []) ≡ true ∷ false ∷ false ∷ true ∷ true ∷ true ∷ []
+    map (λ is. begins_and_keeps 0x10000340 0x10000440 (item.Plain (insn.MovWord 5 (pos 0x10000440)) ∷ item.Plain (insn.MovWord 12 (pos 0x10000340)) ∷ is))
+    ([] ∷ (item.Plain (insn.MovWord 13 (pos 1)) ∷ []) ∷ (item.Plain (insn.MovWord 0 (pos 0x10000448)) ∷ item.Plain (insn.AddNumber (Reg 12) (pos 16)) ∷ [])
+    ∷ vector_code 7 [] ∷ string_code 7 [] ∷ pair_code 0x10000440 [] ∷ []) ≡ replicate 6 true
 begun = refl
+
+-- to another number, or to each other's, or another register in the place of one, or one alone, or in the other order, or none;
+not_begun :
+    map (begins_and_keeps 0x10000340 0x10000440)
+    ((item.Plain (insn.MovWord 5 (pos 0x10000448)) ∷ item.Plain (insn.MovWord 12 (pos 0x10000340)) ∷ [])
+    ∷ (item.Plain (insn.MovWord 5 (negsuc 0)) ∷ item.Plain (insn.MovWord 12 (pos 0x10000340)) ∷ [])
+    ∷ (item.Plain (insn.MovWord 5 (pos 0x10000440)) ∷ item.Plain (insn.MovWord 12 (pos 0x10000350)) ∷ [])
+    ∷ (item.Plain (insn.MovWord 5 (pos 0x10000440)) ∷ item.Plain (insn.MovWord 12 (negsuc 0)) ∷ [])
+    ∷ (item.Plain (insn.MovWord 5 (pos 0x10000340)) ∷ item.Plain (insn.MovWord 12 (pos 0x10000440)) ∷ [])
+    ∷ (item.Plain (insn.MovWord 5 (pos 0x10000440)) ∷ item.Plain (insn.MovWord 13 (pos 1)) ∷ [])
+    ∷ (item.Plain (insn.MovWord 13 (pos 1)) ∷ item.Plain (insn.MovWord 12 (pos 0x10000340)) ∷ [])
+    ∷ (item.Plain (insn.MovWord 12 (pos 0x10000340)) ∷ item.Plain (insn.MovWord 5 (pos 0x10000440)) ∷ [])
+    ∷ (item.Plain (insn.MovWord 13 (pos 0x10000440)) ∷ item.Plain (insn.MovWord 12 (pos 0x10000340)) ∷ [])
+    ∷ (item.Plain (insn.MovWord 5 (pos 0x10000440)) ∷ item.Plain (insn.MovWord 13 (pos 0x10000340)) ∷ [])
+    ∷ (item.Plain (insn.MovWord 5 (pos 0x10000440)) ∷ []) ∷ [] ∷ []) ≡ replicate 12 false
+not_begun = refl
+
+-- and no other item sets one of them, be it to that number again, or uses it otherwise than as the instructions above and those of HeapRegister.
+kept_behind :
+    map (λ i. begins_and_keeps 0x10000340 0x10000440 (item.Plain (insn.MovWord 5 (pos 0x10000440)) ∷ item.Plain (insn.MovWord 12 (pos 0x10000340)) ∷ i ∷ []))
+    (item.Plain (insn.MovWord 5 (pos 0x10000440)) ∷ item.Plain (insn.MovWord 12 (pos 0x10000340)) ∷ item.Plain (insn.MovFrom 12 (Base 0)) ∷ item.Plain (insn.MovTo (Reg 12) 5)
+    ∷ item.Plain (insn.MovTo (Reg 5) 12) ∷ item.Plain (insn.AddNumber (Reg 12) (pos 8)) ∷ item.LoadWord 12 0x10000000 ∷ item.StoreWord 0x10000000 12 ∷ item.LoadLabel 12 7
+    ∷ item.LoadWord 5 0x10000000 ∷ item.StoreWord 0x10000000 5 ∷ item.LoadLabel 5 7 ∷ item.LoadWord 0 0x10000339 ∷ []) ≡ replicate 13 false
+kept_behind = refl
 
 -- ## A program: a procedure of seven required operands and a rest variable returns the list, which is in its second slot
 

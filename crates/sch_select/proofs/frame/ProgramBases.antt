@@ -1,5 +1,5 @@
--- In a program's items the address that the routine of lists leaves in RCX is overwritten before it is read, and it is known what the
--- bases of all operands have.
+-- In a program's items the address that the routine of lists leaves in RCX is overwritten before it is read, also by a routine, and it is
+-- known what the bases of all operands have.
 use Rattle.std.proofs.Common.{◌≡◌, ℕ, suc, ◌+◌, ◌-◌, ◌≤◌, ◌<◌, List, [], ◌∷◌, length, Bool, Option, Some, None, true, false, cond}
 use Rattle.std.proofs.Common.{refl, ap, sym, ◌∙◌, subst, ◌&&◌, ◌||◌, arith}
 use Rattle.std.specs.Prelude.{ℤ, IsTrue, pos, not, nat_eq, nat_lt, nat_le}
@@ -49,6 +49,7 @@ use Rattle.sch_asm.specs.Narrow.{narrow, narrowed, operand_of, short_number, wit
 use Rattle.sch_asm.proofs.NarrowItems.{item_same}
 use Rattle.sch_asm.proofs.Shortest.{narrow_same}
 use Rattle.sch_runtime.specs.FrameRegister.{has_base, is_itself}
+use Rattle.sch_runtime.specs.HandedWord.{is_handed, reads_register, sets_register}
 use Rattle.sch_select_memory.specs.Addresses.{body_label, place_operand, global_address, part_operand}
 use Rattle.sch_select_memory.specs.RestCode.{list_code, list_label}
 use Rattle.sch_select_operations.specs.ArithmeticCode.{modulo_code}
@@ -65,7 +66,7 @@ use Rattle.sch_select_operations.proofs.simulation.SelectedPrograms.{members_few
 use Rattle.sch_select_operations.proofs.simulation.SelectedPrograms.{read_selected, selects, source_selected, takes, three_selected}
 use Rattle.sch_select_data.specs.Data.{heap_of}
 use Rattle.sch_select.specs.KnownBases.{bases_known, compares_tag, has_known_base, has_word, knows, masks_tag, tests_tag}
-use Rattle.sch_select.specs.SlotAddress.{overwrites_slot, reached_labels, reads_register, sets_register}
+use Rattle.sch_select.specs.SlotAddress.{overwrites_slot, reached_labels}
 use Rattle.sch_select.specs.Program.{count_code, entry_code, form_code, forms_code, labels_end, own_label, passed_code, selected_code}
 use Rattle.sch_select.specs.Reach.{names_below}
 use Rattle.sch_select.specs.Select.{all_labels_needed, body_code, copy_insn, instruction_code, labels_needed, operand_needs, operation_needs}
@@ -98,6 +99,27 @@ below_clean n l labels b = by (nat_lt l FIRST_LABEL)
     by true = b
     by false = b
 
+-- ## Labels of routines that are handed a word in RCX
+
+unhanded : (l : ℕ) → 17 < l → nat_eq l 24 ≡ false → is_handed l ≡ false
+unhanded l lt last =
+    or_from (nat_eq l 13) _ (ne_eqb l 13 (λ e. omega (arith, e, lt))) (or_from (nat_eq l 14) _ (ne_eqb l 14 (λ e. omega (arith, e, lt)))
+    (or_from (nat_eq l 16) _ (ne_eqb l 16 (λ e. omega (arith, e, lt))) (or_from (nat_eq l 17) _ (ne_eqb l 17 (λ e. omega (arith, e, lt)))
+    (or_from (nat_eq l 24) false last refl))))
+
+-- Labels of bodies are none, nor is that of a routine that makes a list whose first operand is in a register:
+loadable : (l : ℕ) → FIRST_LABEL ≤ l → not (is_handed l) ≡ true
+loadable l low = not_from_false _ (unhanded l (omega (arith, low)) (ne_eqb l 24 (λ e. omega (arith, e, low))))
+
+-- jumps go to them whatever RCX has
+passable : (may : Bool) (l : ℕ) → FIRST_LABEL ≤ l → (not (is_handed l) || not may) ≡ true
+passable may l low = or_left (not (is_handed l)) (not may) (loadable l low)
+
+listed : (may : Bool) (required : ℕ) → required < 6 → (not (is_handed (list_label required)) || not may) ≡ true
+listed may required few =
+    let l = list_label required in
+    or_left (not (is_handed l)) (not may) (not_from_false _ (unhanded l (omega (arith, few)) (ne_eqb l 24 (λ e. omega (arith, e, few)))))
+
 -- ## Registers of bodies
 
 apart : (r other : ℕ) → is_register other ≡ false → is_register r ≡ true → nat_eq r other ≡ false
@@ -121,6 +143,10 @@ module _ (count words globals symbols literals heap_end : ℕ) where
   abbrev Set : ℕ → List Item → Type 0
   Set n is = (labels : List ℕ) → Below n labels → (rax rcx closure : Bool)
       → (overwrites_slot own false labels is ≡ true) × (bases_known rax rcx closure is ≡ true)
+
+  -- behind a test of a label that holds
+  both : (a b c : Bool) → a ≡ true → (b ≡ true) × (c ≡ true) → ((a && b) ≡ true) × (c ≡ true)
+  both a b c e p = (and_from a b e p.0, p.1)
 
   earlier : (n k : ℕ) (is : List Item) → n ≤ k → Fine k is → Fine n is
   earlier n k is le h may labels b = h may labels (below_more n k labels le b)
@@ -180,13 +206,18 @@ module _ (count words globals symbols literals heap_end : ℕ) where
       let clean : (nat_lt l own || has l labels) ≡ false = or_from (nat_lt l own) (has l labels) (le-ltb l own low) (b l le) in
       (subst (λ may. overwrites_slot own may labels is ≡ true) (sym clean) (h labels b false false false).0, (h labels b false false false).1)
 
-  set_jump_if : (n c l : ℕ) (is : List Item) → Set n is → Set n (item.JumpIf c l ∷ is)
-  set_jump_if n c l is h labels b rax rcx closure = h (reached_labels false l labels) (below_clean n l labels b) rax rcx closure
+  set_jump_if : (n c l : ℕ) (is : List Item) → own ≤ l → Set n is → Set n (item.JumpIf c l ∷ is)
+  set_jump_if n c l is low h labels b rax rcx closure =
+      both _ _ _ (passable false l (omega (arith, low))) (h (reached_labels false l labels) (below_clean n l labels b) rax rcx closure)
 
-  set_jump : (n l : ℕ) (is : List Item) → Set n is → Set n (item.Jump l ∷ is)
-  set_jump n l is h labels b rax rcx closure = h (reached_labels false l labels) (below_clean n l labels b) rax rcx closure
+  set_jump : (n l : ℕ) (is : List Item) → own ≤ l → Set n is → Set n (item.Jump l ∷ is)
+  set_jump n l is low h labels b rax rcx closure =
+      both _ _ _ (passable false l (omega (arith, low))) (h (reached_labels false l labels) (below_clean n l labels b) rax rcx closure)
 
-  module _ (n : ℕ) (rest : List Item) (h : Fine (n + 4) rest) where
+  module _ (n : ℕ) (rest : List Item) (h : Fine (n + 4) rest) (low : own ≤ n) where
+    free : FIRST_LABEL ≤ n
+    free = omega (arith, low)
+
     more : (labels : List ℕ) → Below n labels → Below (n + 4) labels
     more labels b = below_more n (n + 4) labels (omega arith) b
 
@@ -197,63 +228,63 @@ module _ (count words globals symbols literals heap_end : ℕ) where
     returned labels b = below_with (n + 4) n labels (omega arith) (more labels b)
 
     unary_fine : (which : Primitive) → Fine n (unary_code n which rest)
-    unary_fine IsBoolean may labels b rax rcx closure = h _ _ (tested may labels b) _ _ _
-    unary_fine IsPair may labels b rax rcx closure = h _ _ (tested may labels b) _ _ _
-    unary_fine IsNull may labels b rax rcx closure = h _ _ (tested may labels b) _ _ _
-    unary_fine IsSymbol may labels b rax rcx closure = h _ _ (tested may labels b) _ _ _
-    unary_fine IsInteger may labels b rax rcx closure = h _ _ (tested may labels b) _ _ _
-    unary_fine IsChar may labels b rax rcx closure = h _ _ (tested may labels b) _ _ _
-    unary_fine IsString may labels b rax rcx closure = h _ _ (tested may labels b) _ _ _
-    unary_fine IsVector may labels b rax rcx closure = h _ _ (tested may labels b) _ _ _
-    unary_fine IsProcedure may labels b rax rcx closure = h _ _ (tested may labels b) _ _ _
-    unary_fine Put may labels b rax rcx closure = h _ _ (returned labels b) _ _ _
+    unary_fine IsBoolean may labels b rax rcx closure = both _ _ _ (passable may n free) (h _ _ (tested may labels b) _ _ _)
+    unary_fine IsPair may labels b rax rcx closure = both _ _ _ (passable may n free) (h _ _ (tested may labels b) _ _ _)
+    unary_fine IsNull may labels b rax rcx closure = both _ _ _ (passable may n free) (h _ _ (tested may labels b) _ _ _)
+    unary_fine IsSymbol may labels b rax rcx closure = both _ _ _ (passable may n free) (h _ _ (tested may labels b) _ _ _)
+    unary_fine IsInteger may labels b rax rcx closure = both _ _ _ (passable may n free) (h _ _ (tested may labels b) _ _ _)
+    unary_fine IsChar may labels b rax rcx closure = both _ _ _ (passable may n free) (h _ _ (tested may labels b) _ _ _)
+    unary_fine IsString may labels b rax rcx closure = both _ _ _ (passable may n free) (h _ _ (tested may labels b) _ _ _)
+    unary_fine IsVector may labels b rax rcx closure = both _ _ _ (passable may n free) (h _ _ (tested may labels b) _ _ _)
+    unary_fine IsProcedure may labels b rax rcx closure = both _ _ _ (passable may n free) (h _ _ (tested may labels b) _ _ _)
+    unary_fine Put may labels b rax rcx closure = both _ _ _ (loadable n free) (h _ _ (returned labels b) _ _ _)
     unary_fine _ may labels b rax rcx closure = h _ _ (more labels b) _ _ _
 
-    -- the own labels are reached by these jumps alone
-    module _ (low : own ≤ n) where
-      -- behind its labels n + 2 and n + 1, and all of it but the first comparison
-      abbrev adding : List Item
-      adding = item.Plain (AddTo (Reg 0) 1) ∷ (item.Label n ∷ rest)
+    -- The own labels are reached by these jumps alone.
+    -- behind its labels n + 2 and n + 1, and all of it but the first comparison
+    abbrev adding : List Item
+    adding = item.Plain (AddTo (Reg 0) 1) ∷ (item.Label n ∷ rest)
 
-      abbrev negative : List Item
-      negative = item.Plain (CmpNumber (Reg 1) (pos 0)) ∷ (item.JumpIf L n ∷ (item.Label (n + 2) ∷ adding))
+    abbrev negative : List Item
+    negative = item.Plain (CmpNumber (Reg 1) (pos 0)) ∷ (item.JumpIf L n ∷ (item.Label (n + 2) ∷ adding))
 
-      abbrev positive : List Item
-      positive = item.Plain (CmpNumber (Reg 1) (pos 0)) ∷ (item.JumpIf GE n ∷ (item.Jump (n + 2) ∷ (item.Label (n + 1) ∷ negative)))
+    abbrev positive : List Item
+    positive = item.Plain (CmpNumber (Reg 1) (pos 0)) ∷ (item.JumpIf GE n ∷ (item.Jump (n + 2) ∷ (item.Label (n + 1) ∷ negative)))
 
-      adding_set : Set n adding
-      adding_set labels b rax rcx closure = h _ _ (more labels b) _ _ _
+    adding_set : Set n adding
+    adding_set labels b rax rcx closure = h _ _ (more labels b) _ _ _
 
-      negative_set : Set n negative
-      negative_set labels b rax rcx closure =
-          let last = set_label n (n + 2) adding (omega (arith, low)) (omega arith) adding_set in
-          set_jump_if n L n (item.Label (n + 2) ∷ adding) last labels b rax rcx closure
+    negative_set : Set n negative
+    negative_set labels b rax rcx closure =
+        let last = set_label n (n + 2) adding (omega (arith, low)) (omega arith) adding_set in
+        set_jump_if n L n (item.Label (n + 2) ∷ adding) low last labels b rax rcx closure
 
-      positive_set : Set n positive
-      positive_set labels b rax rcx closure =
-          let last = set_label n (n + 1) negative (omega (arith, low)) (omega arith) negative_set in
-          set_jump_if n GE n (item.Jump (n + 2) ∷ (item.Label (n + 1) ∷ negative)) (set_jump n (n + 2) (item.Label (n + 1) ∷ negative) last) labels b rax rcx closure
+    positive_set : Set n positive
+    positive_set labels b rax rcx closure =
+        let last = set_label n (n + 1) negative (omega (arith, low)) (omega arith) negative_set in
+        set_jump_if n GE n (item.Jump (n + 2) ∷ (item.Label (n + 1) ∷ negative)) low
+        (set_jump n (n + 2) (item.Label (n + 1) ∷ negative) (omega (arith, low)) last) labels b rax rcx closure
 
-      modulo_set : Set n (modulo_code n rest)
-      modulo_set labels b rax rcx closure =
-          set_jump_if n E n (item.JumpIf L (n + 1) ∷ positive) (set_jump_if n L (n + 1) positive positive_set) labels b rax rcx closure
+    modulo_set : Set n (modulo_code n rest)
+    modulo_set labels b rax rcx closure =
+        set_jump_if n E n (item.JumpIf L (n + 1) ∷ positive) low (set_jump_if n L (n + 1) positive (omega (arith, low)) positive_set) labels b rax rcx closure
 
-      binary_set : (which : Primitive) → Set n (binary_code n which rest)
-      binary_set Eq labels b rax rcx closure = h _ _ (tested false labels b) _ _ _
-      binary_set Eqv labels b rax rcx closure = h _ _ (tested false labels b) _ _ _
-      binary_set Equal labels b rax rcx closure = h _ _ (tested false labels b) _ _ _
-      binary_set Less labels b rax rcx closure = h _ _ (tested false labels b) _ _ _
-      binary_set Greater labels b rax rcx closure = h _ _ (tested false labels b) _ _ _
-      binary_set LessEqual labels b rax rcx closure = h _ _ (tested false labels b) _ _ _
-      binary_set GreaterEqual labels b rax rcx closure = h _ _ (tested false labels b) _ _ _
-      binary_set Modulo labels b rax rcx closure = modulo_set labels b rax rcx closure
-      binary_set MakeString labels b rax rcx closure = h _ _ (returned labels b) _ _ _
-      binary_set MakeVector labels b rax rcx closure = h _ _ (returned labels b) _ _ _
-      binary_set _ labels b rax rcx closure = h _ _ (more labels b) _ _ _
+    binary_set : (which : Primitive) → Set n (binary_code n which rest)
+    binary_set Eq labels b rax rcx closure = both _ _ _ (passable false n free) (h _ _ (tested false labels b) _ _ _)
+    binary_set Eqv labels b rax rcx closure = both _ _ _ (passable false n free) (h _ _ (tested false labels b) _ _ _)
+    binary_set Equal labels b rax rcx closure = both _ _ _ (passable false n free) (h _ _ (tested false labels b) _ _ _)
+    binary_set Less labels b rax rcx closure = both _ _ _ (passable false n free) (h _ _ (tested false labels b) _ _ _)
+    binary_set Greater labels b rax rcx closure = both _ _ _ (passable false n free) (h _ _ (tested false labels b) _ _ _)
+    binary_set LessEqual labels b rax rcx closure = both _ _ _ (passable false n free) (h _ _ (tested false labels b) _ _ _)
+    binary_set GreaterEqual labels b rax rcx closure = both _ _ _ (passable false n free) (h _ _ (tested false labels b) _ _ _)
+    binary_set Modulo labels b rax rcx closure = modulo_set labels b rax rcx closure
+    binary_set MakeString labels b rax rcx closure = both _ _ _ (loadable n free) (h _ _ (returned labels b) _ _ _)
+    binary_set MakeVector labels b rax rcx closure = both _ _ _ (loadable n free) (h _ _ (returned labels b) _ _ _)
+    binary_set _ labels b rax rcx closure = h _ _ (more labels b) _ _ _
 
-      pair_set : (which : Primitive) → Set n (pair_or_binary heap_end n which rest)
-      pair_set Cons labels b rax rcx closure = h _ _ (more labels b) _ _ _
-      pair_set which labels b rax rcx closure = binary_set which labels b rax rcx closure
+    pair_set : (which : Primitive) → Set n (pair_or_binary heap_end n which rest)
+    pair_set Cons labels b rax rcx closure = h _ _ (more labels b) _ _ _
+    pair_set which labels b rax rcx closure = binary_set which labels b rax rcx closure
 
   ternary_set : (n : ℕ) (which : Primitive) (rest : List Item) → Fine n rest → Set n (ternary_code which rest)
   ternary_set n StringSet rest h labels b rax rcx closure = h _ _ b _ _ _
@@ -276,7 +307,7 @@ module _ (count words globals symbols literals heap_end : ℕ) where
   read_fine n low which [] rest e h = earlier n (n + 4) rest (omega arith) h
   read_fine n low which (a ∷ []) rest e h =
       let p = and_parts (only_reads which && takes 1 which) (atom_selected words globals symbols literals a) e in
-      atom_fine n a (unary_code n which rest) p.1 (unary_fine n rest h which)
+      atom_fine n a (unary_code n which rest) p.1 (unary_fine n rest h low which)
   read_fine n low which (a ∷ (d ∷ [])) rest e h =
       let p = and_parts (only_reads which && takes 2 which) (atom_selected words globals symbols literals a && atom_selected words globals symbols literals d) e in
       let q = and_parts (atom_selected words globals symbols literals a) (atom_selected words globals symbols literals d) p.1 in
@@ -355,8 +386,9 @@ module _ (count words globals symbols literals heap_end : ℕ) where
   record_fine n offset c rest low few e h may labels b rax rcx closure =
       let lt = ltb-true c.label count few in
       let p = and_parts (nat_le (length c.fields) 1000) (list_all (source_selected words globals symbols literals) c.fields) e in
-      written n offset (fields_code (offset + 8) c.fields rest) (fields_fine n (offset + 8) c.fields rest p.1 h) (body_label c.label ∷ labels)
-      (below_with n (body_label c.label) labels (omega (arith, lt, low)) b) rax false closure
+      both _ _ _ (loadable (body_label c.label) (omega arith))
+      (written n offset (fields_code (offset + 8) c.fields rest) (fields_fine n (offset + 8) c.fields rest p.1 h) (body_label c.label ∷ labels)
+      (below_with n (body_label c.label) labels (omega (arith, lt, low)) b) rax false closure)
 
   -- ## Groups
 
@@ -434,7 +466,7 @@ module _ (count words globals symbols literals heap_end : ℕ) where
   operation_fine n (operation.Prim site which []) rest low few e h = earlier n (n + 12) rest (omega arith) h
   operation_fine n (operation.Prim site which (o ∷ [])) rest low few e h =
       let p = and_parts (takes 1 which) (operand_selected words globals symbols literals o) e in
-      let last = unary_fine (n + 8) rest (earlier (n + 8 + 4) (n + 12) rest (omega arith) h) which in
+      let last = unary_fine (n + 8) rest (earlier (n + 8 + 4) (n + 12) rest (omega arith) h) (omega (arith, low)) which in
       let code = unary_code (n + 8) which rest in
       any_fine n low o code p.1 (earlier (n + 4) (n + 8) code (omega arith) last)
   operation_fine n (operation.Prim site which (o ∷ (q ∷ []))) rest low few e h =
@@ -486,51 +518,57 @@ module _ (count words globals symbols literals heap_end : ℕ) where
   inside : (n out l : ℕ) → out < n → nat_lt l out ≡ true → l < n
   inside n out l lt e = let below = ltb-true l out e in omega (arith, lt, below)
 
-  instruction_fine : (base out n : ℕ) → out < n → own ≤ n → (i : Instruction) (rest : List Item) → labels_few count i ≡ true
+  -- The labels of a body are numbered from `base` on, and `out` is the last one.
+  instruction_fine : (base out n : ℕ) → out < n → own ≤ base → base ≤ out → (i : Instruction) (rest : List Item) → labels_few count i ≡ true
       → names_below base out i ≡ true → instruction_selected words globals symbols literals i ≡ true → Fine (n + labels_needed i) rest
       → Fine n (instruction_code base out words heap_end literals n i rest)
-  instruction_fine base out n lt low (instruction.Do o) rest few below e h may labels b rax rcx closure = operation_fine n o rest low few e h may labels b rax rcx closure
-  instruction_fine base out n lt low (instruction.Store p) rest few below e h may labels b rax rcx closure =
+  instruction_fine base out n lt low wide (instruction.Do o) rest few below e h may labels b rax rcx closure =
+      operation_fine n o rest (omega (arith, lt, low, wide)) few e h may labels b rax rcx closure
+  instruction_fine base out n lt low wide (instruction.Store p) rest few below e h may labels b rax rcx closure =
       stored n 0 p rest refl (earlier n (n + 0) rest (omega arith) h) may labels b rax rcx closure
-  instruction_fine base out n lt low (instruction.Copy to from) rest few below e h may labels b rax rcx closure =
+  instruction_fine base out n lt low wide (instruction.Copy to from) rest few below e h may labels b rax rcx closure =
       let p = and_parts (is_place words to) (is_place words from) (and_parts _ _ e).1 in
       copied n to from rest p.0 p.1 (earlier n (n + 0) rest (omega arith) h) may labels b rax rcx closure
-  instruction_fine base out n lt low (instruction.Pass k) rest few below e h may labels b rax rcx closure =
+  instruction_fine base out n lt low wide (instruction.Pass k) rest few below e h may labels b rax rcx closure =
       stored n 0 (Slot (words + k)) rest refl (earlier n (n + 0) rest (omega arith) h) may labels b rax rcx closure
-  instruction_fine base out n lt low (instruction.Fix members spills) rest few below e h may labels b rax rcx closure =
+  instruction_fine base out n lt low wide (instruction.Fix members spills) rest few below e h may labels b rax rcx closure =
       let q = and_parts (nat_eq (length spills) (in_slots members)) (nat_le (length members) max_operands && members_selected words globals symbols literals members) e in
       let p = and_parts (nat_le (length members) max_operands) (members_selected words globals symbols literals members) q.1 in
-      group_fine n members spills rest low few p.1 (earlier n (n + 0) rest (omega arith) h) may labels b rax rcx closure
-  instruction_fine base out n lt low (instruction.Call spread k) rest few below e h may labels b rax rcx closure =
-      h _ _ (below_with (n + 1) n labels (omega arith) (below_more n (n + 1) labels (omega arith) b)) _ _ _
-  instruction_fine base out n lt low (instruction.Tail spread k) rest few below e h may labels b rax rcx closure =
+      group_fine n members spills rest (omega (arith, lt, low, wide)) few p.1 (earlier n (n + 0) rest (omega arith) h) may labels b rax rcx closure
+  instruction_fine base out n lt low wide (instruction.Call spread k) rest few below e h may labels b rax rcx closure =
+      both _ _ _ (loadable n (omega (arith, lt, low, wide)))
+      (h _ _ (below_with (n + 1) n labels (omega arith) (below_more n (n + 1) labels (omega arith) b)) _ _ _)
+  instruction_fine base out n lt low wide (instruction.Tail spread k) rest few below e h may labels b rax rcx closure =
       earlier n (n + 0) rest (omega arith) h _ _ b _ _ _
-  instruction_fine base out n lt low instruction.Return rest few below e h may labels b rax rcx closure =
+  instruction_fine base out n lt low wide instruction.Return rest few below e h may labels b rax rcx closure =
       earlier n (n + 0) rest (omega arith) h _ _ b _ _ _
-  instruction_fine base out n lt low instruction.End rest few below e h may labels b rax rcx closure =
-      earlier n (n + 0) rest (omega arith) h _ _ (below_reached may n out labels lt b) _ _ _
-  instruction_fine base out n lt low (instruction.IfFalse l) rest few below e h may labels b rax rcx closure =
-      earlier n (n + 0) rest (omega arith) h _ _ (below_reached may n (base + l) labels (inside n out (base + l) lt below) b) _ _ _
-  instruction_fine base out n lt low (instruction.Jump l) rest few below e h may labels b rax rcx closure =
-      earlier n (n + 0) rest (omega arith) h _ _ (below_reached may n (base + l) labels (inside n out (base + l) lt below) b) _ _ _
-  instruction_fine base out n lt low (instruction.Label l) rest few below e h may labels b rax rcx closure =
+  instruction_fine base out n lt low wide instruction.End rest few below e h may labels b rax rcx closure =
+      both _ _ _ (passable may out (omega (arith, low, wide)))
+      (earlier n (n + 0) rest (omega arith) h _ _ (below_reached may n out labels lt b) _ _ _)
+  instruction_fine base out n lt low wide (instruction.IfFalse l) rest few below e h may labels b rax rcx closure =
+      both _ _ _ (passable may (base + l) (omega (arith, low)))
+      (earlier n (n + 0) rest (omega arith) h _ _ (below_reached may n (base + l) labels (inside n out (base + l) lt below) b) _ _ _)
+  instruction_fine base out n lt low wide (instruction.Jump l) rest few below e h may labels b rax rcx closure =
+      both _ _ _ (passable may (base + l) (omega (arith, low)))
+      (earlier n (n + 0) rest (omega arith) h _ _ (below_reached may n (base + l) labels (inside n out (base + l) lt below) b) _ _ _)
+  instruction_fine base out n lt low wide (instruction.Label l) rest few below e h may labels b rax rcx closure =
       earlier n (n + 0) rest (omega arith) h _ _ b _ _ _
-  instruction_fine base out n lt low (instruction.Mark m) rest few below e h may labels b rax rcx closure =
+  instruction_fine base out n lt low wide (instruction.Mark m) rest few below e h may labels b rax rcx closure =
       earlier n (n + 0) rest (omega arith) h _ _ b _ _ _
 
-  body_fine : (base out n : ℕ) → out < n → own ≤ n → (is : List Instruction) (rest : List Item) → list_all (labels_few count) is ≡ true
+  body_fine : (base out n : ℕ) → out < n → own ≤ base → base ≤ out → (is : List Instruction) (rest : List Item) → list_all (labels_few count) is ≡ true
       → list_all (names_below base out) is ≡ true → list_all (instruction_selected words globals symbols literals) is ≡ true
       → Fine (n + all_labels_needed is) rest → Fine n (body_code base out words heap_end literals n is rest)
-  body_fine base out n lt low [] rest few named e h = earlier n (n + 0) rest (omega arith) h
-  body_fine base out n lt low (i ∷ is) rest few named e h =
+  body_fine base out n lt low wide [] rest few named e h = earlier n (n + 0) rest (omega arith) h
+  body_fine base out n lt low wide (i ∷ is) rest few named e h =
       let f = and_parts (labels_few count i) (list_all (labels_few count) is) few in
       let m = and_parts (names_below base out i) (list_all (names_below base out) is) named in
       let p = and_parts (instruction_selected words globals symbols literals i) (list_all (instruction_selected words globals symbols literals) is) e in
       let next = n + labels_needed i in
       let same = earlier (next + all_labels_needed is) (n + (labels_needed i + all_labels_needed is)) rest (omega arith) h in
       let code = body_code base out words heap_end literals next is rest in
-      instruction_fine base out n lt low i code f.0 m.0 p.0
-      (body_fine base out next (omega (arith, lt)) (omega (arith, low)) is rest f.1 m.1 p.1 same)
+      instruction_fine base out n lt low wide i code f.0 m.0 p.0
+      (body_fine base out next (omega (arith, lt)) low wide is rest f.1 m.1 p.1 same)
 
   -- ## Entries
 
@@ -540,23 +578,26 @@ module _ (count words globals symbols literals heap_end : ℕ) where
   marked : (n : ℕ) (m : MarkKind) (rest : List Item) → Fine n rest → Fine n (item.Mark m ∷ rest)
   marked n m rest h may labels b rax rcx closure = h _ _ b _ _ _
 
-  passed_fine : (n : ℕ) (o : Option Entry) (out : ℕ) (rest : List Item) → out < n → Fine n rest → Fine n (passed_code o out rest)
-  passed_fine n None out rest lt h may labels b rax rcx closure = h may labels b rax rcx closure
-  passed_fine n (Some e) out rest lt h may labels b rax rcx closure = h _ _ (below_reached may n out labels lt b) _ _ _
+  passed_fine : (n : ℕ) (o : Option Entry) (out : ℕ) (rest : List Item) → own ≤ out → out < n → Fine n rest → Fine n (passed_code o out rest)
+  passed_fine n None out rest low lt h may labels b rax rcx closure = h may labels b rax rcx closure
+  passed_fine n (Some e) out rest low lt h may labels b rax rcx closure =
+      both _ _ _ (passable may out (omega (arith, low))) (h _ _ (below_reached may n out labels lt b) _ _ _)
 
-  list_fine : (n : ℕ) (b : Bool) (required l : ℕ) (rest : List Item) → nat_lt required 6 ≡ b → own ≤ n → l < n → Fine n rest
+  list_fine : (n : ℕ) (b : Bool) (required l : ℕ) (rest : List Item) → nat_lt required 6 ≡ b → own ≤ l → l < n → Fine n rest
       → Fine n (list_code b required l rest)
   list_fine n true required l rest e low lt h may labels b rax rcx closure =
       let few = ltb-true required 6 e in
-      h _ _ (below_reached _ n (list_label required) (l ∷ labels) (omega (arith, few, low)) (below_with n l labels lt b)) _ _ _
-  list_fine n false required l rest e low lt h may labels b rax rcx closure = h _ _ (below_with n l labels lt b) _ _ _
+      both _ _ _ (loadable l (omega (arith, low))) (both _ _ _ (listed may required few)
+      (h _ _ (below_reached _ n (list_label required) (l ∷ labels) (omega (arith, few, low, lt)) (below_with n l labels lt b)) _ _ _))
+  list_fine n false required l rest e low lt h may labels b rax rcx closure =
+      both _ _ _ (loadable l (omega (arith, low))) (h _ _ (below_with n l labels lt b) _ _ _)
 
-  count_fine : (n : ℕ) (b : Bool) (formals l : ℕ) (rest : List Item) → own ≤ n → l < n → Fine n rest → Fine n (count_code b formals l rest)
+  count_fine : (n : ℕ) (b : Bool) (formals l : ℕ) (rest : List Item) → own ≤ l → l < n → Fine n rest → Fine n (count_code b formals l rest)
   count_fine n false formals l rest low lt h may labels b rax rcx closure = h _ _ b _ _ _
   count_fine n true formals l rest low lt h may labels b rax rcx closure =
       list_fine n (nat_lt (formals - 1) 6) (formals - 1) l rest refl low lt h _ _ b _ _ _
 
-  entry_fine : (n : ℕ) (o : Option Entry) (l : ℕ) (rest : List Item) → own ≤ n → l < n → Fine n rest → Fine n (entry_code o l rest)
+  entry_fine : (n : ℕ) (o : Option Entry) (l : ℕ) (rest : List Item) → own ≤ l → l < n → Fine n rest → Fine n (entry_code o l rest)
   entry_fine n None l rest low lt h = h
   entry_fine n (Some e) l rest low lt h = count_fine n e.rest e.formals l rest low lt h
 
@@ -567,13 +608,13 @@ module _ (count words globals symbols literals heap_end : ℕ) where
       let out = n + c.labels in
       let first = n + c.labels + 2 in
       let code = body_code n out words heap_end literals first c.instructions (item.Label out ∷ rest) in
-      let body = body_fine n out first (omega arith) (omega (arith, low)) c.instructions (item.Label out ∷ rest) few
+      let body = body_fine n out first (omega arith) low (omega arith) c.instructions (item.Label out ∷ rest) few
       (body_below n c.labels c.instructions ahead) e (labelled (labels_end n c) out rest h) in
       let marks = item.Mark (Enter label) ∷ code in
       let checks = entry_code c.entry (n + c.labels + 1) marks in
       let entry = entry_fine first c.entry (n + c.labels + 1) marks (omega (arith, low)) (omega arith) (marked first (Enter label) code body) in
       earlier n first (form_code words heap_end literals label n c rest) (omega arith)
-      (passed_fine first c.entry out (item.Label (body_label label) ∷ checks) (omega arith) (labelled first (body_label label) checks entry))
+      (passed_fine first c.entry out (item.Label (body_label label) ∷ checks) (omega (arith, low)) (omega arith) (labelled first (body_label label) checks entry))
 
   forms_fine : (label n : ℕ) (cs : List Code) (rest : List Item) → own ≤ n → list_all (λ c. forward c.labels c.instructions) cs ≡ true
       → list_all (λ c. list_all (labels_few count) c.instructions) cs ≡ true → list_all (form_selected words globals symbols literals) cs ≡ true
@@ -607,9 +648,9 @@ module _ (own : ℕ) where
       item_same (λ k. overwrites_slot own may labels (k ∷ narrowed is)) (slot_numbers may labels (narrowed is)) (slot_operands may labels (narrowed is)) (item.Plain i)
       ∙ ap (λ b. (not (reads_register 1 i) || not may) && b) (narrowed_slot (not (sets_register 1 i) && may) labels is)
   narrowed_slot may labels (item.Label l ∷ is) = narrowed_slot (may || (nat_lt l own || has l labels)) labels is
-  narrowed_slot may labels (item.Jump l ∷ is) = narrowed_slot false (reached_labels may l labels) is
-  narrowed_slot may labels (item.JumpIf c l ∷ is) = narrowed_slot may (reached_labels may l labels) is
-  narrowed_slot may labels (item.LoadLabel r l ∷ is) = narrowed_slot (not (nat_eq r 1) && may) (l ∷ labels) is
+  narrowed_slot may labels (item.Jump l ∷ is) = ap (λ b. (not (is_handed l) || not may) && b) (narrowed_slot false (reached_labels may l labels) is)
+  narrowed_slot may labels (item.JumpIf c l ∷ is) = ap (λ b. (not (is_handed l) || not may) && b) (narrowed_slot may (reached_labels may l labels) is)
+  narrowed_slot may labels (item.LoadLabel r l ∷ is) = ap (λ b. not (is_handed l) && b) (narrowed_slot (not (nat_eq r 1) && may) (l ∷ labels) is)
   narrowed_slot may labels (item.LoadWord r a ∷ is) = narrowed_slot (not (nat_eq r 1) && may) labels is
   narrowed_slot may labels (item.StoreWord a r ∷ is) = ap (λ b. (not (nat_eq r 1) || not may) && b) (narrowed_slot may labels is)
   narrowed_slot may labels (item.Mark m ∷ is) = narrowed_slot may labels is

@@ -1,9 +1,11 @@
--- In a program's items the address of the frame goes nowhere else, and each word that is named by its number lies before the heap.
-use Rattle.std.proofs.Common.{◌≡◌, ℕ, suc, ◌+◌, ◌-◌, ◌*◌, ◌≤◌, List, [], ◌∷◌, length, Bool, Option, Some, None, true, false}
-use Rattle.std.proofs.Common.{refl, ap, ◌∙◌, subst, ◌&&◌, ◌||◌, arith}
+-- In a program's items the address of the frame goes nowhere else, each word that is named by its number lies before the heap, and the
+-- heap's register goes on by what is charged, behind the items that set both registers.
+use Rattle.std.proofs.Common.{◌≡◌, ℕ, suc, ◌+◌, ◌-◌, ◌*◌, ◌/◌, ◌≤◌, List, [], ◌∷◌, length, Bool, Option, Some, None, true, false}
+use Rattle.std.proofs.Common.{refl, ap, sym, ◌∙◌, subst, ◌%◌, ◌&&◌, ◌||◌, arith}
 use Rattle.std.specs.Prelude.{ℤ, IsTrue, pos, not, nat_eq, nat_lt, nat_le}
 use Rattle.std.specs.List.{list_all}
 use Rattle.std.proofs.lemmas.Bool.{and_parts, and_from, eq-eqb, eqb-true, le-leb, ltb-true, or_left}
+use Rattle.std.proofs.lemmas.Nat.{mod-mul-add}
 use Rattle.sch_word.specs.values.Literals.{count_literals}
 use Rattle.sch_word.specs.trees.Shape.{max_operands}
 use Rattle.sch_word.specs.declared.place.Place.{Place}
@@ -52,8 +54,9 @@ use Rattle.sch_select_operations.proofs.simulation.SelectedPrograms.{operand_sel
 use Rattle.sch_select_data.specs.Data.{heap_address, heap_of}
 use Rattle.sch_select_data.specs.NameWords.{symbols_count}
 use Rattle.sch_select_data.specs.PlacedWords.{units_in_each}
-use Rattle.sch_runtime.specs.FrameRegister.{is_frame_itself}
-use Rattle.sch_select.specs.FrameWords.{keeps_address, keeps_frame, keeps_frames, lies_before}
+use Rattle.sch_runtime.specs.FrameRegister.{is_itself}
+use Rattle.sch_runtime.specs.HeapRegister.{copies_address, is_charge}
+use Rattle.sch_select.specs.FrameWords.{keeps_both, keeps_frames, lies_before}
 use Rattle.sch_select.specs.Program.{count_code, entry_code, forms_code, labels_end, own_label, passed_code, selected_code}
 use Rattle.sch_select.specs.Select.{body_code, copy_insn, instruction_code, labels_needed}
 use Rattle.sch_select.proofs.items.AppendedItems.{spill_same}
@@ -62,22 +65,51 @@ use Rattle.sch_asm.proofs.NarrowItems.{item_same}
 -- ## Items that keep the frame's address are not seen
 
 abbrev Reach : (heap stack : ℕ) → List Item → Bool
-Reach heap stack is = list_all (keeps_frame heap stack) is
+Reach heap stack is = list_all (keeps_both heap stack) is
 
 -- ## Places
 
 -- the registers of bodies are others
-apart : (r : ℕ) → is_register r ≡ true → nat_eq r FRAME_REGISTER ≡ false
-apart r e = by (nat_eq r FRAME_REGISTER) refl
+other : (r register : ℕ) → is_register register ≡ false → is_register r ≡ true → nat_eq r register ≡ false
+other r register none e = by (nat_eq r register) refl
   where
-    by : (b : Bool) → nat_eq r FRAME_REGISTER ≡ b → nat_eq r FRAME_REGISTER ≡ false
+    by : (b : Bool) → nat_eq r register ≡ b → nat_eq r register ≡ false
     by false f = f
-    by true f = absurd (let bad : false ≡ true = subst (λ k. is_register k ≡ true) (eqb-true r FRAME_REGISTER f) e in cc)
+    by true f = absurd (let bad : false ≡ true = sym none ∙ subst (λ k. is_register k ≡ true) (eqb-true r register f) e in cc)
+
+-- neither the frame's nor the heap's
+abbrev is_neither : ℕ → Bool
+is_neither r = not (nat_eq r FRAME_REGISTER) && not (nat_eq r HEAP_REGISTER)
+
+apart : (r : ℕ) → is_register r ≡ true → is_neither r ≡ true
+apart r e = and_from _ _ (ap not (other r FRAME_REGISTER refl e)) (ap not (other r HEAP_REGISTER refl e))
+
+-- ## What is charged
+
+-- a record of fields, and groups of them, take a multiple of 16 bytes
+charged : (units bytes : ℕ) → bytes ≡ 16 * units → is_charge (pos bytes) ≡ true
+charged units bytes e =
+    let same : bytes ≡ units * 16 + 0 = omega (arith, e) in
+    eq-eqb (bytes % 16) 0 (ap (λ n. n % 16) same ∙ mod-mul-add units 16 0 (omega arith))
+
+abbrev closure_units : Closure Place → ℕ
+closure_units c = (8 + 8 * length c.fields + 15) / 16
+
+abbrev group_units : List (Member Place) → ℕ
+group_units [] = 0
+group_units (m ∷ members) = closure_units m.closure + group_units members
+
+closure_charged : (c : Closure Place) → closure_bytes c ≡ 16 * closure_units c
+closure_charged c = refl
+
+group_charged : (members : List (Member Place)) → group_bytes members ≡ 16 * group_units members
+group_charged [] = refl
+group_charged (m ∷ members) = let one = closure_charged m.closure in let others = group_charged members in omega (arith, one, others)
 
 -- The words of literals and of globals end before the heap begins.
 module _ (words globals symbols literals heap_end heap stack : ℕ) (fits : globals_address literals + 8 * globals ≤ heap) where
-  unseen : (i : Item) (is : List Item) → keeps_frame heap stack i ≡ true → Reach heap stack (i ∷ is) ≡ Reach heap stack is
-  unseen i is e = in_front (keeps_frame heap stack i) (Reach heap stack is) e
+  unseen : (i : Item) (is : List Item) → keeps_both heap stack i ≡ true → Reach heap stack (i ∷ is) ≡ Reach heap stack is
+  unseen i is e = in_front (keeps_both heap stack i) (Reach heap stack is) e
 
   -- ## Words that are named by their numbers
 
@@ -92,17 +124,42 @@ module _ (words globals symbols literals heap_end heap stack : ℕ) (fits : glob
 
   -- ## Places
 
-  place_apart : (p : Place) → is_place words p ≡ true → is_frame_itself (place_operand p) ≡ false
-  place_apart (Register r) e = apart r e
-  place_apart (Slot j) e = refl
+  place_apart : (p : Place) (register : ℕ) → is_register register ≡ false → is_place words p ≡ true → is_itself register (place_operand p) ≡ false
+  place_apart (Register r) register none e = other r register none e
+  place_apart (Slot j) register none e = refl
 
-  loaded_kept : (r : ℕ) (p : Place) → nat_eq r FRAME_REGISTER ≡ false → is_place words p ≡ true
-      → keeps_address (MovFrom r (place_operand p)) ≡ true
-  loaded_kept r p other e = and_from (not (nat_eq r FRAME_REGISTER)) _ (ap not other) (ap (λ b. (false || not b) && true) (place_apart p e))
+  loaded_kept : (r : ℕ) (p : Place) → is_neither r ≡ true → is_place words p ≡ true
+      → keeps_both heap stack (item.Plain (MovFrom r (place_operand p))) ≡ true
+  loaded_kept r p free e =
+      let f = and_parts (not (nat_eq r FRAME_REGISTER)) (not (nat_eq r HEAP_REGISTER)) free in
+      and_from _ _ (and_from _ _ (or_left _ false f.1) (or_left _ false (ap not (place_apart p HEAP_REGISTER refl e))))
+      (and_from _ _ f.0 (ap (λ b. (false || not b) && true) (place_apart p FRAME_REGISTER refl e)))
 
-  stored_kept : (p : Place) (r : ℕ) → nat_eq r FRAME_REGISTER ≡ false → is_place words p ≡ true
-      → keeps_address (MovTo (place_operand p) r) ≡ true
-  stored_kept p r other e = and_from (not (nat_eq r FRAME_REGISTER)) _ (ap not other) (ap (λ b. (false || not b) && true) (place_apart p e))
+  stored_kept : (p : Place) (r : ℕ) → is_neither r ≡ true → is_place words p ≡ true
+      → keeps_both heap stack (item.Plain (MovTo (place_operand p) r)) ≡ true
+  stored_kept p r free e =
+      let f = and_parts (not (nat_eq r FRAME_REGISTER)) (not (nat_eq r HEAP_REGISTER)) free in
+      and_from _ _ (and_from _ _ (or_left _ (copies_address (MovTo (place_operand p) r)) f.1) (or_left _ false (ap not (place_apart p HEAP_REGISTER refl e))))
+      (and_from _ _ f.0 (ap (λ b. (false || not b) && true) (place_apart p FRAME_REGISTER refl e)))
+
+  -- a word of the object whose address the register has
+  field_kept : (r k : ℕ) → is_neither r ≡ true → keeps_both heap stack (item.Plain (MovFrom r (Base32 r (pos (4 + 8 * k))))) ≡ true
+  field_kept r k free =
+      let f = and_parts (not (nat_eq r FRAME_REGISTER)) (not (nat_eq r HEAP_REGISTER)) free in
+      and_from _ _ (and_from _ true (or_left _ false f.1) refl) (and_from _ true f.0 refl)
+
+  number_kept : (r : ℕ) (n : ℤ) → is_neither r ≡ true → keeps_both heap stack (item.Plain (MovWord r n)) ≡ true
+  number_kept r n free =
+      let f = and_parts (not (nat_eq r FRAME_REGISTER)) (not (nat_eq r HEAP_REGISTER)) free in
+      and_from _ _ f.1 f.0
+
+  behind_kept : (bytes : ℕ) → is_charge (pos bytes) ≡ true → keeps_both heap stack (item.Plain (AddNumber (Reg HEAP_REGISTER) (pos bytes))) ≡ true
+  behind_kept bytes e = and_from _ true e refl
+
+  word_kept : (r a : ℕ) → is_neither r ≡ true → lies_before heap stack a ≡ true → keeps_both heap stack (item.LoadWord r a) ≡ true
+  word_kept r a free e =
+      let f = and_parts (not (nat_eq r FRAME_REGISTER)) (not (nat_eq r HEAP_REGISTER)) free in
+      and_from _ _ f.1 (and_from _ _ f.0 e)
 
   -- ## Operations
 
@@ -110,11 +167,11 @@ module _ (words globals symbols literals heap_end heap stack : ℕ) (fits : glob
   abbrev Kept : (List Item → List Item) → Type 0
   Kept f = (rest : List Item) → Reach heap stack (f rest) ≡ Reach heap stack rest
 
-  atom_kept : (r : ℕ) (a : Atom Place) → nat_eq r FRAME_REGISTER ≡ false
+  atom_kept : (r : ℕ) (a : Atom Place) → is_neither r ≡ true
       → atom_selected words globals symbols literals a ≡ true → Kept (atom_code r a)
-  atom_kept r (Constant c) other e rest = unseen (item.Plain (MovWord r (constant_number c))) rest (and_from _ true (or_left _ _ (ap not other)) refl)
-  atom_kept r (Variable p) other e rest = unseen (item.Plain (MovFrom r (place_operand p))) rest (loaded_kept r p other e)
-  atom_kept r (Literal n) other e rest = unseen (item.LoadWord r (literal_address n)) rest (and_from _ _ (ap not other) (literal_before n e))
+  atom_kept r (Constant c) free e rest = unseen (item.Plain (MovWord r (constant_number c))) rest (number_kept r (constant_number c) free)
+  atom_kept r (Variable p) free e rest = unseen (item.Plain (MovFrom r (place_operand p))) rest (loaded_kept r p free e)
+  atom_kept r (Literal n) free e rest = unseen (item.LoadWord r (literal_address n)) rest (word_kept r (literal_address n) free (literal_before n e))
 
   unary_kept : (n : ℕ) (which : Primitive) → Kept (unary_code n which)
   unary_kept n SymbolLength rest = in_front (lies_before heap stack table_address) (Reach heap stack rest) table_before
@@ -149,13 +206,13 @@ module _ (words globals symbols literals heap_end heap stack : ℕ) (fits : glob
   index_kept (operand.Atom a) e rest = atom_kept 1 a refl e rest
   index_kept (operand.Read site which atoms) e rest = refl
 
-  source_kept : (r : ℕ) (x : Source Place) → nat_eq r FRAME_REGISTER ≡ false
+  source_kept : (r : ℕ) (x : Source Place) → is_neither r ≡ true
       → source_selected words globals symbols literals x ≡ true → Kept (source_code r x)
-  source_kept r (source.Atom a) other e rest = atom_kept r a other e rest
-  source_kept r (source.Field p k) other e rest =
+  source_kept r (source.Atom a) free e rest = atom_kept r a free e rest
+  source_kept r (source.Field p k) free e rest =
       let there = Base32 r (pos (4 + 8 * k)) in
-      unseen (item.Plain (MovFrom r (place_operand p))) (item.Plain (MovFrom r there) ∷ rest) (loaded_kept r p other (and_parts (is_place words p) (nat_lt k 1000) e).0)
-      ∙ unseen (item.Plain (MovFrom r there)) rest (and_from (not (nat_eq r FRAME_REGISTER)) true (ap not other) refl)
+      unseen (item.Plain (MovFrom r (place_operand p))) (item.Plain (MovFrom r there) ∷ rest) (loaded_kept r p free (and_parts (is_place words p) (nat_lt k 1000) e).0)
+      ∙ unseen (item.Plain (MovFrom r there)) rest (field_kept r k free)
 
   pair_kept : (n : ℕ) (which : Primitive) → Kept (pair_or_binary heap_end n which)
   pair_kept n Cons rest = refl
@@ -199,6 +256,8 @@ module _ (words globals symbols literals heap_end heap stack : ℕ) (fits : glob
   group_kept : (members : List (Member Place)) (spills : List ℕ) → members_selected words globals symbols literals members ≡ true → Kept (group_code heap_end members spills)
   group_kept members spills e rest = places_kept 0 members spills e _
       ∙ records_kept 0 members e (item.Plain (AddNumber (Reg HEAP_REGISTER) (pos (group_bytes members))) ∷ rest)
+      ∙ unseen (item.Plain (AddNumber (Reg HEAP_REGISTER) (pos (group_bytes members)))) rest
+      (behind_kept (group_bytes members) (charged (group_units members) (group_bytes members) (group_charged members)))
 
   operation_kept : (n : ℕ) (o : Operation Place) → operation_selected words globals symbols literals o ≡ true → Kept (operation_code heap_end literals n o)
   operation_kept n (operation.Operand o) e rest = operand_kept n o e rest
@@ -226,11 +285,13 @@ module _ (words globals symbols literals heap_end heap stack : ℕ) (fits : glob
       let p = and_parts (source_selected words globals symbols literals x) (operand_selected words globals symbols literals o) e in
       operand_kept n o p.1 _ ∙ source_kept 1 x refl p.0 _
   operation_kept n (operation.MakeClosure c) e rest = record_kept 0 c e _
+      ∙ unseen (item.Plain (AddNumber (Reg HEAP_REGISTER) (pos (closure_bytes c)))) rest
+      (behind_kept (closure_bytes c) (charged (closure_units c) (closure_bytes c) (closure_charged c)))
 
   -- ## Bodies
 
   copy_kept : (to from : Place) → is_place words to ≡ true → is_place words from ≡ true
-      → keeps_frame heap stack (item.Plain (copy_insn to from)) ≡ true
+      → keeps_both heap stack (item.Plain (copy_insn to from)) ≡ true
   copy_kept to (Register r) e f = stored_kept to r (apart r f) e
   copy_kept (Register r) (Slot j) e f = loaded_kept r (Slot j) (apart r e) f
   copy_kept (Slot i) (Slot j) e f = loaded_kept 0 (Slot j) refl f
@@ -279,19 +340,19 @@ module _ (words globals symbols literals heap_end heap stack : ℕ) (fits : glob
 -- ## The shortest forms
 
 module _ (heap stack : ℕ) where
-  keeps_numbers : (i : Insn) → keeps_frame heap stack (item.Plain (short_number i)) ≡ keeps_frame heap stack (item.Plain i)
+  keeps_numbers : (i : Insn) → keeps_both heap stack (item.Plain (short_number i)) ≡ keeps_both heap stack (item.Plain i)
   keeps_numbers (AddNumber m n) = refl
   keeps_numbers _ = refl
 
-  keeps_operands : (i : Insn) (b : ℕ) (d : ℤ) → keeps_frame heap stack (item.Plain (with_operand (Base8 b d) i)) ≡ keeps_frame heap stack (item.Plain (with_operand (Base32 b d) i))
+  keeps_operands : (i : Insn) (b : ℕ) (d : ℤ) → keeps_both heap stack (item.Plain (with_operand (Base8 b d) i)) ≡ keeps_both heap stack (item.Plain (with_operand (Base32 b d) i))
   keeps_operands (MovTo m r) b d = refl
   keeps_operands _ b d = refl
 
   narrowed_reach : (is : List Item) → Reach heap stack (narrowed is) ≡ Reach heap stack is
   narrowed_reach [] = refl
   narrowed_reach (i ∷ is) =
-      ap (λ b. b && Reach heap stack (narrowed is)) (item_same (keeps_frame heap stack) keeps_numbers keeps_operands i)
-      ∙ ap (λ b. keeps_frame heap stack i && b) (narrowed_reach is)
+      ap (λ b. b && Reach heap stack (narrowed is)) (item_same (keeps_both heap stack) keeps_numbers keeps_operands i)
+      ∙ ap (λ b. keeps_both heap stack i && b) (narrowed_reach is)
 
 -- ## Programs
 
@@ -306,10 +367,11 @@ program_reach p limit depth e =
     let globals = length p.statics.globals in
     let symbols = length p.statics.symbols in
     let literals = count_literals p.statics.literals in
+    let heap = heap_of p in
     let stack = heap_of p + limit in
     let fits = statics_before literals globals (symbols_count p.statics.symbols) (length p.library) (units_in_each p.statics.literals) in
     let forms = (and_parts (list_all (form_selected p.words globals symbols literals) p.bodies) (list_all (λ c. marks_settled true c.instructions) p.bodies) e).0 in
-    narrowed_reach (heap_of p) stack (selected_code p limit depth)
-    ∙ in_front (nat_eq stack stack && true) (Reach (heap_of p) stack (forms_code p.words stack literals 0 (own_label p) p.bodies (item.Jump (label_of routine.End) ∷ [])))
-    (ap (λ b. b && true) (eq-eqb stack stack refl))
-    ∙ forms_kept p.words globals symbols literals stack (heap_of p) stack fits 0 (own_label p) p.bodies forms (item.Jump (label_of routine.End) ∷ [])
+    let code = forms_code p.words stack literals 0 (own_label p) p.bodies (item.Jump (label_of routine.End) ∷ []) in
+    let kept = narrowed_reach heap stack code
+    ∙ forms_kept p.words globals symbols literals stack heap stack fits 0 (own_label p) p.bodies forms (item.Jump (label_of routine.End) ∷ []) in
+    and_from _ _ (and_from (nat_eq stack stack) (nat_eq heap heap) (eq-eqb stack stack refl) (eq-eqb heap heap refl)) kept

@@ -3,6 +3,7 @@ use Rattle.std.proofs.Common.{◌≡◌, ℕ, ◌+◌, ◌*◌, ◌<◌, ◌≤�
 use Rattle.std.proofs.Common.{◌∙◌, arith, ◌==◌}
 use Rattle.std.specs.Prelude.{ℤ, pos, not, nat_lt, Result, Ok, bit_and}
 use Rattle.std.proofs.Math.Nat.{mod-lt}
+use Rattle.sch_word.specs.values.Options.{when_ok}
 use Rattle.sch_word.specs.declared.stop.Stop.TheVariants.{WrongType, OutOfRange}
 use Rattle.sch_word.specs.values.Values.{Value, fixnum, character, boolean, nil, unspecified, symbol, object, procedure, cell}
 use Rattle.sch_word.specs.values.PrimitiveRows.{is_index, is_integer, is_character, as_fixnum, as_character}
@@ -13,7 +14,7 @@ use Rattle.sch_insn.specs.declared.insn.Arg.TheVariants.{Reg, Base32}
 use Rattle.sch_insn.specs.declared.insn.Insn.TheVariants.{CmpNumber, CmpFrom}
 use Rattle.sch_insn.specs.declared.state.Flags.{Flags}
 use Rattle.sch_insn.specs.declared.state.StuckCause.{StuckCause}
-use Rattle.sch_insn.specs.Machine.{set_register, add64, word, bits_of, difference_of, condition, word_at, when_ok, with_flags, with_place}
+use Rattle.sch_insn.specs.Machine.{set_register, add64, word, bits_of, difference_of, condition, word_at, with_flags, with_place}
 use Rattle.sch_insn.specs.Step.{Progress, moved}
 use Rattle.sch_insn.proofs.Conditions.{on_ne, compared_ne, compared_ae}
 use Rattle.sch_insn.proofs.Paths.{leads_on}

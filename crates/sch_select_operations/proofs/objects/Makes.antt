@@ -329,7 +329,7 @@ module _ (plan : Plan) (body_steps : ℕ) (laid : Laid plan body_steps) (act : A
             not_aimed : (r : ℕ) → is_scratch r ≡ false → ((r == 0) || (r == 2)) ≡ false
             not_aimed r e = by (r == 0) (r == 1) (r == 2) (r == 11) e
               where
-                by : (a b c d : Bool) → (a || (b || (c || d))) ≡ false → (a || c) ≡ false
+                by : (a b c d : Bool) → (a || (b || (c || (d || false)))) ≡ false → (a || c) ≡ false
                 by true b c d e = absurd (let bad : true ≡ false = e in cc)
                 by false b false d e = refl
                 by false true true d e = absurd (let bad : true ≡ false = e in cc)

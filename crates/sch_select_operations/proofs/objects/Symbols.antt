@@ -5,9 +5,9 @@ use Rattle.std.specs.Prelude.{ℤ, pos, negsuc, nat_abs, slice_get, slice_index}
 use Rattle.std.proofs.Math.Seq.{take-append_seam}
 use Rattle.sch_word.specs.declared.stop.Stop.TheVariants.{WrongType, OutOfRange}
 use Rattle.sch_word.specs.values.Values.{Value, fixnum, character, boolean, nil, unspecified, symbol, object, procedure, cell}
-use Rattle.sch_word.specs.values.PrimitiveRows.{is_symbol, is_index, as_symbol, known_name, as_fixnum, in_range}
+use Rattle.sch_word.specs.values.PrimitiveRows.{is_symbol, is_index, as_symbol, as_fixnum, in_range}
 use Rattle.sch_word.specs.runs.Store.{Store}
-use Rattle.sch_word.specs.runs.Computation.{Action, gives, stops, require, State}
+use Rattle.sch_word.specs.runs.Computation.{Action, gives, stops, require, State, when_known}
 use Rattle.sch_word.specs.runs.Procedures.{Procedure}
 use Rattle.sch_insn.specs.declared.insn.Arg.TheVariants.{Reg, Base32}
 use Rattle.sch_insn.specs.declared.insn.Insn.TheVariants.{MovFrom, AddTo, AddNumber, Shl, Shr, LoadByte}
@@ -126,7 +126,7 @@ module _ (plan : Plan) (act : Activation plan) (parts : Parts) (s : State Proced
           let named : add64 sum.value (word (negsuc 4)) ≡ a = ap (λ t. add64 (add64 (r.registers 0) t) (word (negsuc 4))) q.table
           ∙ entry_named m.0 (r.registers 0) first (r.kept 0 refl ∙ w) (omega (arith, entry, above, low, n)) in
           subst (Comes setting parts is_free x waiting (c + 7) s.store rest)
-          (sym (ap (λ v. as_symbol v next s.store) m.1 ∙ ap (λ o. known_name o next s.store) q.is))
+          (sym (ap (λ v. as_symbol v next s.store) m.1 ∙ ap (λ o. when_known o next s.store) q.is))
           (comes_after setting parts is_free x y3.registers y3.flags y3.place waiting 7 7 c (c + 7) s.store rest _
           (leads_on setting.marks (leads_on setting.marks (leads_on setting.marks r.leads
           (loads_data setting y0 2 table_address (item.Plain (AddTo (Reg 0) 2)

@@ -6,6 +6,7 @@ use Rattle.std.specs.Prelude.{int_le, int_div, int_rem, ◌&&◌, Ok}
 use Rattle.std.proofs.lemmas.Bool.{ne_eqb, and_parts, ltb-true, eqb-false}
 use Rattle.std.proofs.lemmas.Bool.Decides.{nat_tests}
 use Rattle.std.proofs.lemmas.Int.{ints}
+use Rattle.sch_word.specs.values.Options.{when_ok}
 use Rattle.sch_word.specs.declared.primitive.Primitive.{Primitive}
 use Rattle.sch_word.specs.declared.primitive.Primitive.TheVariants.{Eq, Eqv, IsBoolean, IsPair, IsNull, IsSymbol}
 use Rattle.sch_word.specs.declared.primitive.Primitive.TheVariants.{IsInteger, IsChar, IsString, IsVector}
@@ -28,7 +29,7 @@ use Rattle.sch_insn.specs.declared.insn.Insn.TheVariants.{MovTo, MovNumber, AddT
 use Rattle.sch_insn.specs.declared.insn.Insn.TheVariants.{CmpNumber, Imul, Idiv, Cqo, Shl, Shr, Sar}
 use Rattle.sch_insn.specs.declared.state.Flags.{Flags}
 use Rattle.sch_insn.specs.Machine.{Computed, add64, set_register, difference_of, sum_of, product_of}
-use Rattle.sch_insn.specs.Machine.{shift_right_signed, condition, unknown_flags, when_ok, with_flags, with_register}
+use Rattle.sch_insn.specs.Machine.{shift_right_signed, condition, unknown_flags, with_flags, with_register}
 use Rattle.sch_insn.specs.Machine.{with_place}
 use Rattle.sch_insn.specs.Step.{Runs, perform, moved, sign_word}
 use Rattle.sch_insn.proofs.Conditions.{compared_e, compared_a}

@@ -1,14 +1,16 @@
 -- Worked values of small definitions.
-use Rattle.std.proofs.Common.{◌≡◌, ℕ, true, false, [], ◌∷◌, pos, refl}
+use Rattle.std.proofs.Common.{◌≡◌, ℕ, suc, true, false, [], ◌∷◌, pos, Some, None, Ok, Err, refl}
 use Rattle.std.specs.Prelude.{◌+ℤ◌, ◌-ℤ◌}
 use Rattle.sch_word.specs.declared.fix.TheConstants.{FIXNUM_MIN, FIXNUM_MAX}
 use Rattle.sch_word.specs.declared.constant.Const.TheVariants.{Fixnum, Character, Nil}
-use Rattle.sch_word.specs.declared.stop.Stop.TheVariants.{NotProcedure, DepthLimit}
+use Rattle.sch_word.specs.declared.stop.Stop.TheVariants.{NotProcedure, DepthLimit, Unset}
 use Rattle.sch_word.specs.trees.NumberSets.{without_repeats}
-use Rattle.sch_word.specs.values.Values.{fixnum, procedure, is_constant, are_bytes}
+use Rattle.sch_word.specs.trees.Bindings.{pushed, with_cells}
+use Rattle.sch_word.specs.values.Options.{when_ok, option_list, rest_of}
+use Rattle.sch_word.specs.values.Values.{fixnum, procedure, cell, is_constant, are_bytes}
 use Rattle.sch_word.specs.values.Checked.{passes, refused, exhausted, unreachable}
 use Rattle.sch_word.specs.runs.Handed.{handed}
-use Rattle.sch_word.specs.runs.Computation.{callee, depth_left, entry_left}
+use Rattle.sch_word.specs.runs.Computation.{gives, stops, when_known, with_cell, callee, depth_left, entry_left}
 use Rattle.sch_word.specs.values.Literals.{constant, text, list, elements, literals, literal_in_range}
 
 -- ## Constants
@@ -62,3 +64,30 @@ repeats :
     × (without_repeats (1 ∷ 1 ∷ 2 ∷ []) ≡ false)
     × (without_repeats (2 ∷ 1 ∷ 2 ∷ []) ≡ false)
 repeats = (refl, refl, refl, refl, refl)
+
+-- ## What may be there
+
+known : (when_known {A = ℕ} {S = ℕ} (Some 3) gives 8 ≡ gives 3 8) × (when_known {A = ℕ} {S = ℕ} {V = ℕ} None gives 8 ≡ stops Unset 8)
+known = (refl, refl)
+
+cells : (with_cell {S = ℕ} (cell 3) gives 8 ≡ gives 3 8) × (with_cell {S = ℕ} {V = ℕ} (fixnum (pos 3)) gives 8 ≡ stops Unset 8)
+cells = (refl, refl)
+
+variables_of_cells :
+    (with_cells (5 ∷ 6 ∷ []) (0 ∷ 1 ∷ []) [] ≡ (6, cell 1) ∷ (5, cell 0) ∷ [])
+    × (with_cells (5 ∷ []) [] [] ≡ [])
+variables_of_cells = (refl, refl)
+
+answers :
+    (when_ok {A = ℕ} {B = ℕ} {E = ℕ} (Ok 1) (λ n. Ok (suc n)) ≡ Ok 2)
+    × (when_ok {A = ℕ} {B = ℕ} {E = ℕ} (Err 7) Ok ≡ Err 7)
+answers = (refl, refl)
+
+lists_of_options : (option_list {A = ℕ} (Some 1) ≡ 1 ∷ []) × (option_list {A = ℕ} None ≡ [])
+lists_of_options = (refl, refl)
+
+rests : (rest_of {A = ℕ} (1 ∷ 2 ∷ 3 ∷ []) ≡ 2 ∷ 3 ∷ []) × (rest_of {A = ℕ} [] ≡ [])
+rests = (refl, refl)
+
+scopes : pushed {A = ℕ} (1 ∷ 2 ∷ []) (3 ∷ []) ≡ 2 ∷ 1 ∷ 3 ∷ []
+scopes = refl

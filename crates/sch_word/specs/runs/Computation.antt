@@ -3,7 +3,8 @@
 use Rattle.std.specs.Prelude.{ℕ, zero, suc, Bool, true, false, List, [], ◌∷◌, ◌++◌, length, Option, Some, None, slice_get, slice_set}
 use Rattle.sch_word.specs.declared.stop.Stop.{Stop}
 use Rattle.sch_word.specs.declared.stop.Stop.TheVariants.{NotProcedure, DepthLimit, Unset}
-use Rattle.sch_word.specs.values.Values.{Value, unspecified, procedure}
+use Rattle.sch_word.specs.values.Values.{Value, unspecified, procedure, cell}
+use Rattle.sch_word.specs.values.Options.{rest_of}
 use Rattle.sch_word.specs.runs.Store.{Store}
 use Rattle.sch_word.specs.values.Checked.{Checked, passes, refused, exhausted, unreachable, on_passed}
 use Rattle.sch_word.specs.runs.Handed.{handed}
@@ -55,6 +56,16 @@ require false why next s = stops why s
 -- where none of them can come up.
 abbrev pub unreached : {S V : Type 0} → S → Outcome S V
 unreached = stops Unset
+
+-- goes on with what is there; a program for which it is not is no valid one
+abbrev pub when_known : {A S V : Type 0} → Option A → (A → S → Outcome S V) → S → Outcome S V
+when_known None next = unreached
+when_known (Some a) next = next a
+
+-- goes on with the number of the cell that a value is
+abbrev pub with_cell : {S V : Type 0} → Value → (ℕ → S → Outcome S V) → S → Outcome S V
+with_cell (cell n) next = next n
+with_cell _ next = unreached
 
 -- goes on with what a check lets pass
 abbrev pub checked : {S V W : Type 0} → Checked V → (V → S → Outcome S W) → S → Outcome S W
@@ -185,9 +196,9 @@ new_fix count make s =
 abbrev pub Enter : Type 0 → Type 0
 Enter P = P → List Value → ℕ → Computation P Value
 
+-- all values but the operator's
 abbrev pub operands : List Value → List Value
-operands [] = []
-operands (operator ∷ vs) = vs
+operands values = rest_of values
 
 -- the procedure of a number
 abbrev pub known_procedure : {P : Type 0} → Option P → Checked P

@@ -2,7 +2,7 @@
 -- has there, the last bound first.
 use Rattle.std.specs.Prelude.{ℕ, zero, suc, Bool, true, false, nat_eq, List, [], ◌∷◌, Option, Some, None}
 use Rattle.sch_word.specs.trees.NumberSets.{unless}
-use Rattle.sch_word.specs.values.Values.{Value, unspecified}
+use Rattle.sch_word.specs.values.Values.{Value, unspecified, cell}
 
 abbrev pub Bindings : Type 0 → Type 0
 Bindings A = List (ℕ × A)
@@ -20,6 +20,11 @@ bound_to x (b ∷ environment) = this_or (nat_eq x b.0) b.1 (bound_to x environm
 abbrev pub with_variables : {A : Type 0} → ℕ → List A → Bindings A → Bindings A
 with_variables x [] environment = environment
 with_variables x (a ∷ more) environment = with_variables (suc x) more ((x, a) ∷ environment)
+
+-- the variables of new cells have these, and the last is nearest
+abbrev pub with_cells : (variables cells : List ℕ) → Bindings Value → Bindings Value
+with_cells (x ∷ xs) (n ∷ ns) environment = with_cells xs ns ((x, cell n) ∷ environment)
+with_cells _ _ environment = environment
 
 abbrev pub value_or : Option Value → Value
 value_or None = unspecified
@@ -40,6 +45,11 @@ numbers x (suc count) = x ∷ numbers (suc x) count
 abbrev pub scope_with : (x count : ℕ) → List ℕ → List ℕ
 scope_with x zero scope = scope
 scope_with x (suc count) scope = scope_with (suc x) count (x ∷ scope)
+
+-- a scope with these in front of it, the last of them nearest
+abbrev pub pushed : {A : Type 0} → List A → List A → List A
+pushed [] scope = scope
+pushed (x ∷ xs) scope = pushed xs (x ∷ scope)
 
 -- a set without a number, and without a count of them from x on
 abbrev pub remove : ℕ → List ℕ → List ℕ

@@ -1,6 +1,6 @@
 -- Covered code: what the back end takes. It is all code but calls that spread their last operand, of which the core
 -- language has none.
-use Rattle.std.specs.Prelude.{Bool, true, false, ◌||◌, not, List, [], ◌∷◌}
+use Rattle.std.specs.Prelude.{Bool, true, ◌||◌, not}
 use Rattle.sch_word.specs.declared.constant.Const.{Const}
 use Rattle.sch_word.specs.declared.primitive.Primitive.{Primitive}
 use Rattle.sch_word.specs.trees.Shape.{Shape, call}
@@ -30,7 +30,3 @@ is_covered_rest rest = are_lists_covered || not rest
 abbrev pub is_covered_node : Shape → Bool
 is_covered_node (call site operands spread) = not spread
 is_covered_node _ = true
-
-abbrev pub is_empty : {A : Type 0} → List A → Bool
-is_empty [] = true
-is_empty (x ∷ xs) = false

@@ -4,7 +4,7 @@ use Rattle.sch_word.specs.declared.place.Place.{Place}
 use Rattle.sch_word.specs.declared.place.Place.TheVariants.{Reg, Slot}
 use Rattle.sch_word.specs.declared.registers.TheConstants.{CLOSURE_REGISTER, LINK_REGISTER}
 
--- where a body finds its return address and its closure as it is entered: R15 and R14
+-- where a body finds its return address and its closure as it is entered
 abbrev pub link_place : Place
 link_place = Reg LINK_REGISTER
 

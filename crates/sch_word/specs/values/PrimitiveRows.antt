@@ -9,7 +9,7 @@ use Rattle.sch_word.specs.values.Fixnum.{is_fixnum}
 use Rattle.sch_word.specs.values.Put as puts
 use Rattle.sch_word.specs.values.Values.{Value, fixnum, character, boolean, nil, unspecified, symbol, object, procedure, cell, Object, pair, vector, string, same_value}
 use Rattle.sch_word.specs.runs.Store.{Store}
-use Rattle.sch_word.specs.runs.Computation.{Action, gives, stops, after, require, unreached}
+use Rattle.sch_word.specs.runs.Computation.{Action, gives, stops, after, require, unreached, when_known}
 use Rattle.sch_word.specs.runs.Charges.{pair_bytes, vector_bytes, string_bytes, charge, new_object, charged_object}
 
 -- ## Operands by count
@@ -36,13 +36,9 @@ abbrev pub as_character : Value → (ℕ → Action Value) → Action Value
 as_character (character byte) next = next byte
 as_character _ next = stops WrongType
 
-abbrev pub known_name : Option (List ℕ) → (List ℕ → Action Value) → Action Value
-known_name (Some name) next = next name
-known_name None next = unreached
-
 -- a symbol, by its name
 abbrev pub as_symbol : Value → (List ℕ → Action Value) → Action Value
-as_symbol (symbol n) next t = known_name (slice_get t.constants.symbols n) next t
+as_symbol (symbol n) next t = when_known (slice_get t.constants.symbols n) next t
 as_symbol _ next t = stops WrongType t
 
 -- the object that a value is

@@ -1,13 +1,15 @@
 use Rattle.std.proofs.Common.{[], sym, subst, ◌≤◌}
 use Rattle.std.specs.List.{list_all}
-use Rattle.std.specs.Prelude.{IsTrue, false}
+use Rattle.std.specs.Prelude.{IsTrue, false, true}
 use Rattle.sch_asm.specs.Codes.{text_size}
 use Rattle.sch_asm.specs.Effects.{AreEffective}
 use Rattle.sch_asm.specs.Items.{AreItems, AreKnown, AreRoutines, IsEachOnce, labels_in, marks_arrive}
 use Rattle.sch_asm.specs.Narrow.{is_narrow_item}
 use Rattle.sch_runtime.specs.Form.{keeps_form}
 use Rattle.sch_runtime.specs.FrameRegister.{leaves_frame}
-use Rattle.sch_runtime.proofs.AllForms.{routines_keep, routines_quiet}
+use Rattle.sch_runtime.specs.HandedWord.{sets_first}
+use Rattle.sch_runtime.specs.HeapRegister.{passes_by_numbers}
+use Rattle.sch_runtime.proofs.AllForms.{routines_handed, routines_heap, routines_keep, routines_quiet}
 use Rattle.sch_runtime.proofs.AllItems.{all_are_narrow, all_effective, all_joined, all_known, all_marked, all_once, all_small, all_sound}
 use Rattle.sch_runtime.proofs.building.routines.Goals as goal
 
@@ -37,6 +39,12 @@ returns-clause-form c = subst (λ is. IsTrue (keeps_form is)) (sym c.in_ok-items
 
 pub returns-clause-frame : goal.returns-clause-frame
 returns-clause-frame c = subst (λ is. IsTrue (list_all leaves_frame is)) (sym c.in_ok-items.ensures) (routines_quiet c.args.heap_end)
+
+pub returns-clause-handed : goal.returns-clause-handed
+returns-clause-handed c = subst (λ is. IsTrue (sets_first true is)) (sym c.in_ok-items.ensures) (routines_handed c.args.heap_end)
+
+pub returns-clause-heap : goal.returns-clause-heap
+returns-clause-heap c = subst (λ is. IsTrue (list_all passes_by_numbers is)) (sym c.in_ok-items.ensures) (routines_heap c.args.heap_end)
 
 pub returns-clause-narrow : goal.returns-clause-narrow
 returns-clause-narrow c = subst (λ is. IsTrue (list_all is_narrow_item is)) (sym c.in_ok-items.ensures) (all_are_narrow c.args.heap_end)

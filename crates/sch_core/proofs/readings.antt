@@ -1,0 +1,3 @@
+pub mod ScopesAlike
+pub mod ReadingsAgree
+pub mod AssignedNames
