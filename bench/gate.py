@@ -1,6 +1,7 @@
 #!/usr/bin/env python3
-"""Runs the gate (`rt ci`), which begins from nothing each time, and prints the processor seconds that it takes
-for each crate: its proofs, its tests and its must-fail edits.
+"""Runs the gate (`rt ci`) and prints the processor seconds that it takes for each crate: its proofs, its tests and its
+must-fail edits. Words are handed on: some kits keep on a machine what a run passed, and then `bench/gate.py --anew`
+measures a gate that begins from nothing; others begin from nothing each time, and know no such word.
 
 It looks at the prover's processes ten times a second: what a process took after the last look is missing
 from its crate, and stands in the line `rest` with what the gate itself took. `--watch PID` looks at a gate
@@ -101,10 +102,10 @@ def of_parts(parts, seconds):
     return taken
 
 
-def run():
+def run(words):
     """The processor seconds of each crate and part, of the whole run, and the seconds on the clock."""
     begin = time.perf_counter()
-    child = subprocess.Popen(["rt", "ci"], cwd=TOP)
+    child = subprocess.Popen(["rt", "ci", *words], cwd=TOP)
     parts, seconds = {}, {}
     while True:
         pid, status, usage = os.wait4(child.pid, os.WNOHANG)
@@ -152,9 +153,7 @@ def main():
     if sys.argv[1:2] == ["--watch"]:
         table(watch(int(sys.argv[2])))
         return
-    if sys.argv[1:]:
-        sys.exit("usage: bench/gate.py [--watch PID | --modules CRATE]")
-    taken, whole, clock, status = run()
+    taken, whole, clock, status = run(sys.argv[1:])
     rest = whole - table(taken)
     print(f"| rest | | | | {rest:.0f} |")
     print(f"{whole / 60:.1f} processor minutes, {clock / 60:.1f} minutes on {os.cpu_count()} processors")
