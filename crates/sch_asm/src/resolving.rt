@@ -5,7 +5,7 @@ ghost use Rattle.std.specs.List.{flat_map};
 ghost use Rattle.sch_word.specs.runs.ProgramLayout.{max_text_size};
 ghost use Rattle.sch_insn.specs.Spelling.{AllValid, IsCondition, IsValid, spelling};
 ghost use Rattle.sch_jumps.specs.Least.{IsExact, IsLeast};
-ghost use Rattle.sch_word.specs.values.Options.{option_list};
+ghost use Rattle.std.specs.Option.{option_to_list};
 ghost use Rattle.sch_jumps.specs.Sizes.{is_near};
 ghost use Rattle.sch_jumps.specs.Spans.{set_of};
 ghost use Rattle.sch_asm.specs.Items.{AreItems, AreOwn, AreRoutines, IsItem};
@@ -150,7 +150,7 @@ fn insn_of(item: &Item, at: u32, long: bool, layout: &Layout) -> Option<Insn>
     requires short { at + size_of long item.now < 2 ^ 30 }
     requires reach { Reaches (slice_index layout.now.places.items) long at item.now }
     requires uses { UsesBelow (length layout.now.places.items) item.now }
-    ensures insns { option_list result ≡ insns_at (slice_index layout.now.places.items) long at item.now }
+    ensures insns { option_to_list result ≡ insns_at (slice_index layout.now.places.items) long at item.now }
     ensures valid { IfSome result IsValid }
     ensures size { IfSome result (λ insn. length (spelling insn) ≡ size_of long item.now) }
     ensures none { IfNone result (size_of long item.now ≡ 0) }
@@ -189,7 +189,7 @@ fn jump_count(item: &Item) -> usize
 
 // The mark of an item, if it is one.
 fn mark_of(item: &Item, at: u32) -> Option<Mark>
-    ensures { option_list result ≡ marks_of at item.now }
+    ensures { option_to_list result ≡ marks_of at item.now }
 {
     match item {
         Item::Mark(kind) => Some(Mark {

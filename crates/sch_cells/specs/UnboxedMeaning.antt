@@ -1,10 +1,10 @@
 -- What a cell program does where variables may be assigned: each variable has a cell of its own, new at
 -- each binding.
-use Rattle.std.specs.Prelude.{ℕ, zero, suc, Bool, true, false, List, [], ◌∷◌}
+use Rattle.std.specs.Prelude.{ℕ, zero, suc, Bool, true, false, List, [], ◌∷◌, cond}
 use Rattle.sch_word.specs.declared.answer.Answer.{Answer}
 use Rattle.sch_word.specs.values.Values.{Value, unspecified, constant_value, is_true}
 use Rattle.sch_word.specs.runs.Computation as computation
-use Rattle.sch_word.specs.runs.Computation.{Outcome, State, Computation, gives, spent, unreached, after, either, in_store, all_values, in_turn, read_literal, read_global, write_global, read_cell, write_cell, write_cells, new_cells, some_each, unset_each, new_procedure, new_fix, take_entry, call_with, when_known}
+use Rattle.sch_word.specs.runs.Computation.{Outcome, State, Computation, gives, spent, unreached, after, in_store, all_values, in_turn, read_literal, read_global, write_global, read_cell, write_cell, write_cells, new_cells, some_each, unset_each, new_procedure, new_fix, take_entry, call_with, when_known}
 use Rattle.sch_word.specs.runs.Charges.{charge, charge_each, fit}
 use Rattle.sch_word.specs.values.CellBytes.{cells_bytes}
 use Rattle.sch_word.specs.trees.Bindings.{Bindings, bound_to, with_variables}
@@ -36,7 +36,7 @@ module _ (orders : Orders) (enter : Enter) where
         after (evaluate e environment depth false) (λ v. in_store (write_global g v))
     evaluate (branch a b c) environment depth tail =
         after (evaluate a environment depth false)
-        (λ v. either (is_true v) (evaluate b environment depth tail) (evaluate c environment depth tail))
+        (λ v. cond (is_true v) (evaluate b environment depth tail) (evaluate c environment depth tail))
     evaluate (sequence es) environment depth tail = in_turn (parts es environment depth tail) unspecified
     evaluate (bind site first es e) environment depth tail =
         after (all_values (orders site) (each es environment depth))

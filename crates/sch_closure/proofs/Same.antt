@@ -4,7 +4,7 @@ use Rattle.std.specs.Prelude.{cond, slice_get, nat_eq, ◌||◌}
 use Rattle.std.proofs.lemmas.Bool.{eqb-true}
 use Rattle.sch_word.specs.values.Values.{Value, unspecified, is_true, cell, fixnum, character, boolean, nil, symbol, object, procedure}
 use Rattle.sch_word.specs.trees.NumberSets.{has, union, In}
-use Rattle.sch_word.specs.trees.Bindings.{Bindings, bound_to, this_or, value_or, value_of, with_variables, numbers, scope_with, remove, without}
+use Rattle.sch_word.specs.trees.Bindings.{Bindings, bound_to, value_or, value_of, with_variables, numbers, scope_with, remove, without}
 use Rattle.sch_word.specs.runs.Computation.{Computation, read_literal, read_global, write_global, take_entry, with_cell}
 use Rattle.sch_word.specs.runs.Charges.{charge, charge_each, procedure_bytes, fit}
 use Rattle.sch_word.specs.values.CellBytes.{cells_bytes}
@@ -72,7 +72,7 @@ seen_push : {fs xs : List ℕ} {environment : Bindings Value} {h : Environment} 
     → Seen fs xs ((y, v) ∷ environment) (push y v h)
 seen_push {fs} {xs} {environment} {h} y v a s = record { at = λ x i. go x (nat_eq x y) refl i }
   where
-    go : (x : ℕ) (b : Bool) → nat_eq x y ≡ b → In x xs → value_in (push y v h) (place fs x) ≡ value_or (this_or (nat_eq x y) v (bound_to x environment))
+    go : (x : ℕ) (b : Bool) → nat_eq x y ≡ b → In x xs → value_in (push y v h) (place fs x) ≡ value_or (cond (nat_eq x y) (Some v) (bound_to x environment))
     go x true e i =
         let q : x ≡ y = eqb-true x y e in
         let p : place fs x ≡ flat.bound x = place_bound 0 fs x (rw q a) in
@@ -183,10 +183,10 @@ module _ (all : List flat.Body) where
       (groups ls fs (suc n + procedures e) (seen_right (fields_of x m e) (free_lambdas ls) s) f.1 t.1)
 
   same_cell : {v v' : Value} {c : ℕ → Computation (Closure Value) Value} {d : ℕ → Computation Procedure Value} → v' ≡ v → ((k : ℕ) → DoesSame Becomes (c k) (d k))
-      → DoesSame Becomes (with_cell v c) (to.with_cell v' d)
+      → DoesSame Becomes (with_cell v c) (with_cell v' d)
   same_cell {v} {c = c} {d = d} e h = rw e (go v)
     where
-      go : (v : Value) → DoesSame Becomes (with_cell v c) (to.with_cell v d)
+      go : (v : Value) → DoesSame Becomes (with_cell v c) (with_cell v d)
       go (fixnum n) = similar_unreached (same_store Becomes)
       go (character b) = similar_unreached (same_store Becomes)
       go (boolean b) = similar_unreached (same_store Becomes)

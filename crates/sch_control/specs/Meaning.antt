@@ -3,6 +3,7 @@
 use Rattle.std.specs.Prelude.{ℕ, zero, suc, Bool, true, false, ◌||◌, cond, nat_eq, List, [], ◌∷◌, ◌++◌, length, Option, Some, None, slice_get}
 use Rattle.sch_word.specs.values.Values.{Value, unspecified, is_true}
 use Rattle.sch_word.specs.trees.NumberSets.{has, unless}
+use Rattle.sch_word.specs.values.Options.{when_some}
 use Rattle.sch_word.specs.values.Checked.{Checked, passes, refused, exhausted, unreachable}
 use Rattle.sch_word.specs.runs.Computation.{unreached, Outcome, gives, stops, spent, State, in_store, procedures_from, Entry, checked_call}
 use Rattle.sch_word.specs.runs.Charges.{charge_each}
@@ -62,10 +63,6 @@ marked_each (m ∷ ms) w = marked_each ms (marked m w)
 
 -- ## Results
 
-abbrev pub with_value : {A : Type 0} → Option A → (A → Result) → Result
-with_value None next = None
-with_value (Some a) next = next a
-
 -- goes on with what an outcome gives, the marks being these
 abbrev pub on_outcome : {V : Type 0} → List MarkKind → Outcome (State Procedure) V → (V → World → Result) → Result
 on_outcome marks (gives v s) next = next v (record { state = s; marks = marks })
@@ -88,10 +85,6 @@ on_checked (passes v) w next = next v
 on_checked (refused why) w next = Some (stops why w)
 on_checked exhausted w next = Some (spent w)
 on_checked unreachable w next = Some (unreached w)
-
-abbrev pub either : Bool → Result → Result → Result
-either true first second = first
-either false first second = second
 
 -- ## Environments
 
@@ -183,26 +176,26 @@ module _ (reading : Reading) where
         evaluate a inside environment saved w (λ v environment saved w. evaluate b inside environment saved w next)
     evaluate (branch a b c) inside environment saved w next =
         evaluate a inside environment saved w
-        (λ v environment saved w. either (is_true v)
+        (λ v environment saved w. cond (is_true v)
         (evaluate b inside environment saved w next) (evaluate c inside environment saved w next))
     evaluate (fix members e) inside environment saved w next =
         on_outcome w.marks (in_store (charge_each (member_bytes members)) w.state)
         (λ _ w. let vs = procedures_from (length w.state.procedures) (length members) in
         let inner = put_each environment members vs in
-        with_value (with_procedures w.state (members_made inner w.state members))
+        when_some (with_procedures w.state (members_made inner w.state members))
         (λ s. evaluate e inside inner (put_inside inside saved members vs)
         (mark_members inside members (record { state = s; marks = w.marks })) next))
     evaluate (call a restores) inside environment saved w next =
-        with_value (part_values environment w.state.store a)
+        when_some (part_values environment w.state.store a)
         (λ vs. on_return (call_in callee a.spread false depth vs (marked (Call a.site) (marked_each (reading.moves a.site) w)))
         (λ v w. next v (after_call reading.keeps restores environment saved) saved (mark_each Restore restores w)))
     evaluate (tail_call a) inside environment saved w next =
-        with_value (environment 0)
-        (λ link. with_value (part_values environment w.state.store a)
+        when_some (environment 0)
+        (λ link. when_some (part_values environment w.state.store a)
         (λ vs. call_in callee a.spread true depth vs (marked (Tail a.site) (marked_each (reading.moves a.site) w))))
     evaluate (return e) inside environment saved w next =
         evaluate e inside environment saved w
-        (λ v environment saved w. with_value (environment 0) (λ link. Some (gives v (marked Return w))))
+        (λ v environment saved w. when_some (environment 0) (λ link. Some (gives v (marked Return w))))
     evaluate (end e) inside environment saved w next =
         evaluate e inside environment saved w (λ v environment saved w. Some (gives unspecified w))
     evaluate (save saves e) inside environment saved w next =

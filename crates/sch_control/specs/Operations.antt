@@ -3,7 +3,7 @@ use Rattle.std.specs.Prelude.{ℕ, List, [], ◌∷◌, ◌++◌, length, Option
 use Rattle.sch_word.specs.declared.primitive.Primitive.{Primitive}
 use Rattle.sch_word.specs.values.Values.{Value, procedure, cell, constant_value}
 use Rattle.sch_word.specs.runs.Store.{Store}
-use Rattle.sch_word.specs.runs.Computation.{Outcome, gives, State, Computation, unreached, after, in_store, read_global, write_global, read_cell, write_cell, new_procedure}
+use Rattle.sch_word.specs.runs.Computation.{Outcome, gives, State, Computation, after, in_store, read_global, write_global, read_cell, write_cell, new_procedure, with_cell}
 use Rattle.sch_word.specs.runs.Charges.{charge, cell_bytes, procedure_bytes}
 use Rattle.sch_word.specs.runs.Procedures.{Procedure}
 use Rattle.sch_word.specs.values.PrimitiveRows.{primitive}
@@ -63,11 +63,6 @@ abbrev pub new_cell : Option Value → Computation Procedure Value
 new_cell contents =
     after (in_store (charge cell_bytes))
     (λ _ s. gives (cell (length s.cells)) (record s { cells = s.cells ++ contents ∷ [] }))
-
--- the cell that a value is
-abbrev pub with_cell : Value → (ℕ → Computation Procedure Value) → Computation Procedure Value
-with_cell (cell n) next = next n
-with_cell _ next = unreached
 
 module _ {V : Type 0} (at : V → Option Value) where
   -- ## Values

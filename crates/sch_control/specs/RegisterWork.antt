@@ -1,6 +1,7 @@
 -- How much there is to do at most, and how many words to copy, in what a body is laid out as whose variables live in
 -- registers. A copy is one `mov` between a register and a slot, or between two registers, and is counted apart.
 use Rattle.std.specs.Prelude.{ℕ, suc, ◌+◌, ◌*◌, List, [], ◌∷◌, length, Option, Some, None}
+use Rattle.std.specs.Option.{option_len}
 use Rattle.sch_control.specs.declared.body.Entry.{Entry}
 use Rattle.sch_control.specs.declared.operation.Application.{Application}
 use Rattle.sch_control.specs.AtomsAndSites.{member_atoms}
@@ -34,8 +35,7 @@ expression_done (save saves e) = expression_done e
 
 -- a procedure is jumped over
 abbrev pub entry_done : Option Entry → ℕ
-entry_done None = 0
-entry_done (Some e) = 1
+entry_done e = option_len e
 
 abbrev pub code_done : Code → ℕ
 code_done c = entry_done c.entry + expression_done c.expression

@@ -1,5 +1,6 @@
 -- What is seen of a program's run.
 use Rattle.std.specs.Prelude.{ℕ, zero, suc, List, [], ◌∷◌, Option, Some, None, slice_get}
+use Rattle.std.specs.Option.{option_flatten}
 use Rattle.sch_word.specs.declared.answer.Answer.{Answer}
 use Rattle.sch_word.specs.values.Values.{Value, unspecified}
 use Rattle.sch_word.specs.runs.Computation.{gives, spent, in_store, take_entry}
@@ -42,13 +43,9 @@ do_forms (None ∷ entries) label bodies callee depth w =
     on_return (bodies label callee depth unspecified [] (marked (Enter label) w))
     (λ v w. do_forms entries (suc label) bodies callee depth w)
 
-abbrev pub known_entry : Option (Option Entry) → Option Entry
-known_entry None = None
-known_entry (Some e) = e
-
 -- how the body of a label is entered, if there is one that is
 abbrev pub entry_at : List (Option Entry) → ℕ → Option Entry
-entry_at entries label = known_entry (slice_get entries label)
+entry_at entries label = option_flatten (slice_get entries label)
 
 abbrev pub starting_world : Statics → (library : List ℕ) → (heap : ℕ) → List Answer → (entries : ℕ) → World
 starting_world statics library heap answers entries = record {

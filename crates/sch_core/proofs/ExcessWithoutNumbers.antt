@@ -13,7 +13,8 @@ use Rattle.sch_sketch.specs.Draft.{Draft, Drafts, no_drafts, and_draft}
 use Rattle.sch_link_tables.specs.Assigned.{is_group}
 use Rattle.sch_link_tables.specs.Sites.{unless_group, widths, widths_of_each}
 use Rattle.sch_link_tables.specs.Quoted.{quotes_in, quotes_in_each}
-use Rattle.sch_link_tables.specs.Numbered.{numbered, numbered_each, body_name, procedures_of, grouped, first_of, others_of}
+use Rattle.sch_word.specs.values.Options.{rest_of}
+use Rattle.sch_link_tables.specs.Numbered.{numbered, numbered_each, body_name, procedures_of, grouped, first_of}
 use Rattle.sch_core.specs.Excess.{excess, first_excess}
 
 -- an expression without those numbers
@@ -262,7 +263,7 @@ module _ (own globals symbols own' globals' symbols' : List (List ℕ)) where
     alike_each vs no_drafts s l s' l' = refl
     alike_each vs (and_draft e es) s l s' l' =
         let i = alike (first_of vs) e s l s' l' in
-        let j = alike_each (others_of vs) es (s + length (widths e)) (l + length (quotes_in e)) (s' + length (widths e)) (l' + length (quotes_in e)) in
+        let j = alike_each (rest_of vs) es (s + length (widths e)) (l + length (quotes_in e)) (s' + length (widths e)) (l' + length (quotes_in e)) in
         λ p. and_expression (i p) (j p)
 
 -- ## The first form that has too much

@@ -1,5 +1,5 @@
 -- A table of the marks of each address.
-use Rattle.std.specs.Prelude.{◌≡◌, ℕ, ◌<◌, ◌^◌, All, List, [], length, Option, Some, None, nat_eq}
+use Rattle.std.specs.Prelude.{◌≡◌, ℕ, ◌<◌, ◌^◌, All, List, [], length, Option, unwrap_or, nat_eq}
 use Rattle.std.specs.HashMap.{get}
 use Rattle.sch_word.specs.declared.mark.MarkKind.{MarkKind}
 use Rattle.sch_asm.specs.declared.item.Mark.{Mark}
@@ -9,8 +9,7 @@ use Rattle.sch_count.specs.declared.mark_table.MarkTable.{MarkTable}
 
 -- what is entered at an address, and nothing where none is
 abbrev pub entered_at : Option (List MarkKind) → List MarkKind
-entered_at None = []
-entered_at (Some kinds) = kinds
+entered_at kinds = unwrap_or kinds []
 
 abbrev pub table_marks : MarkTable → ℕ → List MarkKind
 table_marks t address = entered_at (get nat_eq t.kinds address)

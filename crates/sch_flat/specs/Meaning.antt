@@ -1,17 +1,18 @@
 -- What a flat tree does: a variable that the body binds holds a value, which may be a cell, and so does a
 -- field of the record that was entered.
-use Rattle.std.specs.Prelude.{ℕ, zero, suc, Bool, true, false, List, [], ◌∷◌, length, slice_get, Option, Some, None}
-use Rattle.sch_word.specs.values.Values.{Value, unspecified, constant_value, is_true, cell}
+use Rattle.std.specs.Prelude.{ℕ, zero, suc, Bool, true, false, List, [], ◌∷◌, length, slice_get, Option, Some, None, cond}
+use Rattle.sch_word.specs.values.Values.{Value, unspecified, constant_value, is_true}
 use Rattle.sch_word.specs.runs.Computation as computation
-use Rattle.sch_word.specs.runs.Computation.{Computation, gives, spent, unreached, after, either, in_store, all_values, in_turn, read_literal, read_global, write_global, read_cell, write_cell, new_cells, new_procedure, new_group, take_entry, call_with}
+use Rattle.sch_word.specs.runs.Computation.{Computation, gives, spent, after, in_store, all_values, in_turn, read_literal, read_global, write_global, read_cell, write_cell, new_cells, new_procedure, new_group, take_entry, call_with, when_known, with_cell}
 use Rattle.sch_word.specs.runs.Charges.{charge, charge_each, procedure_bytes, fit}
 use Rattle.sch_word.specs.values.CellBytes.{cells_bytes}
 use Rattle.sch_word.specs.runs.Orders.{Orders}
 use Rattle.sch_word.specs.runs.Procedures.{Procedure}
 use Rattle.sch_word.specs.values.PrimitiveRows.{primitive}
-use Rattle.sch_word.specs.trees.Bindings.{Bindings, value_or, value_of, with_variables}
+use Rattle.sch_word.specs.trees.Bindings.{Bindings, value_or, value_of, with_variables, with_cells}
 use Rattle.sch_flat.specs.Tree.{Variable, bound, free, Made, NewCell, Tree, Trees, Body, constant, literal, variable, global, set_global, define, branch, sequence, bind, make_closure, fix_closures, call, operation, cell_get, cell_set, no_trees, and_tree}
 use Rattle.sch_flat.specs.Tree as tree
+use Rattle.sch_flat.specs.Valid.{cell_variables}
 
 -- What the variables of a body have: those that it binds, the last first, and the fields of the record with
 -- which it was entered.
@@ -58,17 +59,8 @@ contents environment [] = []
 contents environment (c ∷ cs) = content environment c.content ∷ contents environment cs
 
 -- a group of cells bound to its variables
-abbrev pub with_cells : List NewCell → List ℕ → Bindings Value → Bindings Value
-with_cells (c ∷ cs) (n ∷ ns) variables = with_cells cs ns ((c.variable, cell n) ∷ variables)
-with_cells _ _ variables = variables
-
 abbrev pub and_cells : List NewCell → List ℕ → Environment → Environment
-and_cells cs ns environment = record { variables = with_cells cs ns environment.variables; fields = environment.fields }
-
--- the cell that a variable holds
-abbrev pub with_cell : {V : Type 0} → Value → (ℕ → Computation Procedure V) → Computation Procedure V
-with_cell (cell n) next = next n
-with_cell _ next = unreached
+and_cells cs ns environment = record { variables = with_cells (cell_variables cs) ns environment.variables; fields = environment.fields }
 
 module _ (orders : Orders) (enter : Enter) where
   abbrev mutual
@@ -83,7 +75,7 @@ module _ (orders : Orders) (enter : Enter) where
         after (evaluate e environment depth false) (λ v. in_store (write_global g v))
     evaluate (branch a b c) environment depth tail =
         after (evaluate a environment depth false)
-        (λ v. either (is_true v) (evaluate b environment depth tail) (evaluate c environment depth tail))
+        (λ v. cond (is_true v) (evaluate b environment depth tail) (evaluate c environment depth tail))
     evaluate (sequence es) environment depth tail = in_turn (parts es environment depth tail) unspecified
     evaluate (bind site first es e) environment depth tail =
         after (all_values (orders site) (each es environment depth))
@@ -119,11 +111,6 @@ module _ (orders : Orders) (enter : Enter) where
     parts (and_tree e (and_tree e' es)) environment depth tail =
         evaluate e environment depth false ∷ parts (and_tree e' es) environment depth tail
 
--- the body of a label
-abbrev pub with_body : Option Body → (Body → Computation Procedure Value) → Computation Procedure Value
-with_body None next = unreached
-with_body (Some b) next = next b
-
 -- where a body begins: its formals have these values
 abbrev pub entered : Body → List Value → (fields : List Value) → Environment
 entered b vs fields = record { variables = with_variables b.first vs []; fields = fields }
@@ -133,7 +120,7 @@ entered b vs fields = record { variables = with_variables b.first vs []; fields 
 abbrev pub enter : List Body → Orders → (n : ℕ) → Enter
 enter bodies orders zero p vs depth = spent
 enter bodies orders (suc n) p vs depth =
-    with_body (slice_get bodies p.label)
+    when_known (slice_get bodies p.label)
     (λ b. after (in_store (fit b.formals b.rest vs))
     (λ ws. after (in_store take_entry)
     (λ _. evaluate orders (enter bodies orders n) b.code (entered b ws p.fields) depth true)))

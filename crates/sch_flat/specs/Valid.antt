@@ -4,7 +4,7 @@ use Rattle.std.specs.List.{list_all}
 use Rattle.sch_word.specs.values.Literals.{count_literals}
 use Rattle.sch_word.specs.runs.Runs.{statics_valid, statics_in_range}
 use Rattle.sch_word.specs.trees.NumberSets.{has}
-use Rattle.sch_word.specs.trees.Bindings.{numbers, scope_with}
+use Rattle.sch_word.specs.trees.Bindings.{numbers, scope_with, pushed}
 use Rattle.sch_word.specs.trees.Shape.{names_known, constant_in_range, well_formed, fits, max_operands, max_levels, max_variables, max_free_variables, sites_once}
 use Rattle.sch_flat.specs.Tree.{Variable, bound, free, Made, NewCell, Tree, Trees, Body, Source, constant, literal, variable, global, set_global, define, branch, sequence, bind, make_closure, fix_closures, call, operation, new_cells, cell_get, cell_set, no_trees, and_tree, count}
 use Rattle.sch_flat.specs.Measures.{over_source, sites_of, variables, body_variables, levels, levels_each}
@@ -20,10 +20,6 @@ abbrev pub is_content : List ℕ → (fields : ℕ) → Option Variable → Bool
 is_content scope fields None = true
 is_content scope fields (Some v) = is_known scope fields v
 
-abbrev pub cells_scope : List NewCell → List ℕ → List ℕ
-cells_scope [] scope = scope
-cells_scope (c ∷ cs) scope = cells_scope cs (c.variable ∷ scope)
-
 -- none of these variables is bound already
 abbrev pub all_new : List ℕ → List ℕ → Bool
 all_new [] scope = true
@@ -32,6 +28,9 @@ all_new (x ∷ xs) scope = not (has x scope) && all_new xs (x ∷ scope)
 abbrev pub cell_variables : List NewCell → List ℕ
 cell_variables [] = []
 cell_variables (c ∷ cs) = c.variable ∷ cell_variables cs
+
+abbrev pub cells_scope : List NewCell → List ℕ → List ℕ
+cells_scope cs scope = pushed (cell_variables cs) scope
 
 -- a record has as many fields as its body asks for
 abbrev pub has_fields : Option Body → (fields : ℕ) → Bool

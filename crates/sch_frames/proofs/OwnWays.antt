@@ -15,10 +15,12 @@ use Rattle.sch_control.specs.declared.body.Entry.{Entry}
 use Rattle.sch_word.specs.declared.mark.MarkKind.{MarkKind}
 use Rattle.sch_word.specs.declared.mark.MarkKind.TheVariants as mark
 use Rattle.sch_control.specs.CoveredOperands.{is_form}
-use Rattle.sch_control.specs.Meaning.{Callee, Result, World, call_in, either, entered as into, marked, on_checked, on_ending, on_outcome, on_return, with_value}
+use Rattle.sch_word.specs.values.Options.{when_some}
+use Rattle.sch_control.specs.Meaning.{Callee, Result, World, call_in, entered as into, marked, on_checked, on_ending, on_outcome, on_return}
 use Rattle.sch_control.specs.Operations.{Ending, member_bytes, members_made, operate, with_procedures}
 use Rattle.sch_word.specs.runs.Procedures.{Procedure}
-use Rattle.sch_control.specs.Run.{do_forms, enter, enter_body, entry_at, known_entry, outcome_of, starting_world}
+use Rattle.std.specs.Option.{option_flatten}
+use Rattle.sch_control.specs.Run.{do_forms, enter, enter_body, entry_at, outcome_of, starting_world}
 use Rattle.sch_frames.specs.declared.instruction.Instruction.{Instruction}
 use Rattle.sch_frames.specs.declared.instruction.Instruction.TheVariants.{Do, Store as Put, Copy, Pass, Fix, Call, Tail, Return, End, IfFalse, Jump, Label, Mark}
 use Rattle.sch_word.specs.values.Places.{link_place}
@@ -66,7 +68,7 @@ module _ (codes : List Code) where
   level_sound : {suspended : List (List MarkKind)} {marks : List MarkKind} → Level codes suspended marks → Sound codes marks
   level_sound l = told_sound codes l.told
 
-  valued : {A : Type 0} (P : List MarkKind → Type 0) (o : Option A) (next : A → Result) → ((a : A) → o ≡ Some a → Ends P (next a)) → Ends P (with_value o next)
+  valued : {A : Type 0} (P : List MarkKind → Type 0) (o : Option A) (next : A → Result) → ((a : A) → o ≡ Some a → Ends P (next a)) → Ends P (when_some o next)
   valued P None next h = tt
   valued P (Some a) next h = h a refl
 
@@ -193,7 +195,7 @@ module _ (codes : List Code) where
         tested : (v : Value) (b : Bool) → is_true v ≡ b → (l : ℕ) → marks_stand (is_form code.entry) None rest ≡ true → (f : Frame) (w : World) (before : List MarkKind)
             → value_in f.accumulator ≡ Some v
             → Leads None None f w.state before (IfFalse l ∷ rest) → Mine None None before w.marks
-            → Ends P (either b (execute_each callee depth rest None f w) (execute_each callee depth rest (Some l) f w))
+            → Ends P (cond b (execute_each callee depth rest None f w) (execute_each callee depth rest (Some l) f w))
         tested v true e l h f w before i leads mine = goes None h None f w before (λ marks y. leads marks (v, (i, subst (λ b. way rest (cond b None (Some l)) f w.state marks) (sym e) y))) mine
         tested v false e l h f w before i leads mine = goes None h (Some l) f w before (λ marks y. leads marks (v, (i, subst (λ b. way rest (cond b None (Some l)) f w.state marks) (sym e) y))) mine
 
@@ -319,7 +321,7 @@ module _ (codes : List Code) (covered : list_all is_covered_code codes ≡ true)
   form_fitting : (label : ℕ) (entries : List (Option Entry)) → From label (None ∷ entries) → (c : Code) → slice_get codes label ≡ Some c → 0 ≡ formals_of c.entry
   form_fitting label entries from c known =
       let z : label + 0 ≡ label = omega arith in
-      let none : entry_at (entries_of codes) label ≡ None = ap known_entry (ap (slice_get (entries_of codes)) (sym z) ∙ from 0 None refl) in
+      let none : entry_at (entries_of codes) label ≡ None = ap option_flatten (ap (slice_get (entries_of codes)) (sym z) ∙ from 0 None refl) in
       ap formals_of (sym none ∙ entry_of codes label c known)
 
   forms_come : (n depth : ℕ) (entries : List (Option Entry)) (label : ℕ) (w : World) → From label entries → Level codes [] w.marks

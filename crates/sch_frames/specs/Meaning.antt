@@ -12,7 +12,8 @@ use Rattle.sch_word.specs.values.Places.{same_place, link_place, closure_place}
 use Rattle.sch_control.specs.declared.body.Entry.{Entry}
 use Rattle.sch_control.specs.declared.operation.Member.{Member}
 use Rattle.sch_control.specs.Operations.{operate, and_value, member_bytes, members_made, with_procedures}
-use Rattle.sch_control.specs.Meaning.{World, Result, Callee, marked, with_value, on_outcome, on_ending, on_return, either, call_in}
+use Rattle.sch_word.specs.values.Options.{when_some}
+use Rattle.sch_control.specs.Meaning.{World, Result, Callee, marked, on_outcome, on_ending, on_return, call_in}
 use Rattle.sch_control.specs.flow.Places.{argument_register, argument_slot}
 use Rattle.sch_frames.specs.declared.instruction.Instruction.{Instruction}
 use Rattle.sch_frames.specs.declared.instruction.Instruction.TheVariants.{Do, Store, Copy, Pass, Fix, Call, Tail, Return, End, IfFalse, Jump, Label, Mark}
@@ -111,17 +112,17 @@ module _ (callee : Callee) (depth : ℕ) where
   execute (Fix members spills) next f w =
       on_outcome w.marks (in_store (charge_each (member_bytes members)) w.state)
       (λ _ w. let inner = with_members f members (procedures_from (length w.state.procedures) (length members)) in
-      with_value (with_procedures w.state (members_made (held inner) w.state members))
+      when_some (with_procedures w.state (members_made (held inner) w.state members))
       (λ s. next None inner (record { state = s; marks = w.marks ++ map Spill spills })))
   execute (Call spread count) next f w =
-      with_value (parts f.places f.outgoing count)
+      when_some (parts f.places f.outgoing count)
       (λ vs. on_return (call_in callee spread false depth vs w) (λ v w. next None (after_call f v) w))
   execute (Tail spread count) next f w =
       if_link (f.places link_place)
-      (with_value (parts f.places (λ j. f.places (Slot j)) count) (λ vs. call_in callee spread true depth vs w))
-  execute Return next f w = if_link (f.places link_place) (with_value (value_in f.accumulator) (λ v. Some (gives v w)))
+      (when_some (parts f.places (λ j. f.places (Slot j)) count) (λ vs. call_in callee spread true depth vs w))
+  execute Return next f w = if_link (f.places link_place) (when_some (value_in f.accumulator) (λ v. Some (gives v w)))
   execute End next f w = Some (gives unspecified w)
-  execute (IfFalse l) next f w = with_value (value_in f.accumulator) (λ v. either (is_true v) (next None f w) (next (Some l) f w))
+  execute (IfFalse l) next f w = when_some (value_in f.accumulator) (λ v. cond (is_true v) (next None f w) (next (Some l) f w))
   execute (Jump l) next f w = next (Some l) f w
   execute (Label l) next f w = next None f w
   execute (Mark m) next f w = next None f (marked m w)

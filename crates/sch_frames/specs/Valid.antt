@@ -1,5 +1,5 @@
 -- Which programs are valid.
-use Rattle.std.specs.Prelude.{ℕ, suc, ◌+◌, nat_eq, cond, Bool, true, false, ◌&&◌, ◌||◌, not, nat_lt, nat_le, List, [], ◌∷◌, length, Option, Some, None}
+use Rattle.std.specs.Prelude.{ℕ, suc, ◌+◌, nat_eq, cond, Bool, true, ◌&&◌, ◌||◌, not, nat_lt, nat_le, List, [], ◌∷◌, length, Option, is_some}
 use Rattle.std.specs.List.{list_all}
 use Rattle.sch_word.specs.declared.place.Place.{Place}
 use Rattle.sch_word.specs.declared.place.Place.TheVariants.{Reg, Slot}
@@ -63,8 +63,7 @@ module _ (words : ℕ) where
 
 -- whether a body is a procedure's, which is entered
 abbrev pub is_entered : Option Entry → Bool
-is_entered None = false
-is_entered (Some e) = true
+is_entered e = is_some e
 
 abbrev pub placed : Option Entry → (words : ℕ) → List Instruction → Bool
 placed entry words instructions =

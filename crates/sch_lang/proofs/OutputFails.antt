@@ -2,7 +2,7 @@
 -- any R that each such answer gives: from a state of such answers every computation leaves such answers,
 -- and where it stops with a failed output, R holds.
 use Rattle.std.proofs.Common.{◌≡◌, ℕ, zero, suc, Bool, true, false, ℤ, List, [], ◌∷◌, drop, Option, Some, None, refl, ap, subst, sym, arith}
-use Rattle.std.specs.Prelude.{All, Any, slice_get, slice_set, slice_index_or, nat_le, ◌+◌, ◌++◌}
+use Rattle.std.specs.Prelude.{All, Any, slice_get, slice_set, slice_index_or, nat_le, ◌+◌, ◌++◌, cond}
 use Rattle.std.proofs.lemmas.List.Elements.{All-contains_itself}
 use Rattle.sch_word.specs.declared.answer.Answer.{Answer}
 use Rattle.sch_word.specs.declared.answer.Answer.TheVariants.{Took, Failed}
@@ -15,7 +15,7 @@ use Rattle.sch_word.specs.values.Values.{Value, fixnum, character, unspecified, 
 use Rattle.sch_word.specs.runs.Store.{Store}
 use Rattle.sch_word.specs.runs.Stops.{status_of}
 use Rattle.sch_word.specs.values.Checked.{Checked, passes, refused, exhausted, unreachable, on_passed}
-use Rattle.sch_word.specs.runs.Computation.{Outcome, gives, stops, spent, State, Action, Computation, with_rest, in_store, on_value, after, either, require, at_place, in_order, in_turn, blanks, all_values, set_or_stop, read_cell, write_cell, write_cells, new_procedure, new_fix, new_cells, some_each, unset_each, read_global, write_global, known_value, read_literal, known_procedure, callee, depth_left, entry_left, checked, checked_call, call_with, taken, take_entry, when_known}
+use Rattle.sch_word.specs.runs.Computation.{Outcome, gives, stops, spent, State, Action, Computation, with_rest, in_store, on_value, after, require, at_place, in_order, in_turn, blanks, all_values, set_or_stop, read_cell, write_cell, write_cells, new_procedure, new_fix, new_cells, some_each, unset_each, read_global, write_global, known_value, read_literal, known_procedure, callee, depth_left, entry_left, checked, checked_call, call_with, taken, take_entry, when_known}
 use Rattle.sch_word.specs.runs.Charges.{charge, charge_each, new_object, new_list, fit}
 use Rattle.sch_word.specs.values.CellBytes.{cells_bytes}
 use Rattle.sch_word.specs.runs.Orders.{Orders, order_at}
@@ -62,7 +62,7 @@ module _ (R : Type 0) where
       keeps_require true why h g = g
       keeps_require false why h g = keeps_stops why h
 
-      keeps_either : (b : Bool) {c d : S → Outcome S V} → Keeps left c → Keeps left d → Keeps left (either b c d)
+      keeps_either : (b : Bool) {c d : S → Outcome S V} → Keeps left c → Keeps left d → Keeps left (cond b c d)
       keeps_either true g h = g
       keeps_either false g h = h
 

@@ -1,13 +1,13 @@
 -- Where a computation is spent, no procedure entry is left; so the nesting that bounds the evaluator
 -- is never what ends a run.
 use Rattle.std.proofs.Common.{◌≡◌, ℕ, zero, suc, ◌≤◌, Bool, true, false, List, [], ◌∷◌, Option, Some, None, refl, arith}
-use Rattle.std.specs.Prelude.{slice_get, slice_set}
+use Rattle.std.specs.Prelude.{slice_get, slice_set, cond}
 use Rattle.sch_word.specs.declared.answer.Answer.{Answer}
 use Rattle.sch_word.specs.declared.stop.Stop.{Stop}
 use Rattle.sch_word.specs.values.Values.{Value, unspecified, is_true}
 use Rattle.sch_word.specs.runs.Store.{Store}
 use Rattle.sch_word.specs.values.Checked.{Checked, passes, refused, exhausted, unreachable}
-use Rattle.sch_word.specs.runs.Computation.{Outcome, gives, stops, spent, State, Action, Computation, with_rest, in_store, on_value, after, either, at_place, in_order, in_turn, blanks, all_values, set_or_stop, read_cell, write_cell, write_cells, new_procedure, new_fix, new_cells, some_each, unset_each, checked, checked_call, call_with, taken, take_entry, when_known}
+use Rattle.sch_word.specs.runs.Computation.{Outcome, gives, stops, spent, State, Action, Computation, with_rest, in_store, on_value, after, at_place, in_order, in_turn, blanks, all_values, set_or_stop, read_cell, write_cell, write_cells, new_procedure, new_fix, new_cells, some_each, unset_each, checked, checked_call, call_with, taken, take_entry, when_known}
 use Rattle.sch_word.specs.runs.Runs.{going, seen, starting_store, starting_state}
 use Rattle.sch_word.proofs.Steady.{OutcomeGrows, NeverSpent, Steady, steady_charge, steady_charge_each, steady_fit, steady_read_global, steady_write_global, steady_read_literal, steady_primitive}
 use Rattle.sch_word.proofs.NoEntryLeft.{Exhausts, exhausts_checked_call}
@@ -47,7 +47,7 @@ module _ (n : ℕ) where
     spends_stops : (why : Stop) → Spends n {V = V} (stops why)
     spends_stops why = record { from = λ s g. g }
 
-    spends_either : (b : Bool) {c d : Computation Closure V} → Spends n c → Spends n d → Spends n (either b c d)
+    spends_either : (b : Bool) {c d : Computation Closure V} → Spends n c → Spends n d → Spends n (cond b c d)
     spends_either true g h = g
     spends_either false g h = h
 

@@ -8,7 +8,7 @@ use Rattle.sch_control.specs.declared.operation.Atom.TheVariants.{Variable}
 use Rattle.sch_control.specs.declared.operation.Operand.{Operand}
 use Rattle.sch_control.specs.declared.operation.Operand.TheVariants as operand
 use Rattle.sch_control.specs.flow.Paths.{Event, Binds, References, Saves, Calls, Tails, Returns, Ends}
-use Rattle.sch_word.specs.values.Options.{option_list}
+use Rattle.std.specs.Option.{option_to_list}
 use Rattle.sch_word.specs.values.Places.{same_place, is_slot}
 use Rattle.sch_layout.specs.BodyLayout.{Plan, spill, move_mark}
 use Rattle.sch_control.specs.flow.Places.{variable_arrival}
@@ -16,8 +16,8 @@ use Rattle.sch_layout.specs.Moves.{Move}
 
 -- a move leaves its mark, where it is one
 abbrev pub left_by : (to : Place) → Option MarkKind → Operand Place → List MarkKind
-left_by to m (operand.Atom (Variable p)) = cond (same_place to p) [] (option_list m)
-left_by to m o = option_list m
+left_by to m (operand.Atom (Variable p)) = cond (same_place to p) [] (option_to_list m)
+left_by to m o = option_to_list m
 
 abbrev pub move_marks : List Move → List MarkKind
 move_marks [] = []
@@ -31,7 +31,7 @@ module _ (plan : Plan) where
 
   -- the marks of an event
   abbrev pub marks_of : Event → List MarkKind
-  marks_of (Binds x) = option_list (spill plan x)
+  marks_of (Binds x) = option_to_list (spill plan x)
   marks_of (References x) = []
   marks_of (Saves x) = cond (is_slot (plan.place x)) [] (mark.Save x ∷ [])
   marks_of (Calls a restores) = move_marks (plan.moves false a) ++ (mark.Call a.site ∷ restore_marks restores)
@@ -48,7 +48,7 @@ module _ (plan : Plan) where
   abbrev pub arrival_marks : (from count : ℕ) → List MarkKind
   arrival_marks from zero = []
   arrival_marks from (suc count) =
-      cond (same_place (plan.place from) (variable_arrival from)) [] (option_list (spill plan from)) ++ arrival_marks (suc from) count
+      cond (same_place (plan.place from) (variable_arrival from)) [] (option_to_list (spill plan from)) ++ arrival_marks (suc from) count
 
   abbrev pub entry_marks : Option Entry → List MarkKind
   entry_marks None = []

@@ -26,7 +26,8 @@ use Rattle.sch_link_tables.specs.Quoted.{quotes_in, quotes_in_each}
 use Rattle.sch_link_tables.specs.Room.{HasRoom, has_near_variables, have_near_variables}
 use Rattle.sch_link_tables.specs.Sites.{unless_group, widths, widths_of_each}
 use Rattle.sch_link_tables.specs.declared.tables.Output.{Output}
-use Rattle.sch_link_tables.specs.Numbered.{numbered, numbered_each, grouped, first_of, others_of}
+use Rattle.sch_word.specs.values.Options.{rest_of}
+use Rattle.sch_link_tables.specs.Numbered.{numbered, numbered_each, grouped, first_of}
 use Rattle.sch_link_tables.proofs.DraftLists.{next_draft, no_draft}
 use Rattle.sch_link_tables.proofs.FewNumbers.{room_after}
 
@@ -142,7 +143,7 @@ onto_more : (es : List Expression) (e : Expression) (rest : Expressions) → ont
 onto_more [] e rest = refl
 onto_more (a ∷ es) e rest = ap (and_expression a) (onto_more es e rest)
 
-others_at : (n : ℕ) (vs : VariableNames) → others_of (drop n vs) ≡ drop (suc n) vs
+others_at : (n : ℕ) (vs : VariableNames) → rest_of (drop n vs) ≡ drop (suc n) vs
 others_at zero [] = refl
 others_at zero (v ∷ vs) = refl
 others_at (suc n) [] = refl

@@ -12,7 +12,8 @@ use Rattle.sch_link_tables.specs.Constants.{draft_in_range, drafts_in_range, Has
 use Rattle.sch_link_tables.specs.Named.{firsts, globals_in_each, symbols_in_each}
 use Rattle.sch_link_tables.specs.Quoted.{quotes_in, quotes_in_each}
 use Rattle.sch_link_tables.specs.Sites.{unless_group, widths, widths_of_each}
-use Rattle.sch_link_tables.specs.Numbered.{numbered, numbered_each, grouped, procedures_of, first_of, others_of}
+use Rattle.sch_word.specs.values.Options.{rest_of}
+use Rattle.sch_link_tables.specs.Numbered.{numbered, numbered_each, grouped, procedures_of, first_of}
 use Rattle.sch_link_tables.specs.Programs.{Definition, globals_of_each, symbols_of_each, quotes_of_each, widths_of_definitions, procedures, program_with}
 use Rattle.sch_lang.specs.Valid.{trees_in_range}
 use Rattle.sch_link_program.specs.Ranged.{BodiesHaveConstants}
@@ -70,7 +71,7 @@ module _ (own globals symbols : List (List ℕ)) where
     all_constants_kept vs no_drafts s l h = refl
     all_constants_kept vs (and_draft e es) s l h =
         let k = and_parts (draft_in_range e) _ h in
-        and_from _ _ (constants_kept (first_of vs) e s l k.0) (all_constants_kept (others_of vs) es (s + length (widths e)) (l + length (quotes_in e)) k.1)
+        and_from _ _ (constants_kept (first_of vs) e s l k.0) (all_constants_kept (rest_of vs) es (s + length (widths e)) (l + length (quotes_in e)) k.1)
 
 procedures_ranged : (globals symbols : List (List ℕ)) (ds : List Definition) (s l : ℕ) → BodiesHaveConstants ds → ranged_lambdas (procedures globals symbols ds s l) ≡ true
 procedures_ranged globals symbols [] s l h = refl

@@ -12,7 +12,8 @@ use Rattle.sch_link_tables.specs.Named.{firsts, library_global, globals_in_each,
 use Rattle.sch_link_tables.specs.Quoted.{quotes_in, quotes_in_each}
 use Rattle.sch_link_tables.specs.Sites.{unless_group, widths, widths_of_each}
 use Rattle.sch_names.specs.Scope.{is_among, VariableNames}
-use Rattle.sch_link_tables.specs.Numbered.{numbered, numbered_each, grouped, procedures_of, first_of, others_of}
+use Rattle.sch_word.specs.values.Options.{rest_of}
+use Rattle.sch_link_tables.specs.Numbered.{numbered, numbered_each, grouped, procedures_of, first_of}
 use Rattle.sch_link_tables.specs.Programs.{Definition, kept, held, named, with_definition, globals_of_each, symbols_of_each, quotes_of_each, widths_of_definitions, procedures, program_with, program_of}
 use Rattle.sch_sketch.specs.DraftMeasures.{size, size_each}
 use Rattle.sch_link_program.specs.Size.{size_of_definitions}
@@ -35,7 +36,7 @@ grouped_nodes true site es e = omega (arith, procedures_nodes es, procedures_cou
 module _ (own globals symbols : List (List ℕ)) where
   pub count_numbered : (es : Drafts) (vs : VariableNames) (s l : ℕ) → tree.count (numbered_each own globals symbols vs es s l) ≡ count es
   count_numbered no_drafts vs s l = refl
-  count_numbered (and_draft e es) vs s l = ap suc (count_numbered es (others_of vs) (s + length (widths e)) (l + length (quotes_in e)))
+  count_numbered (and_draft e es) vs s l = ap suc (count_numbered es (rest_of vs) (s + length (widths e)) (l + length (quotes_in e)))
 
   mutual
     pub numbered_size : (v : Option (List ℕ)) (e : Draft) (s l : ℕ) → nodes (numbered own globals symbols v e s l) ≤ size e
@@ -79,7 +80,7 @@ module _ (own globals symbols : List (List ℕ)) where
     pub numbered_sizes : (vs : VariableNames) (es : Drafts) (s l : ℕ) → nodes_each (numbered_each own globals symbols vs es s l) ≤ size_each es
     numbered_sizes vs no_drafts s l = omega arith
     numbered_sizes vs (and_draft e es) s l =
-        omega (arith, numbered_size (first_of vs) e s l, numbered_sizes (others_of vs) es (s + length (widths e)) (l + length (quotes_in e)))
+        omega (arith, numbered_size (first_of vs) e s l, numbered_sizes (rest_of vs) es (s + length (widths e)) (l + length (quotes_in e)))
 
 procedures_size : (globals symbols : List (List ℕ)) (ds : List Definition) (s l : ℕ) →
     count_lambdas (procedures globals symbols ds s l) + formals_in (measures.procedures (procedures globals symbols ds s l)) + nodes_in_lambdas (procedures globals symbols ds s l) ≤ size_of_definitions ds

@@ -1,6 +1,7 @@
 -- The expression of a draft: symbols, literals, globals and sites have numbers.
 use Rattle.std.specs.Prelude.{ℕ, ◌+◌, Bool, true, false, List, [], ◌∷◌, length, Option, Some, None, codes}
 use Rattle.sch_word.specs.declared.constant.Const.TheVariants.{Symbol}
+use Rattle.sch_word.specs.values.Options.{rest_of}
 use Rattle.sch_lang.specs.Tree as tree
 use Rattle.sch_lang.specs.Tree.{Expression, Expressions, Lambdas, no_expressions, and_expression, no_lambdas, and_lambda}
 use Rattle.sch_names.specs.NamesView.{number_of}
@@ -16,14 +17,10 @@ abbrev pub body_name : Option (List ℕ) → List ℕ
 body_name (Some x) = x
 body_name None = codes "lambda"
 
--- the first of some names, and those after it; where there is none, the variable has no name
+-- the first of some names; where there is none, the variable has no name
 abbrev pub first_of : VariableNames → Option (List ℕ)
 first_of [] = None
 first_of (v ∷ vs) = v
-
-abbrev pub others_of : VariableNames → VariableNames
-others_of [] = []
-others_of (v ∷ vs) = vs
 
 -- The procedures that expressions are. What is no procedure, which does not occur in a group, stands for one
 -- without formals.
@@ -66,4 +63,4 @@ module _ (own globals symbols : List (List ℕ)) where
     pub numbered_each : VariableNames → Drafts → (s l : ℕ) → Expressions
     numbered_each vs no_drafts s l = no_expressions
     numbered_each vs (and_draft e es) s l =
-        and_expression (numbered (first_of vs) e s l) (numbered_each (others_of vs) es (s + length (widths e)) (l + length (quotes_in e)))
+        and_expression (numbered (first_of vs) e s l) (numbered_each (rest_of vs) es (s + length (widths e)) (l + length (quotes_in e)))

@@ -9,17 +9,8 @@ ghost use Rattle.sch_link_tables.specs.Assigned.{assigns, assigns_each, is_group
 ghost use Rattle.sch_link_tables.specs.Assigned.{none_assigned, none_marked};
 
 use sch_sketch::Draft;
-use sch_word::Mem;
+use sch_word::{Mem, mark_one};
 use std::alloc::Global;
-
-/// Marks variable k, where it is one of those that are marked, the first of which has the number `from`.
-fn mark_one(k: usize, from: usize, marks: &mut [bool])
-    ensures { marks.new ≡ marked (λ j. nat_eq k j) from marks.old }
-{
-    if k >= from && k - from < marks.len() {
-        marks[k - from] = true;
-    }
-}
 
 /// Marks each of some variables that a draft assigns. The first of them has `from` variables bound nearer, the
 /// next one more.

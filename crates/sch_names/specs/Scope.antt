@@ -1,6 +1,7 @@
 -- What a name means where it stands.
 use Rattle.std.specs.Prelude.{ℕ, zero, suc, Bool, true, false, cond, List, [], ◌∷◌, Option, Some, None}
 use Rattle.std.specs.Str.{bytes_eq}
+pub use Rattle.sch_word.specs.trees.Bindings.{pushed as onto}
 use Rattle.sch_names.specs.declared.keyword.Keyword.{Keyword}
 use Rattle.sch_names.specs.declared.operation.Operation.{Operation}
 use Rattle.sch_names.specs.Words.{keyword_of}
@@ -13,11 +14,6 @@ VariableNames = List (Option (List ℕ))
 -- the variables that are bound, the nearest first: a list of bindings
 abbrev pub Scope : Type 0
 Scope = VariableNames
-
--- variables of these names, the last of them nearest
-abbrev pub onto : VariableNames → Scope → Scope
-onto [] s = s
-onto (v ∷ vs) s = onto vs (v ∷ s)
 
 abbrev pub is_named : List ℕ → Option (List ℕ) → Bool
 is_named x None = false

@@ -8,6 +8,7 @@ use Rattle.std.specs.Char.{to_ascii_lowercase, is_ascii_alphabetic}
 use Rattle.std.specs.Str.{bytes_eq}
 use Rattle.sch_read.specs.Lexer.Letters.{folded, is_initial, is_subsequent}
 use Rattle.std.proofs.lemmas.Slice.Eq.{bytes_eq-Decides}
+use Rattle.std.proofs.lemmas.Str.Ascii.{lowercase-lowercase}
 use Rattle.std.specs.Str.Parse.{without_leading_sign, signed_digits_value}
 use Rattle.std.proofs.Common.{length}
 use Rattle.sch_word.proofs.facts.Booleans.{and_parts, and_of, or_left}
@@ -30,9 +31,6 @@ lower-cases c = go (cases_lt c 65) (cases_lt c 91)
     go (inl h) k = inl (grind (arith, nat_tests))
     go (inr h) (inl k) = inr (grind (arith, nat_tests))
     go (inr h) (inr k) = inl (grind (arith, nat_tests))
-
-lower-twice : (c : ℕ) → to_ascii_lowercase (to_ascii_lowercase c) ≡ to_ascii_lowercase c
-lower-twice c = grind (arith, nat_tests)
 
 pub or-parts : (a b : Bool) → a || b ≡ true → (a ≡ true) ⊎ (b ≡ true)
 or-parts true b h = inl refl
@@ -60,7 +58,7 @@ all-subsequent-lower (b ∷ bs) h =
 
 pub folded-folded : (bs : List ℕ) → folded (folded bs) ≡ folded bs
 folded-folded [] = refl
-folded-folded (b ∷ bs) = ap (λ v. v ∷ folded (folded bs)) (lower-twice b) ∙ ap (λ v. to_ascii_lowercase b ∷ v) (folded-folded bs)
+folded-folded (b ∷ bs) = ap (λ v. v ∷ folded (folded bs)) (lowercase-lowercase b) ∙ ap (λ v. to_ascii_lowercase b ∷ v) (folded-folded bs)
 
 peculiar-folded : (w : List ℕ) → bytes_eq w (codes "+") || (bytes_eq w (codes "-") || bytes_eq w (codes "...")) ≡ true → is_identifier (folded w) ≡ true
 peculiar-folded w h = go (or-parts (bytes_eq w (codes "+")) _ h)

@@ -2,6 +2,7 @@
 -- that are put one behind the other make one piece.
 use Rattle.std.proofs.Common.{◌≡◌, ℕ, zero, suc, ◌+◌, ◌-◌, ◌*◌, ◌^◌, ◌<◌, ◌≤◌, List, [], ◌∷◌, ◌++◌, length, take, drop, replicate, length-append, append_assoc, refl, sym, ap, ◌∙◌, arith}
 use Rattle.std.specs.Int.{w64, to_le_bytes, from_le_bytes}
+pub use Rattle.std.specs.List.{repeat as repeated}
 use Rattle.std.proofs.lemmas.List.{drop-drop, length-take-le, take-append-drop}
 use Rattle.std.proofs.lemmas.Nat.{from_le_bytes-to_le_bytes_8}
 use Rattle.std.proofs.Math.Seq.{take-append_seam, drop-append_seam, take-append-add}
@@ -46,10 +47,6 @@ put_after bs k xs ys le =
     ∙ ap (λ l. take k bs ++ l) (sym (append_assoc xs ys behind))
 
 -- ---- an element as often as a number says
-
-abbrev pub repeated : ℕ → List ℕ → List ℕ
-repeated zero element = []
-repeated (suc n) element = element ++ repeated n element
 
 pub length_words : (n w : ℕ) → length (repeated n (to_le_bytes w64 w)) ≡ 8 * n
 length_words zero w = refl

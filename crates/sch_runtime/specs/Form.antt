@@ -7,6 +7,7 @@
 -- not said here: `Asm` has it.
 use Rattle.std.specs.Prelude.{ℕ, ◌+◌, ◌%◌, nat_eq, nat_le, pos, cond, Bool, true, false, ◌&&◌, ◌||◌, not, List, [], ◌∷◌, Option, Some, None}
 use Rattle.std.specs.List.{list_any}
+use Rattle.std.specs.Bool.{then_some}
 use Rattle.sch_insn.specs.declared.insn.Arg.TheVariants.{Reg}
 use Rattle.sch_insn.specs.declared.insn.Insn.{Insn}
 use Rattle.sch_insn.specs.declared.insn.Insn.TheVariants as insn
@@ -65,21 +66,17 @@ is_exit l = list_any (λ s. nat_eq (s % 64) l) statuses
 abbrev pub apart : ℕ → ℕ → Bool
 apart a b = nat_le (a + 8) b || nat_le (b + 8) a
 
-abbrev pub when : Bool → Return → Option Return
-when true at = Some at
-when false at = None
-
 -- Where it is in R11, the only call of the kernel is to come, and a jump through a register goes there.
 abbrev pub register_insn : Insn → Option Return
 register_insn insn.Syscall = None
-register_insn (insn.JumpTo m) = when (is_itself R11 m) in_register
-register_insn i = when (is_without R11 i) in_register
+register_insn (insn.JumpTo m) = then_some (is_itself R11 m) in_register
+register_insn i = then_some (is_without R11 i) in_register
 
 abbrev pub behind_register : Item → Option Return
 behind_register (Label l) = Some (cond (is_exit l) (exits false) in_register)
 behind_register (Plain i) = register_insn i
-behind_register (LoadLabel r l) = when (not (nat_eq r R11)) in_register
-behind_register (LoadWord r a) = when (not (nat_eq r R11)) in_register
+behind_register (LoadLabel r l) = then_some (not (nat_eq r R11)) in_register
+behind_register (LoadWord r a) = then_some (not (nat_eq r R11)) in_register
 behind_register (StoreWord a r) = Some (cond (nat_eq r R11) (in_word a) in_register)
 behind_register _ = Some in_register
 
@@ -87,21 +84,21 @@ behind_register _ = Some in_register
 abbrev pub word_insn : ℕ → Insn → Option Return
 word_insn a insn.Syscall = Some (in_word a)
 word_insn a (insn.JumpTo m) = None
-word_insn a i = when (is_without R11 i && not (writes_memory i)) (in_word a)
+word_insn a i = then_some (is_without R11 i && not (writes_memory i)) (in_word a)
 
 abbrev pub behind_word : ℕ → Item → Option Return
-behind_word a (Label l) = when (not (is_routine l)) (in_word a)
+behind_word a (Label l) = then_some (not (is_routine l)) (in_word a)
 behind_word a (Plain i) = word_insn a i
-behind_word a (LoadLabel r l) = when (not (nat_eq r R11)) (in_word a)
-behind_word a (LoadWord r b) = cond (nat_eq r R11) (when (nat_eq a b) in_register) (Some (in_word a))
-behind_word a (StoreWord b r) = when (not (nat_eq r R11) && apart a b) (in_word a)
+behind_word a (LoadLabel r l) = then_some (not (nat_eq r R11)) (in_word a)
+behind_word a (LoadWord r b) = cond (nat_eq r R11) (then_some (nat_eq a b) in_register) (Some (in_word a))
+behind_word a (StoreWord b r) = then_some (not (nat_eq r R11) && apart a b) (in_word a)
 behind_word a _ = Some (in_word a)
 
 -- A routine that exits goes straight on to a call of the kernel. What stands behind that is another routine.
 abbrev pub exit_insn : (numbered : Bool) → Insn → Option Return
-exit_insn numbered insn.Syscall = when numbered in_register
+exit_insn numbered insn.Syscall = then_some numbered in_register
 exit_insn numbered (insn.JumpTo m) = None
-exit_insn numbered i = when (is_without R11 i && not (writes_memory i)) (exits (is_exit_number i))
+exit_insn numbered i = then_some (is_without R11 i && not (writes_memory i)) (exits (is_exit_number i))
 
 abbrev pub behind_exit : (numbered : Bool) → Item → Option Return
 behind_exit numbered (Plain i) = exit_insn numbered i

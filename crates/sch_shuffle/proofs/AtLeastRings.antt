@@ -9,7 +9,8 @@ use Rattle.sch_shuffle.specs.Tree.{Tree}
 use Rattle.sch_shuffle.specs.Assignment.{AreDistinct, temps}
 use Rattle.sch_shuffle.specs.Plans.{Act, direct, aside, across, onward, transfers, sets_aside, count, NeedsTemporaries}
 use Rattle.sch_shuffle.specs.Greedy.{uses_target}
-use Rattle.sch_shuffle.specs.CycleSearch.{successor, iter, path, ring, is_ring, all_rings}
+use Rattle.std.specs.Fn.{iterate}
+use Rattle.sch_shuffle.specs.CycleSearch.{successor, path, ring, is_ring, all_rings}
 use Rattle.sch_shuffle.proofs.WaitingArguments.{Once, below_in, in_first, in_rest, rising_numbers, below_numbers}
 use Rattle.sch_shuffle.proofs.Paths.{path_at, length_path, iter_add, Back, ring_cases}
 use Rattle.sch_shuffle.proofs.ExactCycles.{length_le, where_in, ring_is, rings_sound, rings_rise}
@@ -84,7 +85,7 @@ module _ (args : List Tree) (targets : List Place) (l : length targets ≡ lengt
   W = uses_target args targets
 
   -- nobody on the way of a ring comes before its start
-  no_earlier : (fuel c k m : ℕ) → Back S n k m k → c ≤ fuel → k ≤ iter S c k
+  no_earlier : (fuel c k m : ℕ) → Back S n k m k → c ≤ fuel → k ≤ iterate S c k
   no_earlier zero c k m back h = let z : c ≡ 0 = omega (arith, h) in rw z (omega arith)
   no_earlier (suc fuel) c k m back h =
       elim (cases_lt c m) [
@@ -92,11 +93,11 @@ module _ (args : List Tree) (targets : List Place) (l : length targets ≡ lengt
         | inr more ↦
             let some = back.some in
             let e : m + (c - m) ≡ c = omega (arith, more) in
-            let same : iter S c k ≡ iter S (c - m) k = ap (λ a. iter S a k) (sym e) ∙ iter_add S m (c - m) k ∙ ap (iter S (c - m)) back.back in
+            let same : iterate S c k ≡ iterate S (c - m) k = ap (λ a. iterate S a k) (sym e) ∙ iter_add S m (c - m) k ∙ ap (iterate S (c - m)) back.back in
             let rest = no_earlier fuel (c - m) k m back (omega (arith, h, some, more)) in omega (arith, same, rest)
       ]
 
-  in_path : (m x v : ℕ) → has v (path S m x) ≡ true → (a : ℕ) × (a < m) × (iter S a x ≡ v)
+  in_path : (m x v : ℕ) → has v (path S m x) ≡ true → (a : ℕ) × (a < m) × (iterate S a x ≡ v)
   in_path m x v e =
       let w = where_in (path S m x) v e in
       let len = length_path S m x in
@@ -115,8 +116,8 @@ module _ (args : List Tree) (targets : List Place) (l : length targets ≡ lengt
                   let b = in_path fj.0 j v (rw fj.2 at vj) in
                   let rest : ℕ = fi.0 - a.0 in
                   let e : a.0 + rest ≡ fi.0 = let z = a.1 in omega (arith, z) in
-                  let home : iter S rest v ≡ i = ap (iter S rest) (sym a.2) ∙ sym (iter_add S a.0 rest i) ∙ ap (λ c. iter S c i) e ∙ fi.1.back in
-                  let way : iter S (b.0 + rest) j ≡ i = iter_add S b.0 rest j ∙ ap (iter S rest) b.2 ∙ home in
+                  let home : iterate S rest v ≡ i = ap (iterate S rest) (sym a.2) ∙ sym (iter_add S a.0 rest i) ∙ ap (λ c. iterate S c i) e ∙ fi.1.back in
+                  let way : iterate S (b.0 + rest) j ≡ i = iter_add S b.0 rest j ∙ ap (iterate S rest) b.2 ∙ home in
                   let late = no_earlier (b.0 + rest) (b.0 + rest) j fj.0 fj.1 (omega arith) in omega (arith, way, late, lt)
             ]
       ]

@@ -14,7 +14,8 @@ use Rattle.sch_word.specs.values.Places.{same_place}
 use Rattle.sch_shuffle.specs.Assignment.{operand_at, place_at, AreDistinct}
 use Rattle.sch_shuffle.specs.Greedy.{remove_first}
 use Rattle.sch_shuffle.specs.Cycles.{IsRing, AreTheCycles}
-use Rattle.sch_shuffle.specs.CycleSearch.{stands_in, first, successor, iter, path, ring, is_ring, rings, all_rings, places_at, cycles}
+use Rattle.std.specs.Fn.{iterate}
+use Rattle.sch_shuffle.specs.CycleSearch.{stands_in, first, successor, path, ring, is_ring, rings, all_rings, places_at, cycles}
 use Rattle.sch_shuffle.proofs.WaitingArguments.{Rising, Once, in_rest, is_above, below_in, length_remove_first, remove_first_other, in_numbers, rising_numbers, below_numbers, rising_rest}
 use Rattle.sch_word.proofs.facts.Places.{place_same, places_same}
 use Rattle.sch_shuffle.proofs.Paths.{first_found, Back, length_path, path_at, iter_suc, walks_back, all_differ, ring_walk, ring_cases}
@@ -93,16 +94,16 @@ module _ (args : List Tree) (targets : List Place) (l : length targets ≡ lengt
 
   pub ring_sound : (k m : ℕ) → k < n → Back S n k m k → 2 ≤ m → IsRing args targets (path S m k)
   ring_sound k m kn back two =
-      let at : (a : ℕ) → a < m → get_or (path S m k) a 0 ≡ iter S a k = λ a h. path_at S m k a 0 h in
+      let at : (a : ℕ) → a < m → get_or (path S m k) a 0 ≡ iterate S a k = λ a h. path_at S m k a 0 h in
       let len : length (path S m k) ≡ m = length_path S m k in
-      let small : (a : ℕ) → a < m → iter S a k < n =
+      let small : (a : ℕ) → a < m → iterate S a k < n =
       λ a h. elim (cases_eq a 0) [ inl z ↦ rw z kn | inr nz ↦ (back.later a (omega (arith, nz)) h).1 ] in
-      let not_less : (a b : ℕ) → a < m → b < m → iter S a k ≡ iter S b k → a < b → ⊥ = λ a b x y e h. all_differ S n k m back a b h y e in
+      let not_less : (a b : ℕ) → a < m → b < m → iterate S a k ≡ iterate S b k → a < b → ⊥ = λ a b x y e h. all_differ S n k m back a b h y e in
       record {
         two = omega (arith, len, two);
         within = λ a h. let e = at a (omega (arith, h, len)) in let s = small a (omega (arith, h, len)) in omega (arith, e, s, l);
         distinct = λ a b x y e.
-            let same : iter S a k ≡ iter S b k = sym (at a (omega (arith, x, len))) ∙ e ∙ at b (omega (arith, y, len)) in
+            let same : iterate S a k ≡ iterate S b k = sym (at a (omega (arith, x, len))) ∙ e ∙ at b (omega (arith, y, len)) in
             elim (cases_lt a b) [
               | inl less ↦ absurd (not_less a b (omega (arith, x, len)) (omega (arith, y, len)) same less)
               | inr not_ ↦ elim (cases_eq a b) [
@@ -111,15 +112,15 @@ module _ (args : List Tree) (targets : List Place) (l : length targets ≡ lengt
               ]
             ];
         links = λ a h.
-            let next : S (iter S a k) ≡ iter S (a + 1) k = sym (iter_suc S a k) ∙ ap (λ c. iter S c k) (plus a) in
-            let there : S (iter S a k) < n = let s = small (a + 1) (omega (arith, h, len)) in omega (arith, next, s) in
-            ap (operand_at args) (at a (omega (arith, h, len))) ∙ successor_holds (iter S a k) there
+            let next : S (iterate S a k) ≡ iterate S (a + 1) k = sym (iter_suc S a k) ∙ ap (λ c. iterate S c k) (plus a) in
+            let there : S (iterate S a k) < n = let s = small (a + 1) (omega (arith, h, len)) in omega (arith, next, s) in
+            ap (operand_at args) (at a (omega (arith, h, len))) ∙ successor_holds (iterate S a k) there
             ∙ ap (λ c. place (place_at targets c)) (next ∙ sym (at (a + 1) (omega (arith, h, len))));
         closes =
             let last : ℕ = length (path S m k) - 1 in
-            let next : S (iter S last k) ≡ k = sym (iter_suc S last k) ∙ ap (λ c. iter S c k) (minus m last (omega (arith, len)) two) ∙ back.back in
-            let there : S (iter S last k) < n = omega (arith, next, kn) in
-            ap (operand_at args) (at last (omega (arith, len, two))) ∙ successor_holds (iter S last k) there
+            let next : S (iterate S last k) ≡ k = sym (iter_suc S last k) ∙ ap (λ c. iterate S c k) (minus m last (omega (arith, len)) two) ∙ back.back in
+            let there : S (iterate S last k) < n = omega (arith, next, kn) in
+            ap (operand_at args) (at last (omega (arith, len, two))) ∙ successor_holds (iterate S last k) there
             ∙ ap (λ c. place (place_at targets c)) (next ∙ sym (at 0 (omega (arith, two))));
         least = λ a h.
             let e = at a (omega (arith, h, len)) in
@@ -137,7 +138,7 @@ module _ (args : List Tree) (targets : List Place) (l : length targets ≡ lengt
     abbrev k : ℕ
     k = get_or ks 0 0
 
-    iterated : (a : ℕ) → a < length ks → iter S a k ≡ get_or ks a 0
+    iterated : (a : ℕ) → a < length ks → iterate S a k ≡ get_or ks a 0
     iterated zero h = refl
     iterated (suc a) h =
         let e : suc a ≡ a + 1 = omega arith in
@@ -156,7 +157,7 @@ module _ (args : List Tree) (targets : List Place) (l : length targets ≡ lengt
           omega (arith, first_, l),
           record {
             some = omega (arith, two);
-            back = ap (λ c. iter S c k) e ∙ iter_suc S last k ∙ ap S (iterated last (omega (arith, two))) ∙ home;
+            back = ap (λ c. iterate S c k) e ∙ iter_suc S last k ∙ ap S (iterated last (omega (arith, two))) ∙ home;
             later = λ a h x.
                 let at = iterated a x in
                 let low = is.least a x in

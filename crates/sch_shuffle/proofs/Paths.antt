@@ -6,7 +6,8 @@ use Rattle.std.proofs.lemmas.Bool.{cases_eq, eq-eqb, eqb-true, ne_eqb, cases_Boo
 use Rattle.std.proofs.lemmas.Bool.Decides.{nat_tests}
 use Rattle.std.proofs.lemmas.List.{append_assoc}
 use Rattle.sch_word.proofs.facts.Booleans.{and_of, and_left, and_right}
-use Rattle.sch_shuffle.specs.CycleSearch.{first, iter, path, period, within, ring}
+use Rattle.std.specs.Fn.{iterate}
+use Rattle.sch_shuffle.specs.CycleSearch.{first, path, period, within, ring}
 
 -- ## The first number that passes
 
@@ -62,16 +63,16 @@ module _ (S : ℕ → ℕ) where
   length_path zero x = refl
   length_path (suc m) x = ap suc (length_path m (S x))
 
-  pub path_at : (m x a d : ℕ) → a < m → get_or (path S m x) a d ≡ iter S a x
+  pub path_at : (m x a d : ℕ) → a < m → get_or (path S m x) a d ≡ iterate S a x
   path_at zero x a d lt = absurd (omega (arith, lt))
   path_at (suc m) x zero d lt = refl
   path_at (suc m) x (suc a) d lt = path_at m (S x) a d (omega (arith, lt))
 
-  pub iter_suc : (a x : ℕ) → iter S (suc a) x ≡ S (iter S a x)
+  pub iter_suc : (a x : ℕ) → iterate S (suc a) x ≡ S (iterate S a x)
   iter_suc zero x = refl
   iter_suc (suc a) x = iter_suc a (S x)
 
-  pub iter_add : (a b x : ℕ) → iter S (a + b) x ≡ iter S b (iter S a x)
+  pub iter_add : (a b x : ℕ) → iterate S (a + b) x ≡ iterate S b (iterate S a x)
   iter_add zero b x = let e : zero + b ≡ b = omega arith in rw e refl
   iter_add (suc a) b x = let e : suc a + b ≡ suc (a + b) = omega arith in rw e (iter_add a b (S x))
 
@@ -79,8 +80,8 @@ module _ (S : ℕ → ℕ) where
     -- from x the walk comes back to the start after m steps, by later arguments
     pub record Back (m x : ℕ) : Type 0 where
       pub some : 1 ≤ m
-      pub back : iter S m x ≡ start
-      pub later : (a : ℕ) → 0 < a → a < m → (start < iter S a x) × (iter S a x < n)
+      pub back : iterate S m x ≡ start
+      pub later : (a : ℕ) → 0 < a → a < m → (start < iterate S a x) × (iterate S a x < n)
 
     pub walked : (steps : ℕ) (done : List ℕ) (x : ℕ) → (walk S n start steps done x ≡ []) ⊎ ((m : ℕ) × Back m x × (walk S n start steps done x ≡ done ++ path S m x) × (m ≤ steps))
     walked zero done x = inl refl
@@ -98,7 +99,7 @@ module _ (S : ℕ → ℕ) where
           record {
             some = omega arith;
             back = found.1.back;
-            later = λ a. elim a as (λ a. 0 < a → a < suc found.0 → (start < iter S a x) × (iter S a x < n)) [
+            later = λ a. elim a as (λ a. 0 < a → a < suc found.0 → (start < iterate S a x) × (iterate S a x < n)) [
               | zero ↦ λ h k. absurd (omega (arith, h))
               | suc b ↦ λ h k. elim (cases_eq b 0) [ inl z ↦ rw z (is_later_true start (S x) n on) | inr nz ↦ found.1.later b (omega (arith, nz)) (omega (arith, k)) ]
             ];
@@ -126,24 +127,24 @@ module _ (S : ℕ → ℕ) where
         ]
 
   -- no argument comes twice before the start comes again
-  pub all_differ : (n k m : ℕ) → Back n k m k → (a b : ℕ) → a < b → b < m → iter S a k ≢ iter S b k
+  pub all_differ : (n k m : ℕ) → Back n k m k → (a b : ℕ) → a < b → b < m → iterate S a k ≢ iterate S b k
   all_differ n k m back a b lt l same =
       let rest : ℕ = m - b in
-      let e : iter S (a + rest) k ≡ iter S (b + rest) k = iter_add a rest k ∙ ap (iter S rest) same ∙ sym (iter_add b rest k) in
+      let e : iterate S (a + rest) k ≡ iterate S (b + rest) k = iter_add a rest k ∙ ap (iterate S rest) same ∙ sym (iter_add b rest k) in
       let f : b + rest ≡ m = omega (arith, l) in
-      let home : iter S (a + rest) k ≡ k = e ∙ ap (λ c. iter S c k) f ∙ back.back in
+      let home : iterate S (a + rest) k ≡ k = e ∙ ap (λ c. iterate S c k) f ∙ back.back in
       let away = back.later (a + rest) (omega (arith, l)) (omega (arith, lt, l)) in
       omega (arith, home, away.0)
 
 -- ## The path that comes back, and the walk
 
 module _ (S : ℕ → ℕ) where
-  all_path : (p : ℕ → Bool) (m x : ℕ) → list_all p (path S m x) ≡ true → (a : ℕ) → a < m → p (iter S a x) ≡ true
+  all_path : (p : ℕ → Bool) (m x : ℕ) → list_all p (path S m x) ≡ true → (a : ℕ) → a < m → p (iterate S a x) ≡ true
   all_path p zero x h a lt = absurd (omega (arith, lt))
   all_path p (suc m) x h zero lt = and_left (p x) (list_all p (path S m (S x))) h
   all_path p (suc m) x h (suc a) lt = all_path p m (S x) (and_right (p x) (list_all p (path S m (S x))) h) a (omega (arith, lt))
 
-  path_all : (p : ℕ → Bool) (m x : ℕ) → ((a : ℕ) → a < m → p (iter S a x) ≡ true) → list_all p (path S m x) ≡ true
+  path_all : (p : ℕ → Bool) (m x : ℕ) → ((a : ℕ) → a < m → p (iterate S a x) ≡ true) → list_all p (path S m x) ≡ true
   path_all p zero x h = refl
   path_all p (suc m) x h = and_of (p x) (list_all p (path S m (S x))) (h 0 (omega arith)) (path_all p m (S x) (λ a lt. h (suc a) (omega (arith, lt))))
 
@@ -161,12 +162,12 @@ module _ (S : ℕ → ℕ) where
     ring_back : (m : ℕ) → Back S n k m k → m ≤ n → ring S n k ≡ path S m k
     ring_back m back l =
         let some = back.some in
-        let first_ : period S n k ≡ m = first_is (λ a. nat_eq (iter S a k) k) n 1 m some (omega (arith, l)) (eq-eqb (iter S m k) k back.back)
-        (λ i a b. ne_eqb (iter S i k) k (λ e. let z = (back.later i (omega (arith, a)) b).0 in absurd (omega (arith, e, z)))) in
+        let first_ : period S n k ≡ m = first_is (λ a. nat_eq (iterate S a k) k) n 1 m some (omega (arith, l)) (eq-eqb (iterate S m k) k back.back)
+        (λ i a b. ne_eqb (iterate S i k) k (λ e. let z = (back.later i (omega (arith, a)) b).0 in absurd (omega (arith, e, z)))) in
         let few_ : nat_le m n ≡ true = grind (arith, nat_tests, l) in
         let all : list_all inside (path S m k) ≡ true = path_all inside m k (λ a b. elim (cases_eq a 0) [
           | inl z ↦ rw z (inside_of k (omega arith) kn)
-          | inr nz ↦ let w = back.later a (omega (arith, nz)) b in let x = w.0 in inside_of (iter S a k) (omega (arith, x)) w.1
+          | inr nz ↦ let w = back.later a (omega (arith, nz)) b in let x = w.0 in inside_of (iterate S a k) (omega (arith, x)) w.1
         ]) in
         ap (within S n k) first_ ∙ rw (few_, all) refl
 
@@ -174,16 +175,16 @@ module _ (S : ℕ → ℕ) where
     back_of : (m : ℕ) → period S n k ≡ m → nat_le m n ≡ true → list_all inside (path S m k) ≡ true → Back S n k m k × (m ≤ n)
     back_of m is few_ all =
         let l : m ≤ n = grind (arith, nat_tests, few_) in
-        let test : ℕ → Bool = λ a. nat_eq (iter S a k) k in
+        let test : ℕ → Bool = λ a. nat_eq (iterate S a k) k in
         let from = first_from test n 1 in
-        let here : nat_eq (iter S m k) k ≡ true = ap test (sym is) ∙ first_found test n 1 (omega (arith, is, l)) in (
+        let here : nat_eq (iterate S m k) k ≡ true = ap test (sym is) ∙ first_found test n 1 (omega (arith, is, l)) in (
           record {
             some = omega (arith, from, is);
-            back = eqb-true (iter S m k) k here;
+            back = eqb-true (iterate S m k) k here;
             later = λ a b c.
-                let early : nat_eq (iter S a k) k ≡ false = first_earlier test n 1 a (omega (arith, b)) (omega (arith, is, c)) in
-                let w = from_inside (iter S a k) (all_path inside m k all a c) in
-                let differs : iter S a k ≢ k = λ e. absurd (let t = eq-eqb (iter S a k) k e in let both : true ≡ false = sym t ∙ early in cc) in
+                let early : nat_eq (iterate S a k) k ≡ false = first_earlier test n 1 a (omega (arith, b)) (omega (arith, is, c)) in
+                let w = from_inside (iterate S a k) (all_path inside m k all a c) in
+                let differs : iterate S a k ≢ k = λ e. absurd (let t = eq-eqb (iterate S a k) k e in let both : true ≡ false = sym t ∙ early in cc) in
                 let x = w.0 in (omega (arith, x, differs), w.1);
           },
           l,

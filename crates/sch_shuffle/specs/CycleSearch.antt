@@ -2,6 +2,7 @@
 -- the argument in whose target it stands.
 use Rattle.std.specs.Prelude.{ℕ, zero, suc, ◌+◌, Bool, false, cond, ◌&&◌, nat_eq, nat_le, nat_lt, List, [], ◌∷◌, length, map}
 use Rattle.std.specs.List.{list_all}
+use Rattle.std.specs.Fn.{iterate}
 use Rattle.sch_word.specs.trees.Bindings.{numbers}
 use Rattle.sch_word.specs.declared.place.Place.{Place}
 use Rattle.sch_shuffle.specs.Tree.{Tree, place, fixed, literal, read}
@@ -23,11 +24,6 @@ first test (suc n) j = cond (test j) j (first test n (j + 1))
 abbrev pub successor : List Tree → List Place → ℕ → ℕ
 successor args targets i = first (λ j. stands_in (operand_at args i) (place_at targets j)) (length targets) 0
 
--- where one comes to from x in `a` steps, each by S
-abbrev pub iter : (ℕ → ℕ) → (a x : ℕ) → ℕ
-iter S zero x = x
-iter S (suc a) x = iter S a (S x)
-
 -- x, and where one comes to, m of them
 abbrev pub path : (ℕ → ℕ) → (m x : ℕ) → List ℕ
 path S zero x = []
@@ -35,7 +31,7 @@ path S (suc m) x = x ∷ path S m (S x)
 
 -- after how many of at most n steps one first comes back to k; n + 1 where one does not
 abbrev pub period : (ℕ → ℕ) → (n k : ℕ) → ℕ
-period S n k = first (λ a. nat_eq (iter S a k) k) n 1
+period S n k = first (λ a. nat_eq (iterate S a k) k) n 1
 
 -- The first m from k on, where m is at most n and each of them is from k to n. Neither follows from the other: S may
 -- turn below n and never come back to k, and it may come back by a number that is no argument.

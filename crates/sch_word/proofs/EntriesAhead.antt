@@ -1,14 +1,14 @@
 -- One computation with more procedure entries than another: it does the same, and where the other's
 -- entries are spent it goes on from there, and its store only grows.
 use Rattle.std.proofs.Common.{◌≡◌, ℕ, zero, suc, ◌+◌, Bool, true, false, List, [], ◌∷◌, Option, Some, None, refl, sym, ap, subst, ◌∙◌, arith}
-use Rattle.std.specs.Prelude.{slice_get, slice_set}
+use Rattle.std.specs.Prelude.{slice_get, slice_set, cond}
 use Rattle.sch_word.specs.declared.stop.Stop.{Stop}
 use Rattle.sch_word.specs.values.Values.{Value, unspecified}
 use Rattle.sch_word.specs.runs.Store.{Store}
 use Rattle.sch_word.specs.trees.Growth.{GrowsTo}
 use Rattle.sch_word.specs.values.Checked.{Checked, passes, refused, exhausted, unreachable, on_passed}
 use Rattle.sch_word.specs.runs.Handed.{handed}
-use Rattle.sch_word.specs.runs.Computation.{Outcome, gives, stops, spent, State, Action, Computation, with_rest, in_store, on_value, after, either, at_place, in_order, in_turn, blanks, all_values, set_or_stop, read_cell, write_cell, write_cells, new_procedure, new_fix, new_cells, checked, callee, operands, depth_left, entry_left, checked_call, call_with, taken, take_entry, Enter}
+use Rattle.sch_word.specs.runs.Computation.{Outcome, gives, stops, spent, State, Action, Computation, with_rest, in_store, on_value, after, at_place, in_order, in_turn, blanks, all_values, set_or_stop, read_cell, write_cell, write_cells, new_procedure, new_fix, new_cells, checked, callee, operands, depth_left, entry_left, checked_call, call_with, taken, take_entry, Enter}
 use Rattle.sch_word.proofs.Steady.{OutcomeGrows, grows_self, grows_on, quiet, with_entries, outcome_with, Steady}
 
 -- the sum, by recursion on its first number
@@ -81,7 +81,7 @@ module _ {P : Type 0} where
     pub grows_spent : Grows {V = V} spent
     grows_spent = record { from = λ s. grows_self s.store }
 
-    pub grows_either : (b : Bool) {c d : Computation P V} → Grows c → Grows d → Grows (either b c d)
+    pub grows_either : (b : Bool) {c d : Computation P V} → Grows c → Grows d → Grows (cond b c d)
     grows_either true g h = g
     grows_either false g h = h
 
@@ -187,7 +187,7 @@ module _ {P : Type 0} where
       pub ahead_spent : {d : Computation P V} → Grows d → Ahead spent d
       ahead_spent {d} g = record { from = λ s. g.from (ahead s) }
 
-      pub ahead_either : (b : Bool) {c c' d d' : Computation P V} → Ahead c d → Ahead c' d' → Ahead (either b c c') (either b d d')
+      pub ahead_either : (b : Bool) {c c' d d' : Computation P V} → Ahead c d → Ahead c' d' → Ahead (cond b c c') (cond b d d')
       ahead_either true g h = g
       ahead_either false g h = h
 

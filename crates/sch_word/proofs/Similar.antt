@@ -1,7 +1,7 @@
 -- Two languages side by side: computations that do the same from related states. What a pass proves is
 -- stated by these words, and its proof is one lemma for each way to put computations together.
 use Rattle.std.proofs.Common.{◌≡◌, ℕ, zero, suc, Bool, true, false, List, [], ◌∷◌, length, refl, ap, ◌∙◌}
-use Rattle.std.specs.Prelude.{slice_get, slice_set}
+use Rattle.std.specs.Prelude.{slice_get, slice_set, cond}
 use Rattle.std.proofs.lemmas.List.{length-set}
 use Rattle.sch_word.specs.declared.answer.Answer.{Answer}
 use Rattle.sch_word.specs.declared.stop.Stop.{Stop}
@@ -10,7 +10,7 @@ use Rattle.sch_word.proofs.Lengths.{blanks_length}
 use Rattle.sch_word.specs.runs.Store.{Store}
 use Rattle.sch_word.specs.runs.Runs.{seen_in}
 use Rattle.sch_word.specs.values.Checked.{Checked, passes, refused, exhausted, unreachable, on_passed}
-use Rattle.sch_word.specs.runs.Computation.{Outcome, gives, stops, spent, on_value, after, either, require, unreached, checked, at_place, in_order, in_turn, blanks, all_values}
+use Rattle.sch_word.specs.runs.Computation.{Outcome, gives, stops, spent, on_value, after, require, unreached, checked, at_place, in_order, in_turn, blanks, all_values}
 
 -- checks that let related things pass, or end alike
 pub data BothChecked {A B : Type 0} (R : A → B → Type 0) : Checked A → Checked B → Type 0 where
@@ -86,7 +86,7 @@ module _ {S S' : Type 0} (L : Correspondence S S') where
     similar_spent = record { from = λ w0 g0 s t r. (w0, t, L.stays w0, r, refl) }
 
     pub similar_either : {w : L.World} (b : Bool) {c c' : S → Outcome S V} {d d' : S' → Outcome S' V'} → Similar Promise w c d → Similar Promise w c' d'
-        → Similar Promise w (either b c c') (either b d d')
+        → Similar Promise w (cond b c c') (cond b d d')
     similar_either true h g = h
     similar_either false h g = g
 

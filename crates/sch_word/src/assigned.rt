@@ -4,10 +4,9 @@ ghost use Rattle.std.specs.Prelude.{◌≡◌, nat_eq};
 ghost use Rattle.sch_word.specs.trees.Assigned.{marked};
 
 /// Marks variable k, where it is one of those that are marked, the first of which has the number `from`.
-pub fn mark_one(k: u32, from: usize, marks: &mut [bool])
+pub fn mark_one(k: usize, from: usize, marks: &mut [bool])
     ensures { marks.new ≡ marked (λ j. nat_eq k j) from marks.old }
 {
-    let k = k as usize;
     if k >= from && k - from < marks.len() {
         marks[k - from] = true;
     }

@@ -1,6 +1,7 @@
 -- What the words of small command lines give, or that they are refused. Each statement is computed.
 use Rattle.std.proofs.Common.{codes, refl, ℕ, List, [], ◌∷◌, Option, Some, None, ◌≡◌}
 use Rattle.std.specs.Prelude.{if◌then◌else◌, ◌==◌}
+use Rattle.std.specs.List.{onto_first}
 use Rattle.sch_words.specs.GivenTexts.{Text, Texts}
 use Rattle.sch_words.specs.PlainReading.{given_in, plain_reading, positionals_in}
 
@@ -8,13 +9,9 @@ abbrev no_texts : Texts
 no_texts = record { verb = None; name = None; second = None; listing = None; heap = None; depth = None; steps = None }
 
 -- the words of a line, each behind one space but the first
-abbrev with_first : ℕ → List Text → List Text
-with_first byte [] = (byte ∷ []) ∷ []
-with_first byte (word ∷ words) = (byte ∷ word) ∷ words
-
 abbrev words_of : Text → List Text
 words_of [] = [] ∷ []
-words_of (byte ∷ bytes) = if byte == 32 then [] ∷ words_of bytes else with_first byte (words_of bytes)
+words_of (byte ∷ bytes) = if byte == 32 then [] ∷ words_of bytes else onto_first byte (words_of bytes)
 
 abbrev line : Text → Option Texts
 line text = plain_reading (words_of text)

@@ -1,7 +1,7 @@
 -- What normalizing makes of a valid program runs as the program does.
 use Rattle.std.proofs.Common.{◌≡◌, ℕ, zero, suc, Bool, true, List, [], ◌∷◌, ◌++◌, length, map, Some, refl, sym, ap, ◌∙◌, subst, arith}
 use Rattle.std.specs.Prelude.{slice_get, nat_eq, nat_lt, ◌&&◌}
-use Rattle.std.specs.List.{list_all}
+use Rattle.std.specs.List.{list_all, AllByRecursion}
 use Rattle.std.proofs.lemmas.Bool.{eqb-true, ltb-true}
 use Rattle.sch_word.specs.declared.answer.Answer.{Answer}
 use Rattle.sch_word.specs.values.Values.{Value, unspecified}
@@ -29,7 +29,7 @@ use Rattle.sch_anf_laws.specs.SameRun.{SameRun}
 use Rattle.sch_anf_laws.proofs.runs.Worlds.{Setting, Reached, Same, images, is_procedure_of}
 use Rattle.sch_anf_laws.proofs.runs.Fine.{Fine, FineEach}
 use Rattle.sch_anf_laws.proofs.runs.Bodies.{stands_at}
-use Rattle.sch_anf_laws.proofs.runs.Ready.{Every, every_left, every_right, Ordered, ordered, ordered_each, fine, fine_each, all_sites, all_sites_each}
+use Rattle.sch_anf_laws.proofs.runs.Ready.{every_left, every_right, Ordered, ordered, ordered_each, fine, fine_each, all_sites, all_sites_each}
 use Rattle.sch_anf_laws.proofs.runs.Sites.{widths, rows_found, ordered_at}
 use Rattle.sch_anf_laws.proofs.runs.Runs.{forms_same}
 
@@ -82,7 +82,7 @@ module _ (p : Source) (closed : is_closed p ≡ true) (formed : is_formed p ≡ 
   abbrev sites_bodies : List Body → List (ℕ × ℕ)
   sites_bodies = over_bodies [] (λ x y. x ++ y) shapes.site_of
 
-  ordered_bodies : (bodies : List Body) (label : ℕ) (b : Body) → Every Width (sites_bodies bodies) → Every Found (bound_rows_bodies bodies) → slice_get bodies label ≡ Some b
+  ordered_bodies : (bodies : List Body) (label : ℕ) (b : Body) → AllByRecursion Width (sites_bodies bodies) → AllByRecursion Found (bound_rows_bodies bodies) → slice_get bodies label ≡ Some b
       → Ordered (order_at table) b.code
   ordered_bodies [] label b s r e = absurd (cc)
   ordered_bodies (x ∷ bodies) zero b s r e =
@@ -93,10 +93,10 @@ module _ (p : Source) (closed : is_closed p ≡ true) (formed : is_formed p ≡ 
   ordered_bodies (x ∷ bodies) (suc label) b s r e =
       ordered_bodies bodies label b (every_right Width (all_sites x.code) (sites_bodies bodies) s) (every_right Found (bound_rows x.code) (bound_rows_bodies bodies) r) e
 
-  sites_wide : Every Width (sites_of p)
+  sites_wide : AllByRecursion Width (sites_of p)
   sites_wide = widths p.sites (sites_of p) once
 
-  all_rows : Every Found (bound_rows_source p)
+  all_rows : AllByRecursion Found (bound_rows_source p)
   all_rows = rows_found p once
 
   abbrev forms_scoped : Bool

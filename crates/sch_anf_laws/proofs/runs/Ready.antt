@@ -1,7 +1,7 @@
 -- A valid program under a fitting table has all that its run rests on.
 use Rattle.std.proofs.Common.{◌≡◌, ℕ, suc, Bool, true, false, List, [], ◌∷◌, ◌++◌, length}
 use Rattle.std.specs.Prelude.{nat_eq, nat_lt, ◌&&◌}
-use Rattle.std.specs.List.{list_all}
+use Rattle.std.specs.List.{list_all, AllByRecursion}
 use Rattle.std.proofs.lemmas.Bool.{eqb-true}
 use Rattle.sch_word.specs.trees.Bindings.{numbers, scope_with}
 use Rattle.sch_word.specs.values.Primitives.{operands_of}
@@ -17,19 +17,15 @@ use Rattle.sch_anf_laws.proofs.runs.Fine.{FitsSite, Fine, FineEach}
 
 -- ## Rows of sites
 
-abbrev pub Every : {A : Type 0} → (A → Type 0) → List A → Type 0
-Every P [] = Unit {0}
-Every P (x ∷ xs) = P x × Every P xs
-
-pub every_left : {A : Type 0} (P : A → Type 0) (xs ys : List A) → Every P (xs ++ ys) → Every P xs
+pub every_left : {A : Type 0} (P : A → Type 0) (xs ys : List A) → AllByRecursion P (xs ++ ys) → AllByRecursion P xs
 every_left P [] ys h = tt
 every_left P (x ∷ xs) ys h = (h.0, every_left P xs ys h.1)
 
-pub every_right : {A : Type 0} (P : A → Type 0) (xs ys : List A) → Every P (xs ++ ys) → Every P ys
+pub every_right : {A : Type 0} (P : A → Type 0) (xs ys : List A) → AllByRecursion P (xs ++ ys) → AllByRecursion P ys
 every_right P [] ys h = h
 every_right P (x ∷ xs) ys h = every_right P xs ys h.1
 
-pub every_of : {A : Type 0} (f : A → Bool) (xs : List A) → list_all f xs ≡ true → Every (λ x. f x ≡ true) xs
+pub every_of : {A : Type 0} (f : A → Bool) (xs : List A) → list_all f xs ≡ true → AllByRecursion (λ x. f x ≡ true) xs
 every_of f [] h = tt
 every_of f (x ∷ xs) h = (and_left (f x) (list_all f xs) h, every_of f xs (and_right (f x) (list_all f xs) h))
 
@@ -67,7 +63,7 @@ module _ (orders : ℕ → List ℕ) where
   module _ (Width : ℕ × ℕ → Type 0) (Found : ℕ × List ℕ → Type 0)
       (ordered_at : (site width : ℕ) (parts : List ℕ) → Width (site, width) → Found (site, parts) → FitsSite width parts (orders site)) where
     mutual
-      pub ordered : (e : Tree) → Every Width (all_sites e) → Every Found (bound_rows e) → Ordered e
+      pub ordered : (e : Tree) → AllByRecursion Width (all_sites e) → AllByRecursion Found (bound_rows e) → Ordered e
       ordered (constant c) s r = tt
       ordered (literal k) s r = tt
       ordered (variable v) s r = tt
@@ -99,7 +95,7 @@ module _ (orders : ℕ → List ℕ) where
       ordered (cell_get v) s r = tt
       ordered (cell_set v e) s r = ordered e s r
 
-      pub ordered_each : (es : Trees) → Every Width (all_sites_each es) → Every Found (bound_rows_each es) → OrderedEach es
+      pub ordered_each : (es : Trees) → AllByRecursion Width (all_sites_each es) → AllByRecursion Found (bound_rows_each es) → OrderedEach es
       ordered_each no_trees s r = tt
       ordered_each (and_tree e es) s r = (
         ordered e (every_left Width (all_sites e) (all_sites_each es) s) (every_left Found (bound_rows e) (bound_rows_each es) r),

@@ -2,6 +2,7 @@
 use Rattle.std.proofs.Common.{◌≡◌, ℕ, zero, suc, ◌+◌, ◌-◌, ◌<◌, ◌≤◌, true, false, List, [], ◌∷◌, ◌++◌, length, map, take, drop, Option, Some, None, refl, sym, ap, ◌∙◌, subst, arith, length-append, append_assoc}
 use Rattle.std.specs.Prelude.{slice_get}
 use Rattle.std.specs.List.{list_all}
+use Rattle.std.specs.Option.{option_flatten}
 use Rattle.std.proofs.lemmas.Bool.{eqb-true, ltb-true}
 use Rattle.std.proofs.lemmas.List.{length-map}
 use Rattle.std.proofs.lemmas.Option.{slice_get-map}
@@ -10,7 +11,7 @@ use Rattle.sch_word.specs.values.Values.{Value, unspecified, procedure}
 use Rattle.sch_word.specs.runs.Store.{Store}
 use Rattle.sch_word.specs.trees.Bindings.{numbers, scope_with, with_variables, value_or}
 use Rattle.sch_word.specs.runs.Computation as computation
-use Rattle.sch_word.specs.runs.Computation.{Outcome, gives, stops, spent, State, on_value, in_store, take_entry, taken, in_turn}
+use Rattle.sch_word.specs.runs.Computation.{Outcome, gives, stops, spent, State, on_value, in_store, take_entry, taken, in_turn, when_known}
 use Rattle.sch_word.specs.runs.Charges.{fit}
 use Rattle.sch_word.proofs.SameStore.{fit_length}
 use Rattle.sch_word.proofs.Steady.{OutcomeGrows, quiet, steady_fit}
@@ -27,7 +28,8 @@ use Rattle.sch_word.specs.declared.mark.MarkKind.TheVariants.{Enter, Return}
 use Rattle.sch_control.specs.declared.body.Entry.{Entry}
 use Rattle.sch_control.specs.Tree.{Code}
 use Rattle.sch_control.specs.Operations.{field}
-use Rattle.sch_control.specs.Meaning.{World, Result, Callee, plain, marked, with_value, on_outcome, on_return, do_body, entry_environment, nothing, falls_off}
+use Rattle.sch_word.specs.values.Options.{when_some}
+use Rattle.sch_control.specs.Meaning.{World, Result, Callee, plain, marked, on_outcome, on_return, do_body, entry_environment, nothing, falls_off}
 use Rattle.sch_control.specs.Run as control
 use Rattle.sch_control.specs.Run.{entry_at, bodies_of, do_forms}
 use Rattle.sch_control.specs.Valid.{entries_of}
@@ -96,7 +98,7 @@ module _ (a : Setting) (codes : List Code)
   entry_found : (label : ℕ) (x : Code) → slice_get codes label ≡ Some x → entry_at (entries_of codes) label ≡ x.entry
   entry_found label x e = go codes label e
     where
-      go : (cs : List Code) (label : ℕ) → slice_get cs label ≡ Some x → control.known_entry (slice_get (entries_of cs) label) ≡ x.entry
+      go : (cs : List Code) (label : ℕ) → slice_get cs label ≡ Some x → option_flatten (slice_get (entries_of cs) label) ≡ x.entry
       go [] label e = absurd (cc)
       go (y ∷ cs) zero e = let m : y ≡ x = cc in ap (λ (z : Code). z.entry) m
       go (y ∷ cs) (suc label) e = go cs label e
@@ -113,7 +115,7 @@ module _ (a : Setting) (codes : List Code)
       (from.entered b ws c.fields) (entry_environment (procedure i) ws) nothing s marks (λ v s. gives v s) falls_off
       (fine c.label b body) (begins_agreeing a start b c i ws e f l) r
       (record {
-        follows = λ v t after m q below. subst (λ o. Same a start (gives v t) (with_value o (λ link. Some (gives v (marked Return (world_of a.starts t m)))))) (sym (below.at 0 (omega arith)))
+        follows = λ v t after m q below. subst (λ o. Same a start (gives v t) (when_some o (λ link. Some (gives v (marked Return (world_of a.starts t m)))))) (sym (below.at 0 (omega arith)))
             (m ++ Return ∷ [], refl, q);
         whole = λ h v t. refl;
         link = λ h. (unspecified, refl);
@@ -121,7 +123,7 @@ module _ (a : Setting) (codes : List Code)
 
   entered_same : (n : ℕ) → SameEnter a (from_enter n) (to_enter n) → (s : State Procedure) (marks : List MarkKind) (i : ℕ) (c : Procedure) (b : Body) (vs : List Value) (left : ℕ) → Reached a s s
       → slice_get s.procedures i ≡ Some c → slice_get a.bodies c.label ≡ Some b → length c.fields ≡ b.fields
-      → Same a s (from.with_body (Some b) (λ b. computation.after (in_store (fit b.formals b.rest vs))
+      → Same a s (when_known (Some b) (λ b. computation.after (in_store (fit b.formals b.rest vs))
       (λ ws. computation.after (in_store take_entry) (λ _. from.evaluate a.orders (from_enter n) b.code (from.entered b ws c.fields) left true))) s)
       (control.enter_body (bodies_of codes) (to_enter n) (Some (entry_for b)) (procedure i) (image a.starts c) vs left (world_of a.starts s marks))
   entered_same n entering s marks i c b vs left r e body f =
@@ -159,10 +161,10 @@ module _ (a : Setting) (codes : List Code)
   enter_same zero s marks i c vs left r e = (world_of a.starts s marks, refl, refl)
   enter_same (suc n) s marks i c vs left r e =
       let k = procedure_known s i c r.known e in
-      subst (λ (o : Option Body). Same a s (from.with_body o (λ b. computation.after (in_store (fit b.formals b.rest vs))
+      subst (λ (o : Option Body). Same a s (when_known o (λ b. computation.after (in_store (fit b.formals b.rest vs))
       (λ ws. computation.after (in_store take_entry) (λ _. from.evaluate a.orders (from_enter n) b.code (from.entered b ws c.fields) left true))) s)
       (control.enter_body (bodies_of codes) (to_enter n) (entry_at (entries_of codes) (new_label a.starts c.label)) (procedure i) (image a.starts c) vs left (world_of a.starts s marks))) (sym k.1)
-      (subst (λ (o : Option Entry). Same a s (from.with_body (Some k.0)
+      (subst (λ (o : Option Entry). Same a s (when_known (Some k.0)
       (λ b. computation.after (in_store (fit b.formals b.rest vs))
       (λ ws. computation.after (in_store take_entry) (λ _. from.evaluate a.orders (from_enter n) b.code (from.entered b ws c.fields) left true))) s)
       (control.enter_body (bodies_of codes) (to_enter n) o (procedure i) (image a.starts c) vs left (world_of a.starts s marks)))

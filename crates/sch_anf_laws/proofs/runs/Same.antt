@@ -11,7 +11,7 @@ use Rattle.sch_word.specs.values.Values.{Value, unspecified, cell, constant_valu
 use Rattle.sch_word.specs.runs.Store.{Store}
 use Rattle.sch_word.specs.trees.Bindings.{numbers, scope_with, with_variables}
 use Rattle.sch_word.specs.runs.Computation as computation
-use Rattle.sch_word.specs.runs.Computation.{Outcome, Action, gives, stops, spent, State, on_value, in_store, with_rest, read_global, write_global, read_cell, write_cell, set_or_stop, numbers_from, procedures_from, new_procedure, in_order, in_turn, all_values, blanks, call_with}
+use Rattle.sch_word.specs.runs.Computation.{Outcome, Action, gives, stops, spent, State, on_value, in_store, with_rest, read_global, write_global, read_cell, write_cell, set_or_stop, numbers_from, procedures_from, new_procedure, in_order, in_turn, all_values, blanks, call_with, with_cell}
 use Rattle.sch_word.specs.runs.Charges.{charge, charge_each, procedure_bytes, cell_bytes}
 use Rattle.sch_word.specs.values.CellBytes.{cells_bytes}
 use Rattle.sch_word.specs.values.PrimitiveRows.{primitive}
@@ -39,7 +39,7 @@ use Rattle.sch_word.specs.runs.Procedures.{Procedure}
 use Rattle.sch_control.specs.Operations as operations
 use Rattle.sch_control.specs.Sizes.{is_bare_atom}
 use Rattle.sch_control.specs.Meaning as to
-use Rattle.sch_control.specs.Meaning.{World, Result, Then, Callee, plain, no_region, marked, with_value, on_outcome, on_return, call_in, put, put_each, put_inside, mark_members}
+use Rattle.sch_control.specs.Meaning.{World, Result, Then, Callee, plain, no_region, marked, on_outcome, on_return, call_in, put, put_each, put_inside, mark_members}
 use Rattle.sch_control.proofs.PlainMarks.{members_unmarked, none_saved}
 use Rattle.sch_control.proofs.Environments.{put_same}
 use Rattle.sch_anf_laws.specs.Normal.{Scope, source_of, is_simple, simple_operand, operand_at, operands_at, part_binds, operands_bind, inits_bind, init_numbers, numbers_for, binds, unless_atom, ends_in_call, finished, called, bound_unless, normal, normal_parts, with_operands, with_inits, with_new_cells, cell_operation, closure_of, members_of, bound_places, operator_place}
@@ -86,7 +86,7 @@ module _ (a : Setting) (start : State Procedure) (fields : ℕ) (enter : from.En
 
   -- what a value is followed by: the return of the procedure, or what comes next
   abbrev pub ends : (tail : Bool) → Then → Then
-  ends true next v environment saved w = with_value (environment 0) (λ link. Some (gives v (marked Return w)))
+  ends true next v environment saved w = when_some (environment 0) (λ link. Some (gives v (marked Return w)))
   ends false next v environment saved w = next v environment saved w
 
   -- What follows on both sides does the same, at each value, each state that is reached, and each environment in
@@ -143,14 +143,14 @@ module _ (a : Setting) (start : State Procedure) (fields : ℕ) (enter : from.En
 
   get_same : (tail : Bool) (n : ℕ) (environment saved : to.Environment) (s : State Procedure) (marks : List MarkKind) (k : Next Value) (next : Then) (v : Value) → Reached a start s
       → Goes tail n environment saved k next
-      → Same a start (on_value (from.with_cell v read_cell s) k) (on_outcome marks (operations.with_cell v read_cell (state_of a.starts s)) (λ v w. ends tail next v environment saved w))
+      → Same a start (on_value (with_cell v read_cell s) k) (on_outcome marks (with_cell v read_cell (state_of a.starts s)) (λ v w. ends tail next v environment saved w))
   get_same tail n environment saved s marks k next (cell c) r g = read_same tail n environment saved s marks k next (slice_get s.cells c) r g
   get_same tail n environment saved s marks k next _ r g = (_, refl, refl)
 
   set_same : (tail : Bool) (n : ℕ) (environment saved : to.Environment) (s : State Procedure) (marks : List MarkKind) (k : Next Value) (next : Then) (v u : Value) → Reached a start s
       → Goes tail n environment saved k next
-      → Same a start (on_value (from.with_cell v (λ c. write_cell c u) s) k)
-      (on_outcome marks (operations.with_cell v (λ c. write_cell c u) (state_of a.starts s)) (λ v w. ends tail next v environment saved w))
+      → Same a start (on_value (with_cell v (λ c. write_cell c u) s) k)
+      (on_outcome marks (with_cell v (λ c. write_cell c u) (state_of a.starts s)) (λ v w. ends tail next v environment saved w))
   set_same tail n environment saved s marks k next (cell c) u r g =
       g.follows unspecified (record { cells = slice_set s.cells c (Some u); store = s.store; procedures = s.procedures }) environment marks
       (reached_store a start s (slice_set s.cells c (Some u)) s.store r r.constants) (below_self n environment)
@@ -302,12 +302,12 @@ module _ (a : Setting) (start : State Procedure) (fields : ℕ) (enter : from.En
       → part_values environment s.store x ≡ Some us → Reached a start s → Goes tail n environment saved k next
       → Same a start (on_value (call_with enter x.spread tail depth us s) k) (result (called tail x) environment saved (world s marks) next)
   called_same false x n environment saved s marks us k next e r g =
-      same_by _ _ _ (ap (λ o. with_value o (λ vs. on_return (call_in callee x.spread false depth vs (marked (Call x.site) (world s marks))) (λ v w. next v environment saved w))) e)
+      same_by _ _ _ (ap (λ o. when_some o (λ vs. on_return (call_in callee x.spread false depth vs (marked (Call x.site) (world s marks))) (λ v w. next v environment saved w))) e)
       (returned n environment saved s k next _ _ r (same_call a enter callee same_enter s (marks ++ Call x.site ∷ []) x.spread false depth us (reached_self a start s r)) g)
   called_same true x n environment saved s marks us k next e r g =
       let l = g.link refl in
-      same_by _ _ _ (ap (λ o. with_value o (λ link. with_value (part_values environment s.store x) (λ vs. call_in callee x.spread true depth vs (marked (Tail x.site) (world s marks))))) l.1)
-      (same_by _ _ _ (ap (λ o. with_value o (λ vs. call_in callee x.spread true depth vs (marked (Tail x.site) (world s marks)))) e)
+      same_by _ _ _ (ap (λ o. when_some o (λ link. when_some (part_values environment s.store x) (λ vs. call_in callee x.spread true depth vs (marked (Tail x.site) (world s marks))))) l.1)
+      (same_by _ _ _ (ap (λ o. when_some o (λ vs. call_in callee x.spread true depth vs (marked (Tail x.site) (world s marks)))) e)
       (last_called s k _ _ r (same_call a enter callee same_enter s (marks ++ Tail x.site ∷ []) x.spread true depth us (reached_self a start s r)) (g.whole refl)))
 
   -- a call, once its operator and its operands are bound: the parts that are left change nothing
@@ -503,7 +503,7 @@ module _ (a : Setting) (start : State Procedure) (fields : ℕ) (enter : from.En
   -- the rest of a group, once it is charged
   abbrev Grouped : (x : Expression) → List (Member ℕ) → to.Environment → (saved : to.Environment) → State Procedure → List MarkKind → Then → List Value → Result
   Grouped x members environment saved t marks next vs =
-      with_value (with_procedures t (members_made (put_each environment members vs) t members))
+      when_some (with_procedures t (members_made (put_each environment members vs) t members))
       (λ u. to.evaluate plain callee depth x no_region (put_each environment members vs) (put_inside no_region saved members vs)
       (mark_members plain no_region members (record { state = u; marks = marks })) next)
 
@@ -678,9 +678,9 @@ module _ (a : Setting) (start : State Procedure) (fields : ℕ) (enter : from.En
 
   branch_same : (x y z : Tree) → Claim x → Claim y → Claim z → Claim (branch x y z)
   branch_same x y z test consequent alternative tail names scope n h environment saved s marks k next fine w r g =
-      same_after a start (value x h false s) (λ v. computation.either (is_true v) (value y h tail) (value z h tail)) k _
-      (test false names scope n h environment saved s marks (λ v t. on_value (computation.either (is_true v) (value y h tail) (value z h tail) t) k)
-      (λ v environment saved u. to.either (is_true v) (result (normal a.starts tail y scope (n + binds x)) environment saved u next)
+      same_after a start (value x h false s) (λ v. cond (is_true v) (value y h tail) (value z h tail)) k _
+      (test false names scope n h environment saved s marks (λ v t. on_value (cond (is_true v) (value y h tail) (value z h tail) t) k)
+      (λ v environment saved u. cond (is_true v) (result (normal a.starts tail y scope (n + binds x)) environment saved u next)
       (result (normal a.starts tail z scope (n + binds x + binds y)) environment saved u next)) fine.0 w r
       (record {
         follows = λ v t after m q b. chosen (is_true v) t after m q b;
@@ -689,8 +689,8 @@ module _ (a : Setting) (start : State Procedure) (fields : ℕ) (enter : from.En
       }))
     where
       chosen : (c : Bool) (t : State Procedure) (after : to.Environment) (m : List MarkKind) → Reached a start t → Below n environment after
-          → Same a start (on_value (computation.either c (value y h tail) (value z h tail) t) k)
-          (to.either c (result (normal a.starts tail y scope (n + binds x)) after saved (world t m) next) (result (normal a.starts tail z scope (n + binds x + binds y)) after saved (world t m) next))
+          → Same a start (on_value (cond c (value y h tail) (value z h tail) t) k)
+          (cond c (result (normal a.starts tail y scope (n + binds x)) after saved (world t m) next) (result (normal a.starts tail z scope (n + binds x + binds y)) after saved (world t m) next))
       chosen true t after m q b = consequent tail names scope (n + binds x) h after saved t m k next fine.1
           (agrees_below a start fields names scope n (n + binds x) h environment after (omega arith) b w) q (goes_on tail n (n + binds x) environment after saved k next w.two (omega arith) b g)
       chosen false t after m q b = alternative tail names scope (n + binds x + binds y) h after saved t m k next fine.2
@@ -783,19 +783,19 @@ module _ (a : Setting) (start : State Procedure) (fields : ℕ) (enter : from.En
 
   cell_set_same : (v : Variable) (e : Tree) → Claim e → Claim (cell_set v e)
   cell_set_same x e claim tail names scope n h environment saved s marks k next fine w r g =
-      same_after a start (value e h false s) (λ u. from.with_cell (value_in h x) (λ c. write_cell c u)) k _
-      (part_same e claim (is_simple e) refl names scope n h environment saved s marks (λ u t. on_value (from.with_cell (value_in h x) (λ c. write_cell c u) t) k)
+      same_after a start (value e h false s) (λ u. with_cell (value_in h x) (λ c. write_cell c u)) k _
+      (part_same e claim (is_simple e) refl names scope n h environment saved s marks (λ u t. on_value (with_cell (value_in h x) (λ c. write_cell c u) t) k)
       (finished tail (tree.perform (does.CellSet (source_of scope x) (operand_at scope e n)))) next fine.1 w r
       (λ u t after m q b o.
       let given = source_given a start fields names scope n h after x fine.0 (agrees_below a start fields names scope n n h environment after (omega arith) b w) t q in
       same_by _ _ _ (finishes tail (does.CellSet (source_of scope x) (operand_at scope e n)) after saved (world t m) next
-      (operations.with_cell (value_in h x) (λ c. write_cell c u) (state_of a.starts t)) (rw (given, o) refl))
+      (with_cell (value_in h x) (λ c. write_cell c u) (state_of a.starts t)) (rw (given, o) refl))
       (set_same tail n after saved t m k next (value_in h x) u q (goes_on tail n n environment after saved k next w.two (omega arith) b g))))
 
   cell_get_same : (v : Variable) → Claim (cell_get v)
   cell_get_same x tail names scope n h environment saved s marks k next fine w r g =
       let given = source_given a start fields names scope n h environment x fine w s r in
-      same_by _ _ _ (finishes tail (does.CellGet (source_of scope x)) environment saved (world s marks) next (operations.with_cell (value_in h x) read_cell (state_of a.starts s)) (rw given refl))
+      same_by _ _ _ (finishes tail (does.CellGet (source_of scope x)) environment saved (world s marks) next (with_cell (value_in h x) read_cell (state_of a.starts s)) (rw given refl))
       (get_same tail n environment saved s marks k next (value_in h x) r g)
 
   literal_same : (j : ℕ) → Claim (literal j)

@@ -1,12 +1,12 @@
 -- Each site stands once, so that a fitting table has an order for it that begins with what is bound there.
 use Rattle.std.proofs.Common.{◌≡◌, ℕ, zero, suc, ◌+◌, ◌<◌, Bool, true, false, List, [], ◌∷◌, ◌++◌, length, map, Option, Some, None, refl, sym, ap, ◌∙◌, subst, arith, append_assoc}
-use Rattle.std.specs.Prelude.{slice_get, nat_eq, ◌&&◌}
-use Rattle.std.specs.List.{list_all, count_by}
+use Rattle.std.specs.Prelude.{slice_get, nat_eq, ◌&&◌, cond}
+use Rattle.std.specs.List.{list_all, count_by, AllByRecursion}
 use Rattle.std.proofs.lemmas.Bool.{eq-eqb, eqb-true}
 use Rattle.std.proofs.lemmas.List.{map-append}
 use Rattle.std.proofs.lemmas.List.Sums.{sum_by-cons}
 use Rattle.std.proofs.lemmas.Option.{slice_get_within, slice_get-map}
-use Rattle.sch_word.specs.trees.Bindings.{Bindings, bound_to, this_or, numbers}
+use Rattle.sch_word.specs.trees.Bindings.{Bindings, bound_to, numbers}
 use Rattle.sch_word.specs.runs.Computation.{numbers_from}
 use Rattle.sch_word.specs.runs.Orders.{order_or_none, order_at, is_permutation}
 use Rattle.sch_word.specs.trees.Shape as shapes
@@ -21,7 +21,7 @@ use Rattle.sch_control.specs.Fits.{begins_with, fits}
 use Rattle.sch_control.proofs.NumberRows.{each_number}
 use Rattle.sch_anf_laws.specs.Normal.{bound_rows, bound_rows_each, bound_rows_bodies, bound_rows_source, bound_parts}
 use Rattle.sch_anf_laws.proofs.runs.Fine.{FitsSite}
-use Rattle.sch_anf_laws.proofs.runs.Ready.{Every, every_of, all_sites, all_sites_each}
+use Rattle.sch_anf_laws.proofs.runs.Ready.{every_of, all_sites, all_sites_each}
 
 -- ## Keys
 
@@ -91,7 +91,7 @@ module _ (listed : List ℕ) (sites : List (ℕ × ℕ)) (h : sites_once listed 
   abbrev Width : ℕ × ℕ → Type 0
   Width at = is_width (slice_get listed at.0) at.1 ≡ true
 
-  pub widths : Every Width sites
+  pub widths : AllByRecursion Width sites
   widths = every_of (λ at. is_width (slice_get listed at.0) at.1) sites
       (and_right (list_all (λ s. nat_eq (count_by (λ at. nat_eq at.0 s) sites) 1) (numbers_from 0 listed)) (list_all (λ at. is_width (slice_get listed at.0) at.1) sites) h)
 
@@ -103,10 +103,10 @@ module _ (listed : List ℕ) (sites : List (ℕ × ℕ)) (h : sites_once listed 
       sym (keyed_times site sites) ∙ eqb-true (count_by (λ at. nat_eq at.0 site) sites) 1
       (each_number (λ s. nat_eq (count_by (λ at. nat_eq at.0 s) sites) 1) 0 (length listed) site each' (omega arith) (omega (arith, l)))
 
-  pub once : Every (λ k. times k (keys sites) ≡ 1) (keys sites)
+  pub once : AllByRecursion (λ k. times k (keys sites) ≡ 1) (keys sites)
   once = go sites widths
     where
-      go : (xs : List (ℕ × ℕ)) → Every Width xs → Every (λ k. times k (keys sites) ≡ 1) (keys xs)
+      go : (xs : List (ℕ × ℕ)) → AllByRecursion Width xs → AllByRecursion (λ k. times k (keys sites) ≡ 1) (keys xs)
       go [] w = tt
       go (x ∷ xs) w = (counted x.0 (width_within listed x.0 x.1 w.0).1, go xs w.1)
 
@@ -116,11 +116,11 @@ first_found : (before rows : Bindings (List ℕ)) (site : ℕ) (parts : List ℕ
 first_found [] rows site parts e = rw (eq-eqb site site refl) refl
 first_found (r ∷ before) rows site parts e = go (nat_eq site r.0) refl (first_found before rows site parts (omega (arith, e, times_cons site r.0 (keys before))))
   where
-    go : (b : Bool) → nat_eq site r.0 ≡ b → bound_to site (before ++ (site, parts) ∷ rows) ≡ Some parts → this_or b r.1 (bound_to site (before ++ (site, parts) ∷ rows)) ≡ Some parts
+    go : (b : Bool) → nat_eq site r.0 ≡ b → bound_to site (before ++ (site, parts) ∷ rows) ≡ Some parts → cond b (Some r.1) (bound_to site (before ++ (site, parts) ∷ rows)) ≡ Some parts
     go true i f = let m : site ≡ r.0 = eqb-true site r.0 i in let o : one site r.0 ≡ 1 = rw (eq-eqb r.0 site (sym m)) refl in absurd (omega (arith, e, times_cons site r.0 (keys before), o))
     go false i f = f
 
-each_found : (all before rows : Bindings (List ℕ)) → all ≡ before ++ rows → Every (λ k. times k (keys all) ≡ 1) (keys rows) → Every (λ r. bound_to r.0 all ≡ Some r.1) rows
+each_found : (all before rows : Bindings (List ℕ)) → all ≡ before ++ rows → AllByRecursion (λ k. times k (keys all) ≡ 1) (keys rows) → AllByRecursion (λ r. bound_to r.0 all ≡ Some r.1) rows
 each_found all before [] e h = tt
 each_found all before (r ∷ rows) e h =
     (ap (λ l. bound_to r.0 l) e ∙ first_found before rows r.0 r.1 none, each_found all (before ++ r ∷ []) rows (e ∙ sym (append_assoc before (r ∷ []) rows)) h.1)
@@ -131,10 +131,10 @@ each_found all before (r ∷ rows) e h =
         ap (λ l. times r.0 (keys l)) e ∙ (ap (λ l. times r.0 l) (keys_append before (r ∷ rows)) ∙ times_append r.0 (keys before) (r.0 ∷ keys rows)) in
         omega (arith, h.0, total, one_same r.0, times_cons r.0 r.0 (keys rows))
 
-pub rows_found : (p : Source) → sited p ≡ true → Every (λ r. bound_to r.0 (bound_rows_source p) ≡ Some r.1) (bound_rows_source p)
+pub rows_found : (p : Source) → sited p ≡ true → AllByRecursion (λ r. bound_to r.0 (bound_rows_source p) ≡ Some r.1) (bound_rows_source p)
 rows_found p h =
     each_found (bound_rows_source p) [] (bound_rows_source p) refl
-    (subst (λ l. Every (λ k. times k l ≡ 1) l) (sym (rows_keys_source p)) (once p.sites (sites_of p) h))
+    (subst (λ l. AllByRecursion (λ k. times k l ≡ 1) l) (sym (rows_keys_source p)) (once p.sites (sites_of p) h))
 
 -- ## Fitting tables
 
@@ -167,22 +167,22 @@ ordered_at p table h site width parts w f =
 
 -- ## What is listed
 
-within : (listed : List ℕ) (xs : List (ℕ × ℕ)) → Every (λ at. is_width (slice_get listed at.0) at.1 ≡ true) xs → Every (λ k. k < length listed) (keys xs)
+within : (listed : List ℕ) (xs : List (ℕ × ℕ)) → AllByRecursion (λ at. is_width (slice_get listed at.0) at.1 ≡ true) xs → AllByRecursion (λ k. k < length listed) (keys xs)
 within listed [] h = tt
 within listed (x ∷ xs) h = ((width_within listed x.0 x.1 h.0).1, within listed xs h.1)
 
 -- each site is listed with what is bound there
-pub rows_listed : (p : Source) → sited p ≡ true → Every (λ r. order_at (bound_parts p) r.0 ≡ r.1) (bound_rows_source p)
+pub rows_listed : (p : Source) → sited p ≡ true → AllByRecursion (λ r. order_at (bound_parts p) r.0 ≡ r.1) (bound_rows_source p)
 rows_listed p h =
     go (bound_rows_source p) (rows_found p h)
-    (subst (λ ks. Every (λ k. k < length p.sites) ks) (sym (rows_keys_source p)) (within p.sites (sites_of p) (widths p.sites (sites_of p) h)))
+    (subst (λ ks. AllByRecursion (λ k. k < length p.sites) ks) (sym (rows_keys_source p)) (within p.sites (sites_of p) (widths p.sites (sites_of p) h)))
   where
     listed : (site : ℕ) (parts : List ℕ) → site < length p.sites → bound_to site (bound_rows_source p) ≡ Some parts → slice_get (bound_parts p) site ≡ Some parts
     listed site parts l f =
         slice_get-map (λ site. order_or_none (bound_to site (bound_rows_source p))) (numbers 0 (length p.sites)) site
         ∙ (rw (number_at 0 (length p.sites) site l) (ap Some (ap order_or_none (ap (λ k. bound_to k (bound_rows_source p)) (omega arith) ∙ f))))
 
-    go : (rows : Bindings (List ℕ)) → Every (λ r. bound_to r.0 (bound_rows_source p) ≡ Some r.1) rows → Every (λ k. k < length p.sites) (keys rows)
-        → Every (λ r. order_at (bound_parts p) r.0 ≡ r.1) rows
+    go : (rows : Bindings (List ℕ)) → AllByRecursion (λ r. bound_to r.0 (bound_rows_source p) ≡ Some r.1) rows → AllByRecursion (λ k. k < length p.sites) (keys rows)
+        → AllByRecursion (λ r. order_at (bound_parts p) r.0 ≡ r.1) rows
     go [] f w = tt
     go (r ∷ rows) f w = (ap order_or_none (listed r.0 r.1 w.0 f.0), go rows f.1 w.1)

@@ -23,7 +23,8 @@ use Rattle.sch_control.specs.Tree as tree
 use Rattle.sch_control.specs.Tree.{Expression}
 use Rattle.sch_control.specs.Valid.{only_reads}
 use Rattle.sch_anf_laws.specs.Normal.{Scope, init_numbers, source_of, is_atom, are_atoms, is_simple, atoms_of, simple_operand, operand_at, operands_at, operand_binds, unless_atom, ends_in_call, binds, operands_bind, inits_bind, finished, called, bound_unless, normal, normal_parts, with_operands, with_inits, with_new_cells, cell_operation, bound_places, operator_place, bound_rows, bound_rows_each, bound_rows_bodies, procedure_code}
-use Rattle.sch_anf_laws.proofs.runs.Ready.{Every, every_left, every_right}
+use Rattle.std.specs.List.{AllByRecursion}
+use Rattle.sch_anf_laws.proofs.runs.Ready.{every_left, every_right}
 use Rattle.sch_anf_laws.proofs.runs.Agree.{atom_simple}
 
 -- ## One after the other
@@ -118,7 +119,7 @@ module _ (bound : List (List ℕ)) where
   Listed r = order_at bound r.0 ≡ r.1
 
   -- what is read among the operands binds nothing
-  simple_turns : (scope : Scope) (e : Tree) (before : List ℕ) → is_simple e ≡ true → Every Listed (bound_rows e) → sites_in_turn bound before (operand_parts (simple_operand scope e)) ≡ true
+  simple_turns : (scope : Scope) (e : Tree) (before : List ℕ) → is_simple e ≡ true → AllByRecursion Listed (bound_rows e) → sites_in_turn bound before (operand_parts (simple_operand scope e)) ≡ true
   simple_turns scope (constant c) before s h = refl
   simple_turns scope (literal k) before s h = refl
   simple_turns scope (variable (flat.bound x)) before s h = refl
@@ -127,7 +128,7 @@ module _ (bound : List (List ℕ)) where
       ap (λ ks. in_turn (map op.Atom (atoms_of scope es)) ks before && true) none
   simple_turns scope _ before s h = absurd (cc)
 
-  operand_turns : (scope : Scope) (e : Tree) (n : ℕ) (before : List ℕ) → Every Listed (bound_rows e) → sites_in_turn bound before (operand_parts (operand_at scope e n)) ≡ true
+  operand_turns : (scope : Scope) (e : Tree) (n : ℕ) (before : List ℕ) → AllByRecursion Listed (bound_rows e) → sites_in_turn bound before (operand_parts (operand_at scope e n)) ≡ true
   operand_turns scope e n before h = by (is_simple e) refl
     where
       by : (b : Bool) → is_simple e ≡ b → sites_in_turn bound before (operand_parts (cond b (simple_operand scope e) (op.Atom (atom.Variable n)))) ≡ true
@@ -137,7 +138,7 @@ module _ (bound : List (List ℕ)) where
   both : (before : List ℕ) (xs ys : List (ℕ × List (Operand ℕ))) → sites_in_turn bound before xs ≡ true → sites_in_turn bound before ys ≡ true → sites_in_turn bound before (xs ++ ys) ≡ true
   both before xs ys h k = list_all-append (λ s. in_turn s.1 (order_at bound s.0) before) xs ys ∙ and_of (sites_in_turn bound before xs) (sites_in_turn bound before ys) h k
 
-  operands_turn : (scope : Scope) (es : Trees) (n : ℕ) (before : List ℕ) → Every Listed (bound_rows_each es) → sites_in_turn bound before (operands_parts (operands_at scope es n)) ≡ true
+  operands_turn : (scope : Scope) (es : Trees) (n : ℕ) (before : List ℕ) → AllByRecursion Listed (bound_rows_each es) → sites_in_turn bound before (operands_parts (operands_at scope es n)) ≡ true
   operands_turn scope no_trees n before h = refl
   operands_turn scope (and_tree e es) n before h =
       both before (operand_parts (operand_at scope e n)) (operands_parts (operands_at scope es (n + operand_binds e)))
@@ -171,7 +172,7 @@ module _ (bound : List (List ℕ)) where
   module _ (starts : List ℕ) where
     -- a value that is set, bound first where it is not simple
     value_turns : (tail : Bool) (e : Tree) (scope : Scope) (n : ℕ) (o : Operation ℕ) (before : List ℕ) → parts_in_turn bound (normal starts false e scope (suc n)) before ≡ true
-        → operation_parts o ≡ operand_parts (operand_at scope e n) → Every Listed (bound_rows e)
+        → operation_parts o ≡ operand_parts (operand_at scope e n) → AllByRecursion Listed (bound_rows e)
         → parts_in_turn bound (bound_unless (is_simple e) n (normal starts false e scope (suc n)) (finished tail (tree.perform o))) before ≡ true
     value_turns tail e scope n o before h k r =
         let there = before ++ operator_variable e n in
@@ -179,7 +180,7 @@ module _ (bound : List (List ℕ)) where
         (finished_turns tail o there (ap (sites_in_turn bound there) k ∙ operand_turns scope e n there r))
 
     mutual
-      pub normal_turns : (tail : Bool) (e : Tree) (scope : Scope) (n : ℕ) (before : List ℕ) → Every Listed (bound_rows e) → parts_in_turn bound (normal starts tail e scope n) before ≡ true
+      pub normal_turns : (tail : Bool) (e : Tree) (scope : Scope) (n : ℕ) (before : List ℕ) → AllByRecursion Listed (bound_rows e) → parts_in_turn bound (normal starts tail e scope n) before ≡ true
       normal_turns tail (constant c) scope n before h = finished_turns tail (does.Operand (op.Atom (atom.Constant c))) before refl
       normal_turns tail (literal k) scope n before h = finished_turns tail (does.Operand (op.Atom (atom.Literal k))) before refl
       normal_turns tail (variable (flat.bound x)) scope n before h = finished_turns tail (does.Operand (op.Atom (atom.Variable _))) before refl
@@ -237,7 +238,7 @@ module _ (bound : List (List ℕ)) where
       normal_turns tail (cell_set v e) scope n before h =
           value_turns tail e scope n (does.CellSet (source_of scope v) (operand_at scope e n)) before (normal_turns false e scope (suc n) before h) refl h
 
-      parts_turn : (tail : Bool) (es : Trees) (scope : Scope) (n : ℕ) (before : List ℕ) → Every Listed (bound_rows_each es) → parts_in_turn bound (normal_parts starts tail es scope n) before ≡ true
+      parts_turn : (tail : Bool) (es : Trees) (scope : Scope) (n : ℕ) (before : List ℕ) → AllByRecursion Listed (bound_rows_each es) → parts_in_turn bound (normal_parts starts tail es scope n) before ≡ true
       parts_turn tail no_trees scope n before h = finished_turns tail (does.Operand (op.Atom (atom.Constant Unspecified))) before refl
       parts_turn tail (and_tree e no_trees) scope n before h = normal_turns tail e scope n before (every_left Listed (bound_rows e) [] h)
       parts_turn tail (and_tree e (and_tree e' es)) scope n before h =
@@ -257,7 +258,7 @@ module _ (bound : List (List ℕ)) where
               bare true = rest (n + binds e) before
               bare false = and_of (parts_in_turn bound (normal starts false e scope n) before) _ (first n) (rest (n + binds e) before)
 
-      operands_turned : (es : Trees) (scope : Scope) (n : ℕ) (body : Expression) (before : List ℕ) → Every Listed (bound_rows_each es)
+      operands_turned : (es : Trees) (scope : Scope) (n : ℕ) (body : Expression) (before : List ℕ) → AllByRecursion Listed (bound_rows_each es)
           → parts_in_turn bound body (before ++ part_variables es n) ≡ true → parts_in_turn bound (with_operands starts es scope n body) before ≡ true
       operands_turned no_trees scope n body before h k = subst (λ xs. parts_in_turn bound body xs ≡ true) (append-nil before) k
       operands_turned (and_tree e es) scope n body before h k =
@@ -273,13 +274,13 @@ module _ (bound : List (List ℕ)) where
           split false = sym (append_assoc before (n ∷ []) (part_variables es (n + operand_binds e)))
 
       inits_turn : (es : Trees) (scope : Scope) (n : ℕ) (body : Expression) → ((there : List ℕ) → parts_in_turn bound body there ≡ true)
-          → (before : List ℕ) → Every Listed (bound_rows_each es) → parts_in_turn bound (with_inits starts es scope n body) before ≡ true
+          → (before : List ℕ) → AllByRecursion Listed (bound_rows_each es) → parts_in_turn bound (with_inits starts es scope n body) before ≡ true
       inits_turn no_trees scope n body k before h = k before
       inits_turn (and_tree e es) scope n body k before h =
           and_of (parts_in_turn bound (normal starts false e scope (suc n)) before) _ (normal_turns false e scope (suc n) before (every_left Listed (bound_rows e) (bound_rows_each es) h))
           (inits_turn es scope (suc n + binds e) body k (before ++ n ∷ []) (every_right Listed (bound_rows e) (bound_rows_each es) h))
 
-    pub procedures_turn : (bs : List Body) → Every Listed (bound_rows_bodies bs) → Every (λ b. parts_in_turn bound (procedure_code starts b).expression [] ≡ true) bs
+    pub procedures_turn : (bs : List Body) → AllByRecursion Listed (bound_rows_bodies bs) → AllByRecursion (λ b. parts_in_turn bound (procedure_code starts b).expression [] ≡ true) bs
     procedures_turn [] h = tt
     procedures_turn (b ∷ bs) h = (
       normal_turns true b.code (with_variables b.first (numbers 2 b.formals) []) (2 + b.formals) [] (every_left Listed (bound_rows b.code) (bound_rows_bodies bs) h),

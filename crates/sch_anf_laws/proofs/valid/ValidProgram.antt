@@ -1,12 +1,12 @@
 -- The program that normalizing makes is valid.
 use Rattle.std.proofs.Common.{◌≡◌, ℕ, zero, suc, ◌+◌, ◌-◌, ◌≤◌, Bool, true, false, cond, List, [], ◌∷◌, ◌++◌, length, map, take, drop, Option, Some, None, refl, sym, ap, ◌∙◌, subst, arith, append_assoc}
 use Rattle.std.specs.Prelude.{slice_get, nat_eq, nat_le, nat_lt, not, ◌&&◌, ◌||◌}
-use Rattle.std.specs.List.{list_all, sum_by, count_by}
+use Rattle.std.specs.List.{list_all, sum_by, count_by, AllByRecursion}
 use Rattle.std.proofs.lemmas.Bool.{eq-eqb, eqb-true, lt-ltb}
 use Rattle.std.proofs.lemmas.List.{length-map}
 use Rattle.std.proofs.lemmas.List.Sums.{sum_by-append, sum_by-cons}
 use Rattle.sch_word.specs.trees.NumberSets.{has, without_repeats}
-use Rattle.sch_word.specs.trees.Bindings.{Bindings, bound_to, this_or, numbers}
+use Rattle.sch_word.specs.trees.Bindings.{Bindings, bound_to, numbers}
 use Rattle.sch_word.specs.runs.Orders.{order_or_none}
 use Rattle.sch_word.specs.runs.Runs.{statics_valid, statics_in_range}
 use Rattle.sch_word.specs.trees.Shape as shapes
@@ -29,7 +29,7 @@ use Rattle.sch_anf_laws.specs.Normal.{is_simple, new_label, procedure_code, form
 use Rattle.sch_anf_laws.proofs.runs.Fine.{bound_below}
 use Rattle.sch_anf_laws.proofs.runs.Bodies.{stands_at}
 use Rattle.sch_anf_laws.proofs.runs.Ready as ready
-use Rattle.sch_anf_laws.proofs.runs.Ready.{Every, every_left, every_right}
+use Rattle.sch_anf_laws.proofs.runs.Ready.{every_left, every_right}
 use Rattle.sch_anf_laws.proofs.runs.Sites.{keyed_times, rows_listed, width_within, counted, widths}
 use Rattle.sch_anf_laws.proofs.valid.Parts.{node_good, joint_source, entry_for}
 use Rattle.sch_anf_laws.proofs.valid.PartsInTurn.{Listed, normal_turns, procedures_turn}
@@ -38,25 +38,25 @@ use Rattle.sch_anf_laws.proofs.valid.ValidBodies.{Sound, procedure_sound, form_s
 
 -- ## Lists
 
-every_append : {A : Type 0} (P : A → Type 0) (xs ys : List A) → Every P xs → Every P ys → Every P (xs ++ ys)
+every_append : {A : Type 0} (P : A → Type 0) (xs ys : List A) → AllByRecursion P xs → AllByRecursion P ys → AllByRecursion P (xs ++ ys)
 every_append P [] ys h k = k
 every_append P (x ∷ xs) ys h k = (h.0, every_append P xs ys h.1 k)
 
-all_of : {A : Type 0} (f : A → Bool) (xs : List A) → Every (λ x. f x ≡ true) xs → list_all f xs ≡ true
+all_of : {A : Type 0} (f : A → Bool) (xs : List A) → AllByRecursion (λ x. f x ≡ true) xs → list_all f xs ≡ true
 all_of f [] h = refl
 all_of f (x ∷ xs) h = and_of (f x) (list_all f xs) h.0 (all_of f xs h.1)
 
-every_take : {A : Type 0} (P : A → Type 0) (xs : List A) (d : ℕ) → Every P xs → Every P (take d xs)
+every_take : {A : Type 0} (P : A → Type 0) (xs : List A) (d : ℕ) → AllByRecursion P xs → AllByRecursion P (take d xs)
 every_take P xs zero h = tt
 every_take P [] (suc d) h = tt
 every_take P (x ∷ xs) (suc d) h = (h.0, every_take P xs d h.1)
 
-every_drop : {A : Type 0} (P : A → Type 0) (xs : List A) (d : ℕ) → Every P xs → Every P (drop d xs)
+every_drop : {A : Type 0} (P : A → Type 0) (xs : List A) (d : ℕ) → AllByRecursion P xs → AllByRecursion P (drop d xs)
 every_drop P xs zero h = h
 every_drop P [] (suc d) h = tt
 every_drop P (x ∷ xs) (suc d) h = every_drop P xs d h.1
 
-every_map : {A B : Type 0} (P : B → Type 0) (g : A → B) (xs : List A) → Every (λ x. P (g x)) xs → Every P (map g xs)
+every_map : {A B : Type 0} (P : B → Type 0) (g : A → B) (xs : List A) → AllByRecursion (λ x. P (g x)) xs → AllByRecursion P (map g xs)
 every_map P g [] h = tt
 every_map P g (x ∷ xs) h = (h.0, every_map P g xs h.1)
 
@@ -64,8 +64,8 @@ abbrev EveryTree : (Tree → Type 0) → Trees → Type 0
 EveryTree P no_trees = Unit {0}
 EveryTree P (and_tree e es) = P e × EveryTree P es
 
-every_code : (starts : List ℕ) (P : Code → Type 0) (forms : Trees) (places : List ℕ) (bodies : List Body) (before : ℕ) → Every (λ b. P (procedure_code starts b)) bodies
-    → EveryTree (λ e. P (form_code starts e)) forms → Every P (normal_bodies starts before bodies forms places)
+every_code : (starts : List ℕ) (P : Code → Type 0) (forms : Trees) (places : List ℕ) (bodies : List Body) (before : ℕ) → AllByRecursion (λ b. P (procedure_code starts b)) bodies
+    → EveryTree (λ e. P (form_code starts e)) forms → AllByRecursion P (normal_bodies starts before bodies forms places)
 every_code starts P no_trees places bodies before h k = every_map P (procedure_code starts) bodies h
 every_code starts P (and_tree e es) [] bodies before h k = (k.0, every_code starts P es [] bodies before h k.1)
 every_code starts P (and_tree e es) (p ∷ places) bodies before h k =
@@ -141,18 +141,18 @@ module _ (starts : List ℕ) (f : ℕ × ℕ → ℕ) where
       let m = fewer_each f p.forms in
       omega (arith, h, k, m, sum_by-append f (over_bodies [] (λ x y. x ++ y) shapes.site_of p.bodies) (over_each [] (λ x y. x ++ y) shapes.site_of p.forms))
 
-none_of : (f : ℕ × ℕ → ℕ) (xs : List (ℕ × ℕ)) → Every (λ x. f x ≡ 0) xs → sum_by f xs ≡ 0
+none_of : (f : ℕ × ℕ → ℕ) (xs : List (ℕ × ℕ)) → AllByRecursion (λ x. f x ≡ 0) xs → sum_by f xs ≡ 0
 none_of f [] h = refl
 none_of f (x ∷ xs) h = let k = none_of f xs h.1 in omega (arith, h.0, k, sum_by-cons f x xs)
 
-each_none : (f : ℕ × ℕ → ℕ) (xs : List (ℕ × ℕ)) → sum_by f xs ≡ 0 → Every (λ x. f x ≡ 0) xs
+each_none : (f : ℕ × ℕ → ℕ) (xs : List (ℕ × ℕ)) → sum_by f xs ≡ 0 → AllByRecursion (λ x. f x ≡ 0) xs
 each_none f [] h = tt
 each_none f (x ∷ xs) h = (omega (arith, h, sum_by-cons f x xs), each_none f xs (omega (arith, h, sum_by-cons f x xs)))
 
 abbrev pub at_site : ℕ → ℕ × ℕ → ℕ
 at_site k at = cond (nat_eq at.0 k) 1 0
 
-each_there : (all before xs : List (ℕ × ℕ)) → all ≡ before ++ xs → Every (λ x. 1 ≤ sum_by (at_site x.0) all) xs
+each_there : (all before xs : List (ℕ × ℕ)) → all ≡ before ++ xs → AllByRecursion (λ x. 1 ≤ sum_by (at_site x.0) all) xs
 each_there all before [] e = tt
 each_there all before (x ∷ xs) e = (
   let o : at_site x.0 x ≡ 1 = rw (eq-eqb x.0 x.0 refl) refl in
@@ -207,7 +207,7 @@ module _ (listed : List ℕ) where
   row_good site width parts h g w e = let k = (width_within listed site width h).0 in let m : w ≡ width = cc in subst (λ w. Good w parts) (sym m) g
 
   mutual
-    rows_good : (e : Tree) → Every Width (ready.all_sites e) → Every RowGood (bound_rows e)
+    rows_good : (e : Tree) → AllByRecursion Width (ready.all_sites e) → AllByRecursion RowGood (bound_rows e)
     rows_good (constant c) h = tt
     rows_good (literal k) h = tt
     rows_good (variable v) h = tt
@@ -240,23 +240,23 @@ module _ (listed : List ℕ) where
     rows_good (cell_get v) h = tt
     rows_good (cell_set v e) h = rows_good e h
 
-    rows_good_each : (es : Trees) → Every Width (ready.all_sites_each es) → Every RowGood (bound_rows_each es)
+    rows_good_each : (es : Trees) → AllByRecursion Width (ready.all_sites_each es) → AllByRecursion RowGood (bound_rows_each es)
     rows_good_each no_trees h = tt
     rows_good_each (and_tree e es) h =
         every_append RowGood (bound_rows e) (bound_rows_each es) (rows_good e (every_left Width (ready.all_sites e) (ready.all_sites_each es) h))
         (rows_good_each es (every_right Width (ready.all_sites e) (ready.all_sites_each es) h))
 
-  rows_good_bodies : (bs : List Body) → Every Width (over_bodies [] (λ x y. x ++ y) shapes.site_of bs) → Every RowGood (bound_rows_bodies bs)
+  rows_good_bodies : (bs : List Body) → AllByRecursion Width (over_bodies [] (λ x y. x ++ y) shapes.site_of bs) → AllByRecursion RowGood (bound_rows_bodies bs)
   rows_good_bodies [] h = tt
   rows_good_bodies (b ∷ bs) h =
       every_append RowGood (bound_rows b.code) (bound_rows_bodies bs) (rows_good b.code (every_left Width (ready.all_sites b.code) (over_bodies [] (λ x y. x ++ y) shapes.site_of bs) h))
       (rows_good_bodies bs (every_right Width (ready.all_sites b.code) (over_bodies [] (λ x y. x ++ y) shapes.site_of bs) h))
 
-  looked_up : (rows : Bindings (List ℕ)) (site w : ℕ) → slice_get listed site ≡ Some w → Every RowGood rows → Good w (order_or_none (bound_to site rows))
+  looked_up : (rows : Bindings (List ℕ)) (site w : ℕ) → slice_get listed site ≡ Some w → AllByRecursion RowGood rows → Good w (order_or_none (bound_to site rows))
   looked_up [] site w e h = (refl, refl)
   looked_up (r ∷ rows) site w e h = go (nat_eq site r.0) refl (looked_up rows site w e h.1)
     where
-      go : (b : Bool) → nat_eq site r.0 ≡ b → Good w (order_or_none (bound_to site rows)) → Good w (order_or_none (this_or b r.1 (bound_to site rows)))
+      go : (b : Bool) → nat_eq site r.0 ≡ b → Good w (order_or_none (bound_to site rows)) → Good w (order_or_none (cond b (Some r.1) (bound_to site rows)))
       go true i g = let m : site ≡ r.0 = eqb-true site r.0 i in h.0 w (ap (λ k. slice_get listed k) (sym m) ∙ e)
       go false i g = g
 
@@ -322,7 +322,7 @@ module _ (p : Source) (closed : is_closed p ≡ true) (formed : is_formed p ≡ 
   IsSound = Sound p.starts p.bodies names few_fields entry_there
 
   bodies_sound : (bs : List Body) → list_all (body_scoped p.bodies) bs ≡ true → over_bodies true (λ x y. x && y) (node_good names) bs ≡ true → list_all body_fits bs ≡ true
-      → Every (λ b. IsSound (procedure_code p.starts b)) bs
+      → AllByRecursion (λ b. IsSound (procedure_code p.starts b)) bs
   bodies_sound [] s g f = tt
   bodies_sound (b ∷ bs) s g f = (
     procedure_sound p.starts p.bodies names few_fields entry_there b (and_left (body_scoped p.bodies b) (list_all (body_scoped p.bodies) bs) s)
@@ -347,7 +347,7 @@ module _ (p : Source) (closed : is_closed p ≡ true) (formed : is_formed p ≡ 
   abbrev library_scoped : Bool
   library_scoped = list_all (λ label. has_fields (slice_get p.bodies label) 0) p.library
 
-  pub all_sound : Every IsSound codes
+  pub all_sound : AllByRecursion IsSound codes
   all_sound =
       every_code p.starts IsSound p.forms p.starts p.bodies 0
       (bodies_sound p.bodies (and_left (list_all (body_scoped p.bodies) p.bodies) (forms_scoped && library_scoped) closed)
@@ -358,7 +358,7 @@ module _ (p : Source) (closed : is_closed p ≡ true) (formed : is_formed p ≡ 
   pub all_known : to.all_known (normal_source p) ≡ true
   all_known = all_of (code_known names) codes (go codes all_sound)
     where
-      go : (cs : List Code) → Every IsSound cs → Every (λ c. code_known names c ≡ true) cs
+      go : (cs : List Code) → AllByRecursion IsSound cs → AllByRecursion (λ c. code_known names c ≡ true) cs
       go [] h = tt
       go (c ∷ cs) h = (h.0.known, go cs h.1)
 
@@ -373,17 +373,17 @@ module _ (p : Source) (closed : is_closed p ≡ true) (formed : is_formed p ≡ 
   abbrev one_wrong : ℕ × ℕ → ℕ
   one_wrong at = cond (is_listed at) 0 1
 
-  site_widths : Every (λ at. is_listed at ≡ true) sites
+  site_widths : AllByRecursion (λ at. is_listed at ≡ true) sites
   site_widths = right sites (each_none one_wrong sites none)
     where
-      listed : (xs : List (ℕ × ℕ)) → Every (λ at. is_listed at ≡ true) xs → Every (λ at. one_wrong at ≡ 0) xs
+      listed : (xs : List (ℕ × ℕ)) → AllByRecursion (λ at. is_listed at ≡ true) xs → AllByRecursion (λ at. one_wrong at ≡ 0) xs
       listed [] h = tt
       listed (x ∷ xs) h = (rw h.0 refl, listed xs h.1)
 
       none : sum_by one_wrong sites ≡ 0
       none = let h = no_more p.starts one_wrong p p.starts in let k = none_of one_wrong (sites_of p) (listed (sites_of p) (widths p.sites (sites_of p) once)) in omega (arith, h, k)
 
-      right : (xs : List (ℕ × ℕ)) → Every (λ at. one_wrong at ≡ 0) xs → Every (λ at. is_listed at ≡ true) xs
+      right : (xs : List (ℕ × ℕ)) → AllByRecursion (λ at. one_wrong at ≡ 0) xs → AllByRecursion (λ at. is_listed at ≡ true) xs
       right [] h = tt
       right (x ∷ xs) h = (go (is_listed x) h.0, right xs h.1)
         where
@@ -391,8 +391,8 @@ module _ (p : Source) (closed : is_closed p ≡ true) (formed : is_formed p ≡ 
           go true e = refl
           go false e = absurd (omega (arith, e))
 
-  site_counts : (xs : List (ℕ × ℕ)) → Every (λ at. is_listed at ≡ true) xs → Every (λ at. 1 ≤ sum_by (at_site at.0) sites) xs
-      → Every (λ at. (nat_eq (count_by (λ other. nat_eq other.0 at.0) sites) 1 && is_listed at) ≡ true) xs
+  site_counts : (xs : List (ℕ × ℕ)) → AllByRecursion (λ at. is_listed at ≡ true) xs → AllByRecursion (λ at. 1 ≤ sum_by (at_site at.0) sites) xs
+      → AllByRecursion (λ at. (nat_eq (count_by (λ other. nat_eq other.0 at.0) sites) 1 && is_listed at) ≡ true) xs
   site_counts [] w h = tt
   site_counts (x ∷ xs) w h =
       let k = no_more p.starts (at_site x.0) p p.starts in
@@ -412,10 +412,10 @@ module _ (p : Source) (closed : is_closed p ≡ true) (formed : is_formed p ≡ 
       each_bound p.sites 0 (λ site. order_or_none (bound_to site (bound_rows_source p)))
       (λ j w e. subst (λ k. Good w (order_or_none (bound_to k (bound_rows_source p)))) (omega arith) (looked_up p.sites (bound_rows_source p) j w e rows))
     where
-      all : Every (Width p.sites) (sites_of p)
+      all : AllByRecursion (Width p.sites) (sites_of p)
       all = widths p.sites (sites_of p) once
 
-      rows : Every (RowGood p.sites) (bound_rows_source p)
+      rows : AllByRecursion (RowGood p.sites) (bound_rows_source p)
       rows =
           every_append (RowGood p.sites) (bound_rows_bodies p.bodies) (bound_rows_each p.forms)
           (rows_good_bodies p.sites p.bodies (every_left (Width p.sites) (over_bodies [] (λ x y. x ++ y) shapes.site_of p.bodies) (ready.all_sites_each p.forms) all))
@@ -429,10 +429,10 @@ module _ (p : Source) (closed : is_closed p ≡ true) (formed : is_formed p ≡ 
       (procedures_turn bound p.starts p.bodies (every_left (Listed bound) (bound_rows_bodies p.bodies) (bound_rows_each p.forms) rows))
       (forms p.forms (every_right (Listed bound) (bound_rows_bodies p.bodies) (bound_rows_each p.forms) rows)))
     where
-      rows : Every (Listed bound) (bound_rows_source p)
+      rows : AllByRecursion (Listed bound) (bound_rows_source p)
       rows = rows_listed p once
 
-      forms : (es : Trees) → Every (Listed bound) (bound_rows_each es) → EveryTree (λ e. parts_in_turn bound (form_code p.starts e).expression [] ≡ true) es
+      forms : (es : Trees) → AllByRecursion (Listed bound) (bound_rows_each es) → EveryTree (λ e. parts_in_turn bound (form_code p.starts e).expression [] ≡ true) es
       forms no_trees h = tt
       forms (and_tree e es) h =
           (normal_turns bound p.starts false e [] 2 [] (every_left (Listed bound) (bound_rows e) (bound_rows_each es) h), forms es (every_right (Listed bound) (bound_rows e) (bound_rows_each es) h))
@@ -463,6 +463,6 @@ module _ (p : Source) (closed : is_closed p ≡ true) (formed : is_formed p ≡ 
   pub bodies_valid : list_all to.code_valid codes ≡ true
   bodies_valid = all_of to.code_valid codes (go codes all_sound)
     where
-      go : (cs : List Code) → Every IsSound cs → Every (λ c. to.code_valid c ≡ true) cs
+      go : (cs : List Code) → AllByRecursion IsSound cs → AllByRecursion (λ c. to.code_valid c ≡ true) cs
       go [] h = tt
       go (c ∷ cs) h = (rw (h.0.scoped, h.0.numbered, h.0.ended, h.0.shaped, h.0.fields) refl, go cs h.1)

@@ -11,7 +11,7 @@ use Rattle.sch_cells.specs.Tree.{Tree, Trees, Lambdas, constant, literal, variab
 use Rattle.sch_cells.specs.Variables.{free, free_each, free_lambdas, bound, bound_each, bound_lambdas, cells_bound, cells_used, and_some, without_each}
 use Rattle.sch_cells.specs.Clear.{Apart, Clear, ClearEach, ClearLambdas}
 use Rattle.sch_flat.specs.Tree as flat
-use Rattle.sch_flat.specs.Valid.{is_known, is_content, cells_scope, cell_variables, all_new, is_made, body_scoped}
+use Rattle.sch_flat.specs.Valid.{is_known, is_content, cell_variables, all_new, is_made, body_scoped}
 use Rattle.sch_flat.specs.Valid as valid
 use Rattle.sch_closure.specs.Closed.{place, place_from, place_or_none, placed, procedures, procedures_each, procedures_lambdas, fields_of, made, closed, closed_each, made_each, body_of, all_procedures, all_of_each, all_of_lambdas}
 use Rattle.sch_closure.specs.Fresh.{Fresh, FreshEach, FreshLambdas, Stand, StandEach, StandLambdas}
@@ -49,9 +49,9 @@ known_with : {fs own : List ℕ} (x m : ℕ) (xs : List ℕ) → Known fs own (w
 known_with x zero xs k = k
 known_with x (suc m) xs k = known_with (suc x) m xs (known_push x (without (suc x) m xs) k)
 
-known_cells : {fs own : List ℕ} (gs : List ℕ) (cs : List NewCell) (xs : List ℕ) → Known fs own (without_each (cells_bound cs) xs) → Known fs (cells_scope (map (placed gs) cs) own) xs
-known_cells gs [] xs k = k
-known_cells gs (c ∷ cs) xs k = known_cells gs cs xs (known_push c.variable (without_each (cells_bound cs) xs) k)
+known_pushed : {fs own : List ℕ} (ys xs : List ℕ) → Known fs own (without_each ys xs) → Known fs (pushed ys own) xs
+known_pushed [] xs k = k
+known_pushed (y ∷ ys) xs k = known_pushed ys xs (known_push y (without_each ys xs) k)
 
 place_known : (k : ℕ) (fs own : List ℕ) (x : ℕ) → (has x fs ≡ false → In x own) → IsTrue (is_known own (k + length fs) (place_from k fs x))
 place_known k [] own x h = h refl
@@ -111,9 +111,9 @@ within_with : (x m : ℕ) (own S : List ℕ) → Within own S → Within (scope_
 within_with x zero own S w = w
 within_with x (suc m) own S w = within_with (suc x) m (x ∷ own) (x ∷ S) (within_push x own S w)
 
-within_cells : (gs : List ℕ) (cs : List NewCell) (own S : List ℕ) → Within own S → Within (cells_scope (map (placed gs) cs) own) (pushed (cells_bound cs) S)
-within_cells gs [] own S w = w
-within_cells gs (c ∷ cs) own S w = within_cells gs cs (c.variable ∷ own) (c.variable ∷ S) (within_push c.variable own S w)
+within_pushed : (ys own S : List ℕ) → Within own S → Within (pushed ys own) (pushed ys S)
+within_pushed [] own S w = w
+within_pushed (y ∷ ys) own S w = within_pushed ys (y ∷ own) (y ∷ S) (within_push y own S w)
 
 variables_same : (gs : List ℕ) (cs : List NewCell) → cell_variables (map (placed gs) cs) ≡ cells_bound cs
 variables_same gs [] = refl
@@ -186,7 +186,7 @@ module _ (all : List flat.Body) where
         rw (variables_same fs cs)
         (and_of _ _ (contents_known fs own cs (known_left (cells_used cs) (without_each (cells_bound cs) (free e)) k))
         (and_of _ _ (all_are_new (cells_bound cs) own (distinct_left (cells_bound cs) (bound e) d) (new_here (cells_bound cs) own S w c'.1))
-        (scoped e fs (cells_scope (map (placed fs) cs) own) (pushed (cells_bound cs) S) n (known_cells fs cs (free e) k') (within_cells fs cs own S w) c'.2 f.1
+        (scoped e fs (pushed (cells_bound cs) own) (pushed (cells_bound cs) S) n (known_pushed (cells_bound cs) (free e) k') (within_pushed (cells_bound cs) own S w) c'.2 f.1
         (distinct_right (cells_bound cs) (bound e) d) t)))
     scoped (cell_get x) fs own S n k w c' f d t = is_one_known fs own (x ∷ []) x k (in_here x [])
     scoped (cell_set x e) fs own S n k w c' f d t =

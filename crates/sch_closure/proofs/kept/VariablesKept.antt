@@ -1,9 +1,9 @@
 -- A body of a flat program may need as many variables as the procedure that it comes from.
-use Rattle.std.proofs.Common.{◌≡◌, ℕ, zero, suc, ◌+◌, Bool, true, false, List, [], ◌∷◌, refl, subst, arith}
+use Rattle.std.proofs.Common.{◌≡◌, ℕ, zero, suc, ◌+◌, Bool, true, false, List, [], ◌∷◌, Some, refl, subst, arith}
 use Rattle.std.specs.Prelude.{cond, nat_eq, not, ◌||◌}
 use Rattle.std.proofs.lemmas.Bool.{eqb-true}
 use Rattle.sch_word.specs.trees.NumberSets.{has, union, In}
-use Rattle.sch_word.specs.trees.Bindings.{Bindings, bound_to, this_or, with_variables, numbers, without, remove}
+use Rattle.sch_word.specs.trees.Bindings.{Bindings, bound_to, with_variables, numbers, without, remove}
 use Rattle.sch_cells.specs.declared.tree.NewCell.{NewCell}
 use Rattle.sch_cells.specs.Tree.{Tree, Trees, Lambdas, constant, literal, variable, global, set_variable, set_global, define, branch, sequence, bind, fix, letrec, lambda, call, operation, new_cells, cell_get, cell_set, no_trees, and_tree, no_lambdas, and_lambda, count, count_lambdas}
 use Rattle.sch_cells.specs.Variables.{free, free_each, free_lambdas, cells_bound, cells_used, without_each, assigns, assigns_each, assigns_lambdas}
@@ -74,7 +74,7 @@ counts_right xs ys k = counts_less (union xs ys) ys (λ x i. union_right x xs ys
 counts_push : {fs xs : List ℕ} {once : Bindings Bool} (y : ℕ) → has y fs ≡ false → Counts fs (remove y xs) once → Counts fs xs ((y, true) ∷ once)
 counts_push {fs} {xs} {once} y a k = record { at = λ x i. go x (nat_eq x y) refl i }
   where
-    go : (x : ℕ) (b : Bool) → nat_eq x y ≡ b → In x xs → or_false (this_or (nat_eq x y) true (bound_to x once)) ≡ not (has x fs)
+    go : (x : ℕ) (b : Bool) → nat_eq x y ≡ b → In x xs → or_false (cond (nat_eq x y) (Some true) (bound_to x once)) ≡ not (has x fs)
     go x true e i =
         let q : x ≡ y = eqb-true x y e in
         let h : has x fs ≡ false = rw q a in

@@ -1,17 +1,13 @@
 -- Variables that are live at once live in different places.
-use Rattle.std.specs.Prelude.{◌≡◌, ◌≢◌, ◌<◌, ℕ, List, [], ◌∷◌, true, false, ◌⊎◌}
+use Rattle.std.specs.Prelude.{◌≡◌, ◌≢◌, ◌<◌, ℕ, List, true, false, ◌⊎◌}
 use Rattle.std.specs.Bool.{MatchBool}
+pub use Rattle.std.specs.List.{AllByRecursion as EachHas}
 use Rattle.sch_word.specs.declared.place.Place.{Place}
 use Rattle.sch_control.specs.declared.operation.Member.{Member}
 use Rattle.sch_control.specs.AtomsAndSites.{member_atoms}
 use Rattle.sch_control.specs.Tree.{Expression, perform, bind, sequence, branch, fix, call, tail_call, return, end, save}
 use Rattle.sch_control.specs.Valid.{member_variables}
 use Rattle.sch_control.specs.flow.Live.{Mentions, Perhaps, Across, MayGive, Live, Later, nothing_later}
-
--- each number of a list has a property
-abbrev pub EachHas : (ℕ → Type 0) → List ℕ → Type 0
-EachHas P [] = Unit {0}
-EachHas P (x ∷ xs) = P x × EachHas P xs
 
 -- what is live as the members of a group are in their places: what their fields are, and what is live behind the group
 abbrev pub Around : List (Member ℕ) → (live : ℕ → Type 0) → ℕ → Type 0

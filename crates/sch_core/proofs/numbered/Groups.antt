@@ -13,7 +13,8 @@ use Rattle.sch_variable_counts.specs.Within.{each_procedure, each_procedure_in, 
 use Rattle.sch_names.specs.Scope.{VariableNames}
 use Rattle.sch_sketch.specs.Draft.{Draft, Drafts, lambda, no_drafts, and_draft}
 use Rattle.sch_link_tables.specs.Assigned.{is_group}
-use Rattle.sch_link_tables.specs.Numbered.{grouped, numbered_each, procedures_of, others_of}
+use Rattle.sch_word.specs.values.Options.{rest_of}
+use Rattle.sch_link_tables.specs.Numbered.{grouped, numbered_each, procedures_of}
 use Rattle.sch_core.specs.SoundDrafts.{AreProcedures, AreProceduresIf}
 
 abbrev pub IsLambda : Expression → Type 0
@@ -81,7 +82,7 @@ group_procedures false es e h g = cc
 module _ (own globals symbols : List (List ℕ)) where
   pub lambdas_numbered : (es : Drafts) (vs : VariableNames) (s l : ℕ) → AreProcedures es → AreLambdas (numbered_each own globals symbols vs es s l)
   lambdas_numbered no_drafts vs s l h = tt
-  lambdas_numbered (and_draft (lambda n r e) es) vs s l h = (tt, lambdas_numbered es (others_of vs) _ _ h.1)
+  lambdas_numbered (and_draft (lambda n r e) es) vs s l h = (tt, lambdas_numbered es (rest_of vs) _ _ h.1)
   lambdas_numbered (and_draft _ es) vs s l h = absurd h.0
 
   pub group_lambdas : (p : Bool) (es : Drafts) (e : Draft) (vs : VariableNames) (s l : ℕ) → AreProceduresIf p es → is_group p es e ≡ true →

@@ -19,7 +19,8 @@ use Rattle.sch_sketch.specs.Draft.{Draft, Drafts, constant, symbol, literal, loc
 use Rattle.sch_link_tables.specs.Assigned.{is_group}
 use Rattle.sch_link_tables.specs.Sites.{widths}
 use Rattle.sch_link_tables.specs.Quoted.{quotes_in}
-use Rattle.sch_link_tables.specs.Numbered.{body_name, grouped, numbered, numbered_each, others_of}
+use Rattle.sch_word.specs.values.Options.{rest_of}
+use Rattle.sch_link_tables.specs.Numbered.{body_name, grouped, numbered, numbered_each}
 use Rattle.sch_core.specs.SoundDrafts.{HasRest, IsSound, AreSound, levels, levels_each}
 use Rattle.sch_core.proofs.numbered.Groups.{AreLambdas, count_group, levels_group, few_group, holds_group, fit_group, group_lambdas}
 
@@ -107,7 +108,7 @@ module _ (own globals symbols : List (List ℕ)) where
     pub fitting_each : (es : Drafts) (vs : VariableNames) (m s l : ℕ) → AreSound m es → AreFew (numbered_each own globals symbols vs es s l) →
         over_each true (λ a b. a && b) fits_here (numbered_each own globals symbols vs es s l) ≡ true
     fitting_each no_drafts vs m s l h k = refl
-    fitting_each (and_draft e es) vs m s l h k = and_from _ _ (fitting e _ m s l h.0 (first_of_two _ _ _ _ k)) (fitting_each es (others_of vs) m _ _ h.1 (second_of_two _ _ _ _ k))
+    fitting_each (and_draft e es) vs m s l h k = and_from _ _ (fitting e _ m s l h.0 (first_of_two _ _ _ _ k)) (fitting_each es (rest_of vs) m _ _ h.1 (second_of_two _ _ _ _ k))
 
 -- ## Levels
 
@@ -144,4 +145,4 @@ module _ (own globals symbols : List (List ℕ)) where
 
     pub levels_each_kept : (es : Drafts) (vs : VariableNames) (m s l : ℕ) → AreSound m es → measures.levels_each (numbered_each own globals symbols vs es s l) ≡ levels_each es
     levels_each_kept no_drafts vs m s l h = refl
-    levels_each_kept (and_draft e es) vs m s l h = two_levels (levels_kept e _ m s l h.0) (levels_each_kept es (others_of vs) m _ _ h.1)
+    levels_each_kept (and_draft e es) vs m s l h = two_levels (levels_kept e _ m s l h.0) (levels_each_kept es (rest_of vs) m _ _ h.1)

@@ -16,7 +16,8 @@ use Rattle.sch_sketch.specs.Draft.{Draft, Drafts, constant, symbol, literal, loc
 use Rattle.sch_link_tables.specs.Named.{firsts, globals_in, globals_in_each, symbols_in, symbols_in_each}
 use Rattle.sch_link_tables.specs.Assigned.{is_group}
 use Rattle.sch_link_tables.specs.Quoted.{quotes_in, quotes_in_each}
-use Rattle.sch_link_tables.specs.Numbered.{grouped, numbered, numbered_each, others_of}
+use Rattle.sch_word.specs.values.Options.{rest_of}
+use Rattle.sch_link_tables.specs.Numbered.{grouped, numbered, numbered_each}
 use Rattle.sch_core.specs.SoundDrafts.{IsSound, AreSound}
 use Rattle.sch_core.specs.LibraryDefinitions.{AreAmong}
 use Rattle.sch_core.proofs.numbered.Groups.{hold_grouped, group_lambdas}
@@ -135,4 +136,4 @@ module _ (own globals symbols : List (List ℕ)) (literals : ℕ) where
     named_each (and_draft e es) vs m s l h g y q =
         let c = length-append (quotes_in e) (quotes_in_each es) in
         and_from _ _ (named e _ m s l h.0 (left globals (globals_in own e) _ g) (left symbols (symbols_in e) _ y) (omega (arith, q, c)))
-        (named_each es (others_of vs) m _ _ h.1 (right globals (globals_in own e) _ g) (right symbols (symbols_in e) _ y) (omega (arith, q, c)))
+        (named_each es (rest_of vs) m _ _ h.1 (right globals (globals_in own e) _ g) (right symbols (symbols_in e) _ y) (omega (arith, q, c)))

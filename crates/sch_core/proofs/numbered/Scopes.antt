@@ -11,7 +11,8 @@ use Rattle.sch_lang.specs.InScope.{in_scope, each_in_scope}
 use Rattle.sch_names.specs.Scope.{VariableNames}
 use Rattle.sch_sketch.specs.Draft.{Draft, Drafts, constant, symbol, literal, local, global, set_local, set_global, define, branch, sequence, bind, letrec, lambda, call, operation, no_drafts, and_draft, count}
 use Rattle.sch_link_tables.specs.Assigned.{assigns, assigns_each, is_group}
-use Rattle.sch_link_tables.specs.Numbered.{procedures_of, grouped, numbered, numbered_each, others_of}
+use Rattle.sch_word.specs.values.Options.{rest_of}
+use Rattle.sch_link_tables.specs.Numbered.{procedures_of, grouped, numbered, numbered_each}
 use Rattle.sch_core.specs.SoundDrafts.{IsSound, AreSound}
 use Rattle.sch_core.proofs.numbered.Groups.{AreLambdas, count_group, scope_group, assigns_group, group_lambdas}
 
@@ -54,7 +55,7 @@ module _ (own globals symbols : List (List ℕ)) where
 
     pub scoped_each : (es : Drafts) (vs : VariableNames) (m s l : ℕ) → AreSound m es → each_in_scope (numbered_each own globals symbols vs es s l) m ≡ true
     scoped_each no_drafts vs m s l h = refl
-    scoped_each (and_draft e es) vs m s l h = and_from _ _ (scoped e _ m s l h.0) (scoped_each es (others_of vs) m _ _ h.1)
+    scoped_each (and_draft e es) vs m s l h = and_from _ _ (scoped e _ m s l h.0) (scoped_each es (rest_of vs) m _ _ h.1)
 
   mutual
     pub assigns_kept : (e : Draft) (v : Option (List ℕ)) (m s l j : ℕ) → IsSound m e → variables.assigns (numbered own globals symbols v e s l) j ≡ assigns e j
@@ -80,4 +81,4 @@ module _ (own globals symbols : List (List ℕ)) where
 
     pub assigns_each_kept : (es : Drafts) (vs : VariableNames) (m s l j : ℕ) → AreSound m es → variables.assigns_each (numbered_each own globals symbols vs es s l) j ≡ assigns_each es j
     assigns_each_kept no_drafts vs m s l j h = refl
-    assigns_each_kept (and_draft e es) vs m s l j h = or_same (assigns_kept e _ m s l j h.0) (assigns_each_kept es (others_of vs) m _ _ j h.1)
+    assigns_each_kept (and_draft e es) vs m s l j h = or_same (assigns_kept e _ m s l j h.0) (assigns_each_kept es (rest_of vs) m _ _ j h.1)

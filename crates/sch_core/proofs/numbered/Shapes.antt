@@ -14,7 +14,8 @@ use Rattle.sch_lang.specs.Valid as valid
 use Rattle.sch_names.specs.Scope.{VariableNames}
 use Rattle.sch_sketch.specs.Draft.{Draft, Drafts, constant, symbol, literal, local, global, set_local, set_global, define, branch, sequence, bind, letrec, lambda, call, operation, no_drafts, and_draft, count}
 use Rattle.sch_link_tables.specs.Assigned.{assigns, assigns_each, none_assigned, is_group}
-use Rattle.sch_link_tables.specs.Numbered.{procedures_of, grouped, numbered, numbered_each, others_of}
+use Rattle.sch_word.specs.values.Options.{rest_of}
+use Rattle.sch_link_tables.specs.Numbered.{procedures_of, grouped, numbered, numbered_each}
 use Rattle.sch_core.specs.SoundDrafts.{IsSound, AreSound}
 use Rattle.sch_core.proofs.numbered.Groups.{AreLambdas, count_group, assigns_group, holds_group, group_lambdas}
 use Rattle.sch_core.proofs.numbered.Scopes.{assigns_kept, assigns_each_kept}
@@ -71,4 +72,4 @@ module _ (own globals symbols : List (List ℕ)) where
 
     pub shaped_each : (es : Drafts) (vs : VariableNames) (m s l : ℕ) → AreSound m es → over_each true (λ a b. a && b) shaped_here (numbered_each own globals symbols vs es s l) ≡ true
     shaped_each no_drafts vs m s l h = refl
-    shaped_each (and_draft e es) vs m s l h = and_from _ _ (shaped e _ m s l h.0) (shaped_each es (others_of vs) m _ _ h.1)
+    shaped_each (and_draft e es) vs m s l h = and_from _ _ (shaped e _ m s l h.0) (shaped_each es (rest_of vs) m _ _ h.1)

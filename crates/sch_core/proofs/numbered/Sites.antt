@@ -9,7 +9,8 @@ use Rattle.sch_names.specs.Scope.{VariableNames}
 use Rattle.sch_sketch.specs.Draft.{Draft, Drafts, constant, symbol, literal, local, global, set_local, set_global, define, branch, sequence, bind, letrec, lambda, call, operation, no_drafts, and_draft, count}
 use Rattle.sch_link_tables.specs.Assigned.{is_group}
 use Rattle.sch_link_tables.specs.Sites.{unless_group, widths, widths_of_each}
-use Rattle.sch_link_tables.specs.Numbered.{grouped, numbered, numbered_each, others_of}
+use Rattle.sch_word.specs.values.Options.{rest_of}
+use Rattle.sch_link_tables.specs.Numbered.{grouped, numbered, numbered_each}
 use Rattle.sch_core.specs.SoundDrafts.{IsSound, AreSound}
 use Rattle.sch_core.proofs.numbered.Groups.{AreLambdas, sites_group, group_lambdas}
 
@@ -63,4 +64,4 @@ module _ (own globals symbols : List (List ℕ)) where
 
     pub sites_each : (es : Drafts) (vs : VariableNames) (m s l : ℕ) → AreSound m es → over_each [] (λ a b. a ++ b) site_here (numbered_each own globals symbols vs es s l) ≡ order.numbered s (widths_of_each es)
     sites_each no_drafts vs m s l h = refl
-    sites_each (and_draft e es) vs m s l h = joined s (widths e) (widths_of_each es) _ _ (sites e _ m s l h.0) (sites_each es (others_of vs) m _ _ h.1)
+    sites_each (and_draft e es) vs m s l h = joined s (widths e) (widths_of_each es) _ _ (sites e _ m s l h.0) (sites_each es (rest_of vs) m _ _ h.1)

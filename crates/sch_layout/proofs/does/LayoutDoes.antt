@@ -23,7 +23,8 @@ use Rattle.sch_control.specs.declared.operation.Application.{Application}
 use Rattle.sch_control.specs.declared.operation.Member.{Member}
 use Rattle.sch_control.specs.declared.operation.Source.{Source}
 use Rattle.sch_control.specs.Meaning as control
-use Rattle.sch_control.specs.Meaning.{World, Result, Environment, Then, Callee, marked, with_value, on_outcome, on_return, either, put, put_if, put_each, put_inside, binds, heads, with_region, save_each, on_ending, mark_each, mark_bound, mark_members, call_in, evaluate}
+use Rattle.sch_word.specs.values.Options.{when_some}
+use Rattle.sch_control.specs.Meaning.{World, Result, Environment, Then, Callee, marked, on_outcome, on_return, put, put_if, put_each, put_inside, binds, heads, with_region, save_each, on_ending, mark_each, mark_bound, mark_members, call_in, evaluate}
 use Rattle.sch_control.specs.Operations.{Ending, operand_values, operate, member_bytes, members_made, with_procedures}
 use Rattle.sch_word.specs.runs.Procedures.{Procedure}
 use Rattle.sch_control.specs.AtomsAndSites.{operation_atoms, application_atoms, member_atoms}
@@ -175,12 +176,12 @@ module _ (plan : Plan) (homes : Homes plan) (callee callee' : Callee) (follow : 
   -- what is done with a value in the accumulator: what follows, or the label of a test that fails is sought
   abbrev go_on : Option ℕ → Value → List Instruction → Frame → World → Result
   go_on None v rest f w = run rest None f w
-  go_on (Some l) v rest f w = either (is_true v) (run rest None f w) (run rest (Some l) f w)
+  go_on (Some l) v rest f w = cond (is_true v) (run rest None f w) (run rest (Some l) f w)
 
   leaving : (test : Option ℕ) (rest : List Instruction) (f : Frame) (w : World) (v : Value) → f.accumulator ≡ Is v
       → run (leave test rest) None f w ≡ go_on test v rest f w
   leaving None rest f w v e = refl
-  leaving (Some l) rest f w v e = ap (λ c. with_value (value_in c) (λ v. either (is_true v) (run rest None f w) (run rest (Some l) f w))) e
+  leaving (Some l) rest f w v e = ap (λ c. when_some (value_in c) (λ v. cond (is_true v) (run rest None f w) (run rest (Some l) f w))) e
 
   -- what follows an expression is followed by what stands behind its layout
   abbrev Next : (inside : ℕ → Bool) → Later → Option ℕ → List Instruction → Then → Type 0
@@ -206,31 +207,31 @@ module _ (plan : Plan) (homes : Homes plan) (callee callee' : Callee) (follow : 
     by : (test : Option ℕ) → Below test n → go_on test v (Jump (suc n) ∷ (Label n ∷ lay plan c inside m test (Label (suc n) ∷ rest))) f w ≡ go_on test v rest f w
     by None b = here None
     by (Some l) b =
-        ap (λ t. either (is_true v) t (run (Jump (suc n) ∷ (Label n ∷ lay plan c inside m (Some l) (Label (suc n) ∷ rest))) (Some l) f w)) (here (Some l))
-        ∙ ap (λ t. either (is_true v) (run rest None f w) t) (there (Some l) l b)
+        ap (λ t. cond (is_true v) t (run (Jump (suc n) ∷ (Label n ∷ lay plan c inside m (Some l) (Label (suc n) ∷ rest))) (Some l) f w)) (here (Some l))
+        ∙ ap (λ t. cond (is_true v) (run rest None f w) t) (there (Some l) l b)
 
   ended : (n : ℕ) (test : Option ℕ) (rest : List Instruction) (v : Value) (f : Frame) (w : World) → Below test n
       → go_on test v (Label (suc n) ∷ rest) f w ≡ go_on test v rest f w
   ended n None rest v f w b = refl
-  ended n (Some l) rest v f w b = ap (λ t. either (is_true v) (run rest None f w) t) (past_label callee' depth plan (suc n) l rest f w (omega (arith, b)))
+  ended n (Some l) rest v f w b = ap (λ t. cond (is_true v) (run rest None f w) t) (past_label callee' depth plan (suc n) l rest f w (omega (arith, b)))
 
   same_return : {kept : ℕ → Type 0} (environment saved : Environment) (rest : List Instruction) (f : Frame) (s : State Procedure) (marks marks' : List MarkKind) (v : Value) → Agrees plan (λ x. x ≡ 0) kept environment saved f.places → f.accumulator ≡ Is v
-      → EndsAs (with_value (environment 0) (λ link. Some (gives v (marked mark.Return (world s marks))))) (run (Mark mark.Return ∷ (Return ∷ rest)) None f (world s marks'))
+      → EndsAs (when_some (environment 0) (λ link. Some (gives v (marked mark.Return (world s marks))))) (run (Mark mark.Return ∷ (Return ∷ rest)) None f (world s marks'))
   same_return environment saved rest f s marks marks' v r e = by (environment 0) refl where
     by : (o : Option Value) → environment 0 ≡ o
-        → EndsAs (with_value o (λ link. Some (gives v (marked mark.Return (world s marks)))))
-        (if_link (f.places link_place) (with_value (value_in f.accumulator) (λ v. Some (gives v (marked mark.Return (world s marks'))))))
+        → EndsAs (when_some o (λ link. Some (gives v (marked mark.Return (world s marks)))))
+        (if_link (f.places link_place) (when_some (value_in f.accumulator) (λ v. Some (gives v (marked mark.Return (world s marks'))))))
     by None i = tt
     by (Some u) i =
-        ap (λ c. unmarked (if_link c (with_value (value_in f.accumulator) (λ v. Some (gives v (marked mark.Return (world s marks'))))))) (ap f.places (sym homes.link) ∙ r.here 0 u refl i)
-        ∙ ap (λ c. unmarked (with_value (value_in c) (λ v. Some (gives v (marked mark.Return (world s marks')))))) e
+        ap (λ c. unmarked (if_link c (when_some (value_in f.accumulator) (λ v. Some (gives v (marked mark.Return (world s marks'))))))) (ap f.places (sym homes.link) ∙ r.here 0 u refl i)
+        ∙ ap (λ c. unmarked (when_some (value_in c) (λ v. Some (gives v (marked mark.Return (world s marks')))))) e
 
   -- a group of procedures, with its charges and how many it has
   abbrev group : List (Member Place) → (spills : List ℕ) → (bytes : List ℕ) → (count : ℕ) → List Instruction → Frame → State Procedure → List MarkKind → Result
   group members spills bytes count rest f s marks =
       on_outcome marks (in_store (charge_each bytes) s)
       (λ _ w. let inner = with_members f members (procedures_from (length w.state.procedures) count) in
-      with_value (with_procedures w.state (members_made (held inner) w.state members)) (λ s. run rest None inner (record { state = s; marks = w.marks ++ map mark.Spill spills })))
+      when_some (with_procedures w.state (members_made (held inner) w.state members)) (λ s. run rest None inner (record { state = s; marks = w.marks ++ map mark.Spill spills })))
 
   -- ## Saves and restores
 
@@ -357,7 +358,7 @@ module _ (plan : Plan) (homes : Homes plan) (callee callee' : Callee) (follow : 
       → EndsAs (does (call a restores) inside environment saved (world s marks) next) (run (lay plan (call a restores) inside n test rest) None f (world s marks'))
   same_call a restores inside L u p n test rest environment saved f s marks marks' next r h = by (operand_values environment s.store (a.operator ∷ a.operands)) refl where
     by : (ys : Option (List Value)) → operand_values environment s.store (a.operator ∷ a.operands) ≡ ys
-        → EndsAs (with_value ys
+        → EndsAs (when_some ys
         (λ vs. on_return (call_in callee a.spread false depth vs (marked (mark.Call a.site) (world s marks)))
         (λ v w. next v (control.after_call (unmarked_reading plan).keeps restores environment saved) saved (mark_each (unmarked_reading plan) mark.Restore restores w))))
         (run (lay plan (call a restores) inside n test rest) None f (world s marks'))
@@ -367,7 +368,7 @@ module _ (plan : Plan) (homes : Homes plan) (callee callee' : Callee) (follow : 
         brings_do plan callee' depth s false (FreeInCall plan (λ x. Perhaps (L x))) a p.0 (λ x. Mentions x (application_atoms a) ⊎ Perhaps (L x)) environment saved f r u (λ x l. inl l) vs values
         (Mark (mark.Call a.site) ∷ (Call a.spread (length a.operands) ∷ loaded plan restores (leave test rest))) _
         (λ g marks' there kept. onto_end _ _ _
-        (ap (λ o. with_value o (λ vs. on_return (call_in callee' a.spread false depth vs (world s (marks' ++ mark.Call a.site ∷ [])))
+        (ap (λ o. when_some o (λ vs. on_return (call_in callee' a.spread false depth vs (world s (marks' ++ mark.Call a.site ∷ [])))
         (λ v w. run (loaded plan restores (leave test rest)) None (after_call g v) w)))
         (call_parts plan.limit vs (length a.operands) g (values_length environment s.store (a.operator ∷ a.operands) vs values) there))
         (on_return_ends (call_in callee a.spread false depth vs (world s (marks ++ mark.Call a.site ∷ []))) (call_in callee' a.spread false depth vs (world s (marks' ++ mark.Call a.site ∷ []))) _ _
@@ -382,7 +383,7 @@ module _ (plan : Plan) (homes : Homes plan) (callee callee' : Callee) (follow : 
       → EndsAs (does (tail_call a) inside environment saved (world s marks) next) (run (lay plan (tail_call a) inside n test rest) None f (world s marks'))
   same_tail a inside u b few n test rest environment saved f s marks marks' next r = by (environment 0) refl (operand_values environment s.store (a.operator ∷ a.operands)) refl where
     by : (o : Option Value) → environment 0 ≡ o → (ys : Option (List Value)) → operand_values environment s.store (a.operator ∷ a.operands) ≡ ys
-        → EndsAs (with_value o (λ link. with_value ys (λ vs. call_in callee a.spread true depth vs (marked (mark.Tail a.site) (world s marks)))))
+        → EndsAs (when_some o (λ link. when_some ys (λ vs. call_in callee a.spread true depth vs (marked (mark.Tail a.site) (world s marks)))))
         (run (lay plan (tail_call a) inside n test rest) None f (world s marks'))
     by None eo ys e = tt
     by (Some back) eo None e = tt
@@ -391,9 +392,9 @@ module _ (plan : Plan) (homes : Homes plan) (callee callee' : Callee) (follow : 
         brings_do plan callee' depth s true (FreeInTail plan) a b (λ x. (x ≡ 0) ⊎ Mentions x (application_atoms a)) environment saved f r u (λ x l. inr l) vs values
         (Mark (mark.Tail a.site) ∷ (Tail a.spread (length a.operands) ∷ rest)) _
         (λ g marks' there kept. onto_end _ (call_in callee' a.spread true depth vs (world s (marks' ++ mark.Tail a.site ∷ []))) _
-        (ap (λ c. if_link c (with_value (parts g.places (λ j. g.places (Slot j)) (length a.operands)) (λ vs. call_in callee' a.spread true depth vs (world s (marks' ++ mark.Tail a.site ∷ [])))))
+        (ap (λ c. if_link c (when_some (parts g.places (λ j. g.places (Slot j)) (length a.operands)) (λ vs. call_in callee' a.spread true depth vs (world s (marks' ++ mark.Tail a.site ∷ [])))))
         (kept link_place (tail_leaves plan a b) ∙ (ap f.places (sym homes.link) ∙ r.here 0 back (inl refl) eo))
-        ∙ ap (λ o. with_value o (λ vs. call_in callee' a.spread true depth vs (world s (marks' ++ mark.Tail a.site ∷ []))))
+        ∙ ap (λ o. when_some o (λ vs. call_in callee' a.spread true depth vs (world s (marks' ++ mark.Tail a.site ∷ []))))
         (tail_parts plan.limit vs (length a.operands) g (values_length environment s.store (a.operator ∷ a.operands) vs values) few there))
         (call_in_ends callee callee' follow a.spread true depth vs s (marks ++ mark.Tail a.site ∷ []) (marks' ++ mark.Tail a.site ∷ []))) marks'
 

@@ -2,7 +2,7 @@
 use Rattle.std.proofs.Common.{◌≡◌, ℕ, suc, ◌+◌, ◌*◌, ◌≤◌, List, [], ◌∷◌, length, Option, Some, None, Bool, true, false, cond, refl, ap, arith}
 use Rattle.std.specs.Prelude.{filter}
 use Rattle.std.proofs.lemmas.List.{length-map}
-use Rattle.std.specs.Option.{unwrap_or}
+use Rattle.std.specs.Option.{unwrap_or, option_len}
 use Rattle.sch_word.specs.declared.mark.MarkKind.{MarkKind}
 use Rattle.sch_word.specs.declared.mark.MarkKind.TheVariants as mark
 use Rattle.sch_word.specs.declared.place.Place.{Place}
@@ -28,15 +28,11 @@ use Rattle.sch_layout.proofs.EntryCopies.{entering_less, spill_has}
 use Rattle.sch_layout.proofs.layouts.LayoutSize.{members_kept, operation_kept}
 
 -- a value that is tested is followed by the test
-abbrev tested : Option ℕ → ℕ
-tested None = 0
-tested (Some l) = 1
-
-tested_once : (test : Option ℕ) → tested test ≤ 1
+tested_once : (test : Option ℕ) → option_len test ≤ 1
 tested_once None = omega arith
 tested_once (Some l) = omega arith
 
-leave_done : (test : Option ℕ) (rest : List Instruction) → work_in (leave test rest) ≡ tested test + work_in rest
+leave_done : (test : Option ℕ) (rest : List Instruction) → work_in (leave test rest) ≡ option_len test + work_in rest
 leave_done None rest = omega arith
 leave_done (Some l) rest = omega arith
 
@@ -96,7 +92,7 @@ module _ (plan : Plan) where
   stands_within (Some most) saved h = h
 
   lay_done : (head : Option ℕ) (e : Expression) (inside : ℕ → Bool) (n : ℕ) (test : Option ℕ) (rest : List Instruction) → Few plan head e
-      → work_in (lay plan e inside n test rest) ≤ expression_done e + tested test + work_in rest
+      → work_in (lay plan e inside n test rest) ≤ expression_done e + option_len test + work_in rest
   lay_done head (perform o) inside n test rest f = let h = leave_done test rest in let k = operation_kept plan.place o in omega (arith, h, k)
   lay_done head (bind x a b) inside n test rest f =
       let after = lay plan b inside (n + labels a) test rest in

@@ -36,7 +36,7 @@ use Rattle.sch_control.specs.flow.Live.{named, AfterValue}
 use Rattle.sch_control.specs.flow.Paths.{Event, Binds, References, Saves, Calls, Tails, Returns, Ends, binding, grouping, IsPath}
 use Rattle.sch_control.proofs.Results.{perhaps}
 use Rattle.sch_control.proofs.Environments.{value_given}
-use Rattle.sch_word.specs.values.Options.{option_list}
+use Rattle.std.specs.Option.{option_to_list}
 use Rattle.sch_layout.specs.PathMarks.{left_by, move_marks, restore_marks, marks_of, path_marks, arrival_marks, entry_marks}
 use Rattle.sch_layout.proofs.does.LabelsPassed.{Below, below_up, sought_writing}
 
@@ -152,13 +152,13 @@ module _ (plan : Plan) where
   Leaving these rest marks = (between : List MarkKind) × ((marks ≡ these ++ between) × Onto rest None between)
 
   under_done : (m : Option MarkKind) (i : Instruction) (rest : List Instruction) (f : Frame) (s : State Procedure) (marks : List MarkKind) → way (under m i rest) None f s marks
-      → (between : List MarkKind) × ((marks ≡ option_list m ++ between) × way (i ∷ rest) None f s between)
+      → (between : List MarkKind) × ((marks ≡ option_to_list m ++ between) × way (i ∷ rest) None f s between)
   under_done None i rest f s marks w = (marks, (refl, w))
   under_done (Some m) i rest f s [] w = absurd w
   under_done (Some m) i rest f s (k ∷ marks) w = (marks, (ap (λ z. z ∷ marks) w.0, w.1))
 
   writing_done : (words : ℕ) (to : Place) (m : Option MarkKind) (rest : List Instruction) (f : Frame) (s : State Procedure) (marks : List MarkKind) → way (under m (writing words to) rest) None f s marks
-      → Leaving (option_list m) rest marks
+      → Leaving (option_to_list m) rest marks
   writing_done words to m rest f s marks w = let on = under_done m (writing words to) rest f s marks w in (on.0, (on.1.0, by to on.0 on.1.1)) where
     by : (to : Place) (marks : List MarkKind) → way (writing words to ∷ rest) None f s marks → Onto rest None marks
     by (Reg r) marks w = (_, (s, w))
@@ -171,7 +171,7 @@ module _ (plan : Plan) where
       → way (move_into words to m o rest) None f s marks → Leaving (left_by to m o) rest marks
   move_done words to m (operand.Atom (Variable p)) rest f s marks w = by (same_place to p) (is_direct words to p) w where
     by : (t d : Bool) → way (cond t rest (cond d (under m (Copy to p) rest) (Do (operation.Operand (operand.Atom (Variable p))) ∷ under m (writing words to) rest))) None f s marks
-        → Leaving (cond t [] (option_list m)) rest marks
+        → Leaving (cond t [] (option_to_list m)) rest marks
     by true d w = (marks, (refl, (f, (s, w))))
     by false true w = let on = under_done m (Copy to p) rest f s marks w in (on.0, (on.1.0, (_, (s, on.1.1))))
     by false false w = writing_done words to m rest _ _ marks w.1.1.1
@@ -297,13 +297,13 @@ module _ (plan : Plan) where
   bound_done x inside rest f s marks w =
       let first = under_done (spill plan x) (Store (plan.place x)) (stored plan (filter inside (x ∷ [])) rest) f s marks w in
       let second = stored_done (filter inside (x ∷ [])) rest _ s first.0 first.1.1 in
-      (second.0, (both (option_list (spill plan x)) (path_marks plan (map Saves (filter inside (x ∷ [])))) marks first.0 second.0 first.1.0 second.1.0, second.1.1))
+      (second.0, (both (option_to_list (spill plan x)) (path_marks plan (map Saves (filter inside (x ∷ [])))) marks first.0 second.0 first.1.0 second.1.0, second.1.1))
 
   spilled_marks : (xs : List ℕ) → map mark.Spill (filter (λ x. is_slot (plan.place x)) xs) ≡ path_marks plan (map Binds xs)
   spilled_marks [] = refl
   spilled_marks (x ∷ xs) = by (is_slot (plan.place x)) (spilled_marks xs) where
     by : (t : Bool) → map mark.Spill (filter (λ x. is_slot (plan.place x)) xs) ≡ path_marks plan (map Binds xs)
-        → map mark.Spill (cond t (x ∷ filter (λ x. is_slot (plan.place x)) xs) (filter (λ x. is_slot (plan.place x)) xs)) ≡ option_list (cond t (Some (mark.Spill x)) None) ++ path_marks plan (map Binds xs)
+        → map mark.Spill (cond t (x ∷ filter (λ x. is_slot (plan.place x)) xs) (filter (λ x. is_slot (plan.place x)) xs)) ≡ option_to_list (cond t (Some (mark.Spill x)) None) ++ path_marks plan (map Binds xs)
     by true e = ap (λ l. mark.Spill x ∷ l) e
     by false e = e
 
@@ -586,9 +586,9 @@ module _ (plan : Plan) where
   arrivals_done (suc count) from rest f s marks w =
       let first = one (same_place (plan.place from) (variable_arrival from)) w in
       let second = arrivals_done count (suc from) rest first.1.1.0 first.1.1.1.0 first.0 first.1.1.1.1 in
-      (second.0, (both (cond (same_place (plan.place from) (variable_arrival from)) [] (option_list (spill plan from))) (arrival_marks plan (suc from) count) marks first.0 second.0 first.1.0 second.1.0, second.1.1)) where
+      (second.0, (both (cond (same_place (plan.place from) (variable_arrival from)) [] (option_to_list (spill plan from))) (arrival_marks plan (suc from) count) marks first.0 second.0 first.1.0 second.1.0, second.1.1)) where
         one : (t : Bool) → way (cond t (arrivals plan (suc from) count rest) (under (spill plan from) (Copy (plan.place from) (variable_arrival from)) (arrivals plan (suc from) count rest))) None f s marks
-            → Leaving (cond t [] (option_list (spill plan from))) (arrivals plan (suc from) count rest) marks
+            → Leaving (cond t [] (option_to_list (spill plan from))) (arrivals plan (suc from) count rest) marks
         one true w = (marks, (refl, (f, (s, w))))
         one false w = let on = under_done (spill plan from) (Copy (plan.place from) (variable_arrival from)) (arrivals plan (suc from) count rest) f s marks w in (on.0, (on.1.0, (_, (s, on.1.1))))
 

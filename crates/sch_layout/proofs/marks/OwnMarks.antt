@@ -17,7 +17,7 @@ use Rattle.sch_layout.specs.Moves.{Move}
 use Rattle.sch_word.specs.runs.Activations.{is_call}
 use Rattle.sch_layout.specs.OwnMarks.{has_call, SavesThenCalls, RestoresAfterCalls, OwnMarksStand}
 use Rattle.sch_control.specs.flow.Paths.{Event, Binds, References, Saves, Calls, Tails, Returns, Ends, SavesCalled, some_call}
-use Rattle.sch_word.specs.values.Options.{option_list}
+use Rattle.std.specs.Option.{option_to_list}
 use Rattle.sch_layout.specs.PathMarks.{left_by, move_marks, restore_marks, path_marks, arrival_marks, entry_marks}
 use Rattle.sch_layout.proofs.marks.LaidWays.{ways_are_paths}
 
@@ -83,14 +83,14 @@ call_behind (m ∷ ms) marks h = or_right (is_call m) _ (call_behind ms marks h)
 moves_quiet : (moves : List Move) → Quiet (move_marks moves)
 moves_quiet [] = refl
 moves_quiet (m ∷ moves) = quiet_both (left_by m.to (move_mark m) m.from) (move_marks moves) (left m.temp m.to m.from) (moves_quiet moves) where
-  one : (temp : Bool) (to : Place) (s : Bool) → Quiet (option_list (cond temp (Some mark.Temp) (cond s (Some mark.Argument) None)))
+  one : (temp : Bool) (to : Place) (s : Bool) → Quiet (option_to_list (cond temp (Some mark.Temp) (cond s (Some mark.Argument) None)))
   one true to s = refl
   one false to true = refl
   one false to false = refl
 
   left : (temp : Bool) (to : Place) (o : Operand Place) → Quiet (left_by to (cond temp (Some mark.Temp) (cond (is_slot to) (Some mark.Argument) None)) o)
   left temp to (operand.Atom (Variable p)) = by (same_place to p) where
-    by : (t : Bool) → Quiet (cond t [] (option_list (cond temp (Some mark.Temp) (cond (is_slot to) (Some mark.Argument) None))))
+    by : (t : Bool) → Quiet (cond t [] (option_to_list (cond temp (Some mark.Temp) (cond (is_slot to) (Some mark.Argument) None))))
     by true = refl
     by false = one temp to (is_slot to)
   left temp to (operand.Atom (Constant c)) = one temp to (is_slot to)
@@ -98,9 +98,9 @@ moves_quiet (m ∷ moves) = quiet_both (left_by m.to (move_mark m) m.from) (move
   left temp to (operand.Read site which atoms) = one temp to (is_slot to)
 
 module _ (plan : Plan) where
-  spill_quiet : (x : ℕ) → Quiet (option_list (spill plan x))
+  spill_quiet : (x : ℕ) → Quiet (option_to_list (spill plan x))
   spill_quiet x = by (is_slot (plan.place x)) where
-    by : (t : Bool) → Quiet (option_list (cond t (Some (mark.Spill x)) None))
+    by : (t : Bool) → Quiet (option_to_list (cond t (Some (mark.Spill x)) None))
     by true = refl
     by false = refl
 
@@ -122,7 +122,7 @@ module _ (plan : Plan) where
 
   path_restores : (es : List Event) → RestoresAfterCalls false (path_marks plan es)
   path_restores [] = tt
-  path_restores (Binds x ∷ es) = quiet_restores (option_list (spill plan x)) (path_marks plan es) (spill_quiet x) (path_restores es)
+  path_restores (Binds x ∷ es) = quiet_restores (option_to_list (spill plan x)) (path_marks plan es) (spill_quiet x) (path_restores es)
   path_restores (References x ∷ es) = path_restores es
   path_restores (Saves x ∷ es) = by (is_slot (plan.place x)) (path_restores es) where
     by : (t : Bool) → RestoresAfterCalls false (path_marks plan es) → RestoresAfterCalls false (cond t [] (mark.Save x ∷ []) ++ path_marks plan es)
@@ -141,7 +141,7 @@ module _ (plan : Plan) where
 
   path_calls : (es : List Event) → some_call es ≡ true → has_call (path_marks plan es) ≡ true
   path_calls [] c = absurd (cc)
-  path_calls (Binds x ∷ es) c = call_behind (option_list (spill plan x)) (path_marks plan es) (path_calls es c)
+  path_calls (Binds x ∷ es) c = call_behind (option_to_list (spill plan x)) (path_marks plan es) (path_calls es c)
   path_calls (References x ∷ es) c = path_calls es c
   path_calls (Saves x ∷ es) c = call_behind (cond (is_slot (plan.place x)) [] (mark.Save x ∷ [])) (path_marks plan es) (path_calls es c)
   path_calls (Calls a restores ∷ es) c =
@@ -152,7 +152,7 @@ module _ (plan : Plan) where
 
   path_saves : (es : List Event) → SavesCalled es → SavesThenCalls (path_marks plan es)
   path_saves [] s = tt
-  path_saves (Binds x ∷ es) s = quiet_saves (option_list (spill plan x)) (path_marks plan es) (spill_quiet x) (path_saves es s)
+  path_saves (Binds x ∷ es) s = quiet_saves (option_to_list (spill plan x)) (path_marks plan es) (spill_quiet x) (path_saves es s)
   path_saves (References x ∷ es) s = path_saves es s
   path_saves (Saves x ∷ es) s = by (is_slot (plan.place x)) (path_calls es s.0) (path_saves es s.1) where
     by : (t : Bool) → has_call (path_marks plan es) ≡ true → SavesThenCalls (path_marks plan es) → SavesThenCalls (cond t [] (mark.Save x ∷ []) ++ path_marks plan es)
@@ -171,8 +171,8 @@ module _ (plan : Plan) where
 
   arrivals_quiet : (count from : ℕ) → Quiet (arrival_marks plan from count)
   arrivals_quiet zero from = refl
-  arrivals_quiet (suc count) from = quiet_both (cond (same_place (plan.place from) (variable_arrival from)) [] (option_list (spill plan from))) _ (by (same_place (plan.place from) (variable_arrival from))) (arrivals_quiet count (suc from)) where
-    by : (t : Bool) → Quiet (cond t [] (option_list (spill plan from)))
+  arrivals_quiet (suc count) from = quiet_both (cond (same_place (plan.place from) (variable_arrival from)) [] (option_to_list (spill plan from))) _ (by (same_place (plan.place from) (variable_arrival from))) (arrivals_quiet count (suc from)) where
+    by : (t : Bool) → Quiet (cond t [] (option_to_list (spill plan from)))
     by true = refl
     by false = spill_quiet from
 

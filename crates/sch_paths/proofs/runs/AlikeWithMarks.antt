@@ -14,7 +14,8 @@ use Rattle.sch_word.specs.declared.mark.MarkKind.TheVariants as mark
 use Rattle.sch_word.proofs.Lengths.{procedures_length}
 use Rattle.sch_control.specs.declared.operation.Member.{Member}
 use Rattle.sch_control.specs.AtomsAndSites.{member_atoms}
-use Rattle.sch_control.specs.Meaning.{World, Result, Environment, Then, Callee, Reading, plain, marked, marked_each, with_value, on_outcome, on_ending, on_return, on_checked, either, put, put_if, put_each, put_inside, after_call, binds, heads, no_region, nothing, with_region, save_each, mark_each, mark_bound, entered, call_in, falls_off, evaluate, do_body}
+use Rattle.sch_word.specs.values.Options.{when_some}
+use Rattle.sch_control.specs.Meaning.{World, Result, Environment, Then, Callee, Reading, plain, marked, marked_each, on_outcome, on_ending, on_return, on_checked, put, put_if, put_each, put_inside, after_call, binds, heads, no_region, nothing, with_region, save_each, mark_each, mark_bound, entered, call_in, falls_off, evaluate, do_body}
 use Rattle.sch_control.specs.Operations.{Ending, part_values, operate, member_bytes, with_procedures}
 use Rattle.sch_word.specs.runs.Procedures.{Procedure}
 use Rattle.sch_control.specs.Tree.{Expression, perform, bind, sequence, branch, fix, call, tail_call, return, end, save}
@@ -30,9 +31,9 @@ use Rattle.sch_control.proofs.Environments.{after_value}
 
 -- ## Results that are alike
 
-value_alike : {A : Type 0} (o o' : Option A) (k k' : A → Result) → o' ≡ o → ((a : A) → Alike (k a) (k' a)) → Alike (with_value o k) (with_value o' k')
+value_alike : {A : Type 0} (o o' : Option A) (k k' : A → Result) → o' ≡ o → ((a : A) → Alike (k a) (k' a)) → Alike (when_some o k) (when_some o' k')
 value_alike {A = A} o o' k k' e f = rw e (by o) where
-  by : (o : Option A) → Alike (with_value o k) (with_value o k')
+  by : (o : Option A) → Alike (when_some o k) (when_some o k')
   by None = tt
   by (Some a) = f a
 
@@ -83,7 +84,7 @@ checked_alike {V = V} c c' w w' k k' e q f = rw e (by c) where
   by exhausted = q
   by unreachable = (refl, q)
 
-either_alike : (t : Bool) (x y x' y' : Result) → (t ≡ true → Alike x x') → (t ≡ false → Alike y y') → Alike (either t x y) (either t x' y')
+either_alike : (t : Bool) (x y x' y' : Result) → (t ≡ true → Alike x x') → (t ≡ false → Alike y y') → Alike (cond t x y) (cond t x' y')
 either_alike true x y x' y' f g = f refl
 either_alike false x y x' y' f g = g refl
 

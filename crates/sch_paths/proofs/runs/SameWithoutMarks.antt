@@ -11,7 +11,8 @@ use Rattle.sch_word.specs.declared.mark.MarkKind.TheVariants as mark
 use Rattle.sch_word.proofs.Lengths.{procedures_length}
 use Rattle.sch_control.specs.declared.operation.Member.{Member}
 use Rattle.sch_control.specs.AtomsAndSites.{member_atoms}
-use Rattle.sch_control.specs.Meaning.{World, Result, Environment, Then, Callee, plain, marked, marked_if, with_value, on_outcome, on_ending, on_return, either, put, put_if, put_each, put_inside, after_call, heads, no_region, nothing, with_region, save_each, mark_each, mark_bound, mark_members, call_in, falls_off, evaluate, do_body}
+use Rattle.sch_word.specs.values.Options.{when_some}
+use Rattle.sch_control.specs.Meaning.{World, Result, Environment, Then, Callee, plain, marked, marked_if, on_outcome, on_ending, on_return, put, put_if, put_each, put_inside, after_call, heads, no_region, nothing, with_region, save_each, mark_each, mark_bound, mark_members, call_in, falls_off, evaluate, do_body}
 use Rattle.sch_control.specs.Operations.{Ending, part_values, operate, member_bytes, with_procedures}
 use Rattle.sch_word.specs.runs.Procedures.{Procedure}
 use Rattle.sch_control.specs.Tree.{Expression, perform, bind, sequence, branch, fix, call, tail_call, return, end, save}
@@ -27,9 +28,9 @@ use Rattle.sch_paths.proofs.runs.AlikeWithMarks.{Holds, weaker, found, after_bou
 
 -- ## Results that are the same
 
-value_equal : {A : Type 0} (o o' : Option A) (k k' : A → Result) → o' ≡ o → ((a : A) → k a ≡ k' a) → with_value o k ≡ with_value o' k'
+value_equal : {A : Type 0} (o o' : Option A) (k k' : A → Result) → o' ≡ o → ((a : A) → k a ≡ k' a) → when_some o k ≡ when_some o' k'
 value_equal {A = A} o o' k k' e f = rw e (by o) where
-  by : (o : Option A) → with_value o k ≡ with_value o k'
+  by : (o : Option A) → when_some o k ≡ when_some o k'
   by None = refl
   by (Some a) = f a
 
@@ -54,7 +55,7 @@ return_equal (Some (gives v w)) k k' f = f v w
 return_equal (Some (stops why w)) k k' f = refl
 return_equal (Some (spent w)) k k' f = refl
 
-either_equal : (t : Bool) (x y x' y' : Result) → (t ≡ true → x ≡ x') → (t ≡ false → y ≡ y') → either t x y ≡ either t x' y'
+either_equal : (t : Bool) (x y x' y' : Result) → (t ≡ true → x ≡ x') → (t ≡ false → y ≡ y') → cond t x y ≡ cond t x' y'
 either_equal true x y x' y' f g = f refl
 either_equal false x y x' y' f g = g refl
 

@@ -7,7 +7,8 @@ use Rattle.std.specs.List.{list_all}
 use Rattle.std.proofs.lemmas.Bool.{and_parts, eqb-true, leb-true, ltb-true}
 use Rattle.sch_word.specs.values.Values.{Value, is_true}
 use Rattle.sch_word.specs.runs.Computation.{gives}
-use Rattle.sch_control.specs.Meaning.{World, Result, Callee, with_value, either, marked}
+use Rattle.sch_word.specs.values.Options.{when_some}
+use Rattle.sch_control.specs.Meaning.{World, Result, Callee, marked}
 use Rattle.sch_frames.specs.declared.instruction.Instruction.{Instruction}
 use Rattle.sch_frames.specs.declared.instruction.Instruction.TheVariants.{Do, Store, Copy, Pass, Fix, Call}
 use Rattle.sch_frames.specs.declared.instruction.Instruction.TheVariants.{Tail, Return, End, IfFalse, Jump, Label}
@@ -178,7 +179,7 @@ module _ (plan : Plan) (body_steps : ℕ) (laid : Laid plan body_steps) (act : A
       first = goes setting x y (CmpNumber (Reg 0) (pos 6)) h.0 waiting h.1 refl
 
       jumped : (v : Value) → value_in f.accumulator ≡ Some v → (b : Bool) → is_true v ≡ b
-          → Owed parts before w x (250 + c) (either b (k None f w) (k (Some l) f w))
+          → Owed parts before w x (250 + c) (cond b (k None f w) (k (Some l) f w))
       jumped v q b t = arm b (compared_e (x.registers 0) 6 (fits parts v _ hv) (omega arith)
           ∙ ap Some (false_tested parts v _ hv ∙ ap not t))
         where
@@ -186,7 +187,7 @@ module _ (plan : Plan) (body_steps : ℕ) (laid : Laid plan body_steps) (act : A
           hv = held_value act.back parts f.accumulator (x.registers 0) v a q
 
           arm : (b : Bool) → condition y.flags E ≡ Some (not b)
-              → Owed parts before w x (250 + c) (either b (k None f w) (k (Some l) f w))
+              → Owed parts before w x (250 + c) (cond b (k None f w) (k (Some l) f w))
           arm true t =
               go_on parts before waiting w x (record y { place = y.place + h.2.0 }) 2 2 c (250 + c) _
               (leads_on setting.marks first (branches setting y E (base + l) rest [] false h.2 t))
@@ -202,7 +203,7 @@ module _ (plan : Plan) (body_steps : ℕ) (laid : Laid plan body_steps) (act : A
               (none_waits w.marks before waiting m))
 
       by : (o : Option Value) → value_in f.accumulator ≡ o
-          → Owed parts before w x (250 + c) (with_value o (λ v. either (is_true v) (k None f w) (k (Some l) f w)))
+          → Owed parts before w x (250 + c) (when_some o (λ v. cond (is_true v) (k None f w) (k (Some l) f w)))
       by None q = tt
       by (Some v) q = jumped v q (is_true v) refl
   instruction_sim n (Jump l) k c rest K parts before waiting f w x e e' h p g a m =
@@ -249,13 +250,13 @@ module _ (plan : Plan) (body_steps : ℕ) (laid : Laid plan body_steps) (act : A
       (p.register 15 refl)
     where
       by : (q : Cell) → Holds act.back parts q (x.registers 15)
-          → Owed parts before w x (250 + c) (if_link q (with_value (value_in f.accumulator) (λ v. Some (gives v w))))
+          → Owed parts before w x (250 + c) (if_link q (when_some (value_in f.accumulator) (λ v. Some (gives v w))))
       by Junk hq = tt
       by (Is v) hq = tt
       by Link hq = of (value_in f.accumulator) refl
         where
           of : (o : Option Value) → value_in f.accumulator ≡ o
-              → Owed parts before w x (250 + c) (with_value o (λ v. Some (gives v w)))
+              → Owed parts before w x (250 + c) (when_some o (λ v. Some (gives v w)))
           of None q = tt
           of (Some v) q = record {
             y = record x { place = x.registers 15 };

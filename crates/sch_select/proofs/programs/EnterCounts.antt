@@ -15,7 +15,8 @@ use Rattle.sch_word.specs.values.Memory.{Segment}
 use Rattle.sch_control.specs.declared.body.Entry.{Entry}
 use Rattle.sch_word.specs.declared.mark.MarkKind.TheVariants as mark
 use Rattle.sch_control.specs.Meaning.{World, Result, marked, on_return}
-use Rattle.sch_control.specs.Run.{do_forms, entry_at, known_entry, outcome_of, seen_of, starting_world}
+use Rattle.std.specs.Option.{option_flatten}
+use Rattle.sch_control.specs.Run.{do_forms, entry_at, outcome_of, seen_of, starting_world}
 use Rattle.sch_frames.specs.Valid.{is_entered}
 use Rattle.sch_frames.specs.Covered.{is_covered_code}
 use Rattle.sch_word.specs.runs.Activations.{is_enter}
@@ -103,7 +104,7 @@ module _ (codes : List Code) (covered : list_all is_covered_code codes ≡ true)
   }
 
   form_free : (label : ℕ) → slice_get entries label ≡ Some None → entry_at entries label ≡ None
-  form_free label e = ap known_entry e
+  form_free label e = ap option_flatten e
 
   pub paid_form : (n label : ℕ) (w : World) → slice_get entries label ≡ Some None → Paid n w → Paid n (marked (mark.Enter label) w)
   paid_form n label w e p = let c = counted_as (enters_procedure entries) (mark.Enter label) w false (ap is_entered (form_free label e)) in omega (arith, c, p)

@@ -1,6 +1,6 @@
 -- What a run keeps, where marks of entries stand nowhere but where bodies are entered.
 use Rattle.std.proofs.Common.{◌≡◌, ℕ, zero, suc, List, [], ◌∷◌, ◌++◌, length, map, Bool, true, false, Option, Some, None, refl, sym, ap, subst, ◌∙◌, append-nil, append_assoc}
-use Rattle.std.specs.Prelude.{slice_get}
+use Rattle.std.specs.Prelude.{slice_get, cond}
 use Rattle.std.specs.List.{list_all}
 use Rattle.std.proofs.lemmas.Bool.{and_parts}
 use Rattle.sch_word.proofs.facts.Booleans.{not_true}
@@ -11,17 +11,17 @@ use Rattle.sch_word.specs.values.PrimitiveRows.{primitive}
 use Rattle.sch_word.specs.values.Values.{Value, fixnum, character, boolean, nil, unspecified, symbol, object, procedure, cell, is_true}
 use Rattle.sch_word.specs.runs.Charges.{cell_bytes, charge, charge_each, fit, procedure_bytes}
 use Rattle.sch_word.specs.runs.Store.{Store}
-use Rattle.sch_word.specs.runs.Computation.{Outcome, State, Action, gives, stops, spent, in_store, with_rest, on_value, checked_call, taken, set_or_stop, read_cell, write_cell, procedures_from}
+use Rattle.sch_word.specs.runs.Computation.{Outcome, State, Action, gives, stops, spent, in_store, with_rest, on_value, checked_call, taken, set_or_stop, read_cell, write_cell, procedures_from, with_cell}
 use Rattle.sch_word.proofs.Steady.{Steady, outcome_with, steady_charge, steady_charge_each, steady_fit, steady_primitive, steady_read_global, steady_write_global}
 use Rattle.sch_control.specs.declared.body.Entry.{Entry}
 use Rattle.sch_word.specs.declared.mark.MarkKind.{MarkKind}
 use Rattle.sch_word.specs.declared.mark.MarkKind.TheVariants.{Enter, Spill}
 use Rattle.sch_control.specs.declared.operation.Operation.{Operation}
 use Rattle.sch_control.specs.declared.operation.Operation.TheVariants as operation
-use Rattle.sch_control.specs.Operations.{Ending, field, member_bytes, members_made, new_cell, operand_value, operand_values, operate, source_value, source_values, with_cell, with_procedures}
+use Rattle.sch_control.specs.Operations.{Ending, field, member_bytes, members_made, new_cell, operand_value, operand_values, operate, source_value, source_values, with_procedures}
 use Rattle.sch_word.specs.runs.Procedures.{Procedure}
 use Rattle.sch_word.specs.values.Options.{when_some}
-use Rattle.sch_control.specs.Meaning.{World, Result, Callee, call_in, either, entered, marked, on_checked, on_ending, on_outcome, on_return, with_value}
+use Rattle.sch_control.specs.Meaning.{World, Result, Callee, call_in, entered, marked, on_checked, on_ending, on_outcome, on_return}
 use Rattle.sch_control.specs.Run.{enter, enter_body, entry_at}
 use Rattle.sch_frames.specs.declared.instruction.Instruction.{Instruction}
 use Rattle.sch_frames.specs.declared.instruction.Instruction.TheVariants.{Do, Store as Put, Copy, Pass, Fix, Call, Tail, Return, End, IfFalse, Jump, Label, Mark}
@@ -124,7 +124,7 @@ module _ (codes : List Code) (covered : list_all is_covered_code codes ≡ true)
   abbrev CalleeKeeps : Callee → Type 0
   CalleeKeeps callee = (self : Value) (p : Procedure) (vs : List Value) (depth : ℕ) (w : World) → P w → Kept (callee self p vs depth w)
 
-  value_kept : {A : Type 0} (o : Option A) (next : A → Result) → ((a : A) → Kept (next a)) → Kept (with_value o next)
+  value_kept : {A : Type 0} (o : Option A) (next : A → Result) → ((a : A) → Kept (next a)) → Kept (when_some o next)
   value_kept None next h = tt
   value_kept (Some a) next h = h a
 
@@ -142,7 +142,7 @@ module _ (codes : List Code) (covered : list_all is_covered_code codes ≡ true)
   link_kept (Is v) r h = tt
   link_kept Junk r h = tt
 
-  either_kept : (b : Bool) (r q : Result) → Kept r → Kept q → Kept (either b r q)
+  either_kept : (b : Bool) (r q : Result) → Kept r → Kept q → Kept (cond b r q)
   either_kept true r q h g = h
   either_kept false r q h g = g
 
@@ -171,7 +171,7 @@ module _ (codes : List Code) (covered : list_all is_covered_code codes ≡ true)
         (spilled_kept spills (marked (Spill x) w) (stays.mark w (Spill x) refl p))
 
     made_kept : (f : Frame) (spills : List ℕ) (o : Option (List Procedure)) (w : World) (next : More) → P w → ((f : Frame) (u : World) → P u → Kept (next None f u))
-        → Kept (with_value (with_procedures w.state o) (λ s. next None f (record { state = s; marks = w.marks ++ map Spill spills })))
+        → Kept (when_some (with_procedures w.state o) (λ s. next None f (record { state = s; marks = w.marks ++ map Spill spills })))
     made_kept f spills None w next p h = tt
     made_kept f spills (Some made) w next p h =
         h f _ (spilled_kept spills (record { state = record w.state { procedures = w.state.procedures ++ made }; marks = w.marks }) (stays.state w (record w.state { procedures = w.state.procedures ++ made }) refl p))

@@ -9,7 +9,7 @@ use Rattle.std.proofs.lemmas.Grind.{flat_map-append}
 use Rattle.std.proofs.lemmas.List.{drop_at, take-append-drop, take-append-le, get_or-take, get_or_past, length-take-le, take-take}
 use Rattle.std.proofs.lemmas.List.Folds.{flat_map-map}
 use Rattle.std.proofs.lemmas.Nat.{le_bytes_8, from_le_bytes-to_le_bytes_8}
-use Rattle.std.proofs.Math.Seq.{take-append_seam}
+use Rattle.std.proofs.Math.Seq.{take-append_seam, take-append-add}
 use Rattle.sch_word.specs.values.Values.{is_byte, are_bytes}
 use Rattle.sch_word.specs.runs.ProgramLayout.{data_address}
 use Rattle.sch_asm.specs.declared.assembly.Word.{Word}
@@ -78,11 +78,6 @@ words_inside place front words behind rest bytes a e at =
 eight_of : List ℕ → List ℕ
 eight_of bytes = take 8 (bytes ++ (0 ∷ 0 ∷ 0 ∷ 0 ∷ 0 ∷ 0 ∷ 0 ∷ 0 ∷ []))
 
-take_behind : (xs ys : List ℕ) (k m : ℕ) → k ≡ length xs + m → take k (xs ++ ys) ≡ xs ++ take m ys
-take_behind [] ys k m e = let z : k ≡ m = omega (arith, e) in ap (λ k. take k ys) z
-take_behind (x ∷ xs) ys zero m e = absurd (omega (arith, e))
-take_behind (x ∷ xs) ys (suc k) m e = ap (λ l. x ∷ l) (take_behind xs ys k m (omega (arith, e)))
-
 bytes_below : (xs : List ℕ) → are_bytes xs ≡ true → (i : ℕ) → get_or xs i 0 < 256
 bytes_below [] h i = omega arith
 bytes_below (x ∷ xs) h zero = ltb-true x 256 (and_parts (is_byte x) (are_bytes xs) h).0
@@ -145,8 +140,9 @@ long_text xs ys le h =
     let e : take 8 (xs ++ (0 ∷ 0 ∷ 0 ∷ 0 ∷ 0 ∷ 0 ∷ 0 ∷ 0 ∷ [])) ≡ take 8 xs = take-append-le 8 xs (0 ∷ 0 ∷ 0 ∷ 0 ∷ 0 ∷ 0 ∷ 0 ∷ 0 ∷ []) le in
     let n = length-take-le 8 xs le in
     let m = length-drop 8 xs in
+    let whole : length xs ≡ length (take 8 xs) + length (drop 8 xs) = omega (arith, n, m, le) in
     ap (λ l. take (length xs) (l ++ ys)) e
-    ∙ take_behind (take 8 xs) ys (length xs) (length (drop 8 xs)) (omega (arith, n, m, le))
+    ∙ ap (λ k. take k (take 8 xs ++ ys)) whole ∙ take-append-add (take 8 xs) ys (length (drop 8 xs))
     ∙ ap (λ l. take 8 xs ++ l) h ∙ take-append-drop 8 xs
 
 -- the bytes of the words of a text begin with it

@@ -15,7 +15,8 @@ use Rattle.sch_word.specs.runs.Computation.{gives, stops, spent, depth_left, ent
 use Rattle.sch_word.specs.values.Checked.{on_passed}
 use Rattle.sch_control.specs.Operations.{and_value}
 use Rattle.sch_word.specs.runs.Procedures.{Procedure}
-use Rattle.sch_control.specs.Meaning.{World, Result, Callee, with_value, on_return, on_checked, entered, call_in}
+use Rattle.sch_word.specs.values.Options.{when_some}
+use Rattle.sch_control.specs.Meaning.{World, Result, Callee, on_return, on_checked, entered, call_in}
 use Rattle.sch_frames.specs.Meaning as meaning
 use Rattle.sch_word.specs.values.Places.{link_place, closure_place}
 use Rattle.sch_frames.specs.Meaning.{Frame, Cell, Is, Link, Junk, value_in, arguments, after_call, entry_places}
@@ -409,14 +410,14 @@ module _ (plan : Plan) (body_steps : ℕ) (laid : Laid plan body_steps) (act : A
 
       operands_by : (o : Option Value) → value_in (f.places closure_place) ≡ o → (q : Option (List Value))
           → arguments f.places f.outgoing 0 count ≡ q → Owed parts before w x (250 + c)
-          (with_value (and_value o q) (λ vs. on_return (call_in callee false false act.left vs w) After))
+          (when_some (and_value o q) (λ vs. on_return (call_in callee false false act.left vs w) After))
       operands_by None e None i = tt
       operands_by None e (Some us) i = tt
       operands_by (Some v) e None i = tt
       operands_by (Some v) e (Some vs) i = let hv = held_value act.back parts (f.places closure_place)
           (x.registers 14) v (p.register 14 refl) e in of v hv (operator_checked parts v x waiting following hv h) vs i
 
-      pub call_sim : Owed parts before w x (250 + c) (with_value (meaning.parts f.places f.outgoing count)
+      pub call_sim : Owed parts before w x (250 + c) (when_some (meaning.parts f.places f.outgoing count)
           (λ vs. on_return (call_in callee false false act.left vs w) After))
       call_sim = operands_by (value_in (f.places closure_place)) refl (arguments f.places f.outgoing 0 count) refl
 
@@ -531,7 +532,7 @@ module _ (plan : Plan) (body_steps : ℕ) (laid : Laid plan body_steps) (act : A
 
       tail_operands : (o : Option Value) → value_in (f.places closure_place) ≡ o → (q : Option (List Value))
           → arguments f.places own_slots 0 count ≡ q → Owed parts before w x (250 + c)
-          (with_value (and_value o q) (λ vs. call_in callee false true act.left vs w))
+          (when_some (and_value o q) (λ vs. call_in callee false true act.left vs w))
       tail_operands None e None i = tt
       tail_operands None e (Some us) i = tt
       tail_operands (Some v) e None i = tt
@@ -539,19 +540,19 @@ module _ (plan : Plan) (body_steps : ℕ) (laid : Laid plan body_steps) (act : A
           (x.registers 14) v (p.register 14 refl) e in tail_of v hv (operator_checked parts v x waiting entering hv h)
           vs i
 
-      tail_here : Owed parts before w x (250 + c) (with_value (meaning.parts f.places own_slots count)
+      tail_here : Owed parts before w x (250 + c) (when_some (meaning.parts f.places own_slots count)
           (λ vs. call_in callee false true act.left vs w))
       tail_here = tail_operands (value_in (f.places closure_place)) refl (arguments f.places own_slots 0 count) refl
 
     pub tail_sim : (count : ℕ) → (count < 2 ^ 31) × (count ≤ 6 + words) → Here waiting x.place (tail_code count rest)
         → Owed parts before w x (250 + c) (if_link (f.places link_place)
-        (with_value (meaning.parts f.places (λ j. f.places (Slot j)) count)
+        (when_some (meaning.parts f.places (λ j. f.places (Slot j)) count)
         (λ vs. call_in callee false true act.left vs w)))
     tail_sim count small h = by (f.places link_place) (p.register 15 refl)
       where
         by : (q : Cell) → Holds act.back parts q (x.registers 15)
             → Owed parts before w x (250 + c)
-            (if_link q (with_value (meaning.parts f.places (λ j. f.places (Slot j)) count)
+            (if_link q (when_some (meaning.parts f.places (λ j. f.places (Slot j)) count)
             (λ vs. call_in callee false true act.left vs w)))
         by Junk hq = tt
         by (Is v) hq = tt

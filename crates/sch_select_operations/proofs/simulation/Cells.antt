@@ -8,11 +8,11 @@ use Rattle.sch_word.specs.declared.place.Place.{Place}
 use Rattle.sch_word.specs.declared.stop.Stop.TheVariants.{HeapLimit, Unset}
 use Rattle.sch_word.specs.values.Values.{Value, fixnum, character, boolean, nil, unspecified, symbol, object, procedure, cell}
 use Rattle.sch_word.specs.runs.Store.{Store}
-use Rattle.sch_word.specs.runs.Computation.{Outcome, gives, stops, State, on_value, require, with_rest, set_or_stop, read_cell, write_cell}
+use Rattle.sch_word.specs.runs.Computation.{Outcome, gives, stops, State, on_value, require, with_rest, set_or_stop, read_cell, write_cell, with_cell}
 use Rattle.sch_control.specs.declared.operation.Operand.{Operand}
 use Rattle.sch_control.specs.declared.operation.Operation.TheVariants as operation
 use Rattle.sch_control.specs.declared.operation.Source.{Source}
-use Rattle.sch_control.specs.Operations.{operate, operand_value, source_value, new_cell, with_cell}
+use Rattle.sch_control.specs.Operations.{operate, operand_value, source_value, new_cell}
 use Rattle.sch_word.specs.runs.Procedures.{Procedure}
 use Rattle.sch_word.specs.values.Options.{when_some}
 use Rattle.sch_control.specs.Meaning.{World, Result, on_ending, on_outcome}

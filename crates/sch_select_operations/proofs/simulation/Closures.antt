@@ -26,7 +26,7 @@ use Rattle.sch_control.specs.Operations.{operate, and_value, source_value, sourc
 use Rattle.sch_word.specs.runs.Procedures.{Procedure}
 use Rattle.sch_word.specs.values.Options.{when_some}
 use Rattle.sch_control.specs.Operations.{close, member_bytes, members_made, with_procedures}
-use Rattle.sch_control.specs.Meaning.{World, Result, on_ending, on_outcome, with_value}
+use Rattle.sch_control.specs.Meaning.{World, Result, on_ending, on_outcome}
 use Rattle.sch_word.specs.values.Places.{is_slot}
 use Rattle.sch_frames.specs.Meaning.{Frame, Is, held, with_place, with_members}
 use Rattle.sch_frames.specs.Valid.{in_slots, is_place}
@@ -512,7 +512,7 @@ module _ (plan : Plan) (body_steps : ℕ) (laid : Laid plan body_steps) (act : A
         → Here waiting x.place (group_code stack members spills rest)
         → Owed parts before w x (250 + (3 * length members + records_cost members) + c)
         (on_outcome w.marks (in_store (charge_each (member_bytes members)) w.state)
-        (λ _ w. with_value (with_procedures w.state (members_made
+        (λ _ w. when_some (with_procedures w.state (members_made
         (held (with_members f members (procedures_from (length w.state.procedures) (length members)))) w.state
         members)) (λ s. k (with_members f members (procedures_from (length w.state.procedures) (length members)))
         (record { state = s; marks = w.marks ++ map Spill spills }))))
@@ -532,7 +532,7 @@ module _ (plan : Plan) (body_steps : ℕ) (laid : Laid plan body_steps) (act : A
         inner = with_members f members (procedures_from (length w.state.procedures) (length members))
 
         then_made : World → Result
-        then_made w = with_value (with_procedures w.state (members_made
+        then_made w = when_some (with_procedures w.state (members_made
             (held (with_members f members (procedures_from (length w.state.procedures) (length members)))) w.state
             members)) (λ s. k (with_members f members (procedures_from (length w.state.procedures) (length members)))
             (record { state = s; marks = w.marks ++ map Spill spills }))
@@ -609,7 +609,7 @@ module _ (plan : Plan) (body_steps : ℕ) (laid : Laid plan body_steps) (act : A
                 g.limit in let m = sum_is in omega (arith, a, l, m)
 
             by_made : (o : Option (List Procedure)) → members_made (held inner) charged_world.state members ≡ o
-                → Owed parts before w x cost (with_value (with_procedures charged_world.state o)
+                → Owed parts before w x cost (when_some (with_procedures charged_world.state o)
                 (λ s. k inner (record { state = s; marks = w.marks ++ map Spill spills })))
             by_made None v = tt
             by_made (Some made) v =

@@ -6,7 +6,7 @@ use Rattle.sch_word.specs.declared.constant.Const.TheVariants.{Fixnum, Character
 use Rattle.sch_word.specs.declared.stop.Stop.TheVariants.{NotProcedure, DepthLimit, Unset}
 use Rattle.sch_word.specs.trees.NumberSets.{without_repeats}
 use Rattle.sch_word.specs.trees.Bindings.{pushed, with_cells}
-use Rattle.sch_word.specs.values.Options.{when_ok, option_list, rest_of}
+use Rattle.sch_word.specs.values.Options.{when_ok, rest_of}
 use Rattle.sch_word.specs.values.Values.{fixnum, procedure, cell, is_constant, are_bytes}
 use Rattle.sch_word.specs.values.Checked.{passes, refused, exhausted, unreachable}
 use Rattle.sch_word.specs.runs.Handed.{handed}
@@ -82,9 +82,6 @@ answers :
     (when_ok {A = ℕ} {B = ℕ} {E = ℕ} (Ok 1) (λ n. Ok (suc n)) ≡ Ok 2)
     × (when_ok {A = ℕ} {B = ℕ} {E = ℕ} (Err 7) Ok ≡ Err 7)
 answers = (refl, refl)
-
-lists_of_options : (option_list {A = ℕ} (Some 1) ≡ 1 ∷ []) × (option_list {A = ℕ} None ≡ [])
-lists_of_options = (refl, refl)
 
 rests : (rest_of {A = ℕ} (1 ∷ 2 ∷ 3 ∷ []) ≡ 2 ∷ 3 ∷ []) × (rest_of {A = ℕ} [] ≡ [])
 rests = (refl, refl)

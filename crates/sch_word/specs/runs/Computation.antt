@@ -39,11 +39,6 @@ on_value (spent s) next = spent s
 abbrev pub after : {S V W : Type 0} → (S → Outcome S V) → (V → S → Outcome S W) → S → Outcome S W
 after first next s = on_value (first s) next
 
--- either of two computations, by a test
-abbrev pub either : {S V : Type 0} → Bool → (S → Outcome S V) → (S → Outcome S V) → S → Outcome S V
-either true first second s = first s
-either false first second s = second s
-
 -- goes on where a check holds, and stops by name elsewhere
 abbrev pub require : {S V : Type 0} → Bool → Stop → (S → Outcome S V) → S → Outcome S V
 require true why next s = next s

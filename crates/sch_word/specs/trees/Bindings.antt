@@ -1,20 +1,16 @@
 -- Environments of the languages in which a variable is a number: lists of variables, each with what it
 -- has there, the last bound first.
-use Rattle.std.specs.Prelude.{ℕ, zero, suc, Bool, true, false, nat_eq, List, [], ◌∷◌, Option, Some, None}
+use Rattle.std.specs.Prelude.{ℕ, zero, suc, cond, nat_eq, List, [], ◌∷◌, Option, Some, None}
 use Rattle.sch_word.specs.trees.NumberSets.{unless}
 use Rattle.sch_word.specs.values.Values.{Value, unspecified, cell}
 
 abbrev pub Bindings : Type 0 → Type 0
 Bindings A = List (ℕ × A)
 
-abbrev pub this_or : {A : Type 0} → Bool → A → Option A → Option A
-this_or true a other = Some a
-this_or false a other = other
-
 -- what a variable has
 abbrev pub bound_to : {A : Type 0} → ℕ → Bindings A → Option A
 bound_to x [] = None
-bound_to x (b ∷ environment) = this_or (nat_eq x b.0) b.1 (bound_to x environment)
+bound_to x (b ∷ environment) = cond (nat_eq x b.0) (Some b.1) (bound_to x environment)
 
 -- the variables from x on have these, and the last is nearest
 abbrev pub with_variables : {A : Type 0} → ℕ → List A → Bindings A → Bindings A

@@ -11,11 +11,6 @@ abbrev pub when_ok : {A B E : Type 0} → Result A E → (A → Result B E) → 
 when_ok (Ok a) next = next a
 when_ok (Err e) next = Err e
 
--- what is there, as a list
-abbrev pub option_list : {A : Type 0} → Option A → List A
-option_list None = []
-option_list (Some a) = a ∷ []
-
 -- whether it is there and says so
 abbrev pub or_false : Option Bool → Bool
 or_false (Some b) = b
