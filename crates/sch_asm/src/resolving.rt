@@ -1,11 +1,11 @@
 //! From items to a text: `resolve`.
 
-ghost use Rattle.std.specs.Prelude.{◌≡◌, ◌+◌, ◌*◌, ◌^◌, ◌<◌, ◌≤◌, ◌++◌, cond, false, true, length, IfOk, IfErr, IfNone, IfSome, OnOk, slice_index};
+ghost use Rattle.std.specs.Prelude.{◌≡◌, ◌+◌, ◌*◌, ◌^◌, ◌<◌, ◌≤◌, ◌++◌, cond, false, true, length, IfOk, IfErr, OnOk, slice_index};
 ghost use Rattle.std.specs.List.{flat_map};
 ghost use Rattle.sch_word.specs.runs.ProgramLayout.{max_text_size};
+ghost use Rattle.sch_insn.specs.declared.insn.Arg.TheVariants.{Rip};
 ghost use Rattle.sch_insn.specs.Spelling.{AllValid, IsCondition, IsValid, spelling};
 ghost use Rattle.sch_jumps.specs.Least.{IsExact, IsLeast};
-ghost use Rattle.sch_word.specs.values.Options.{option_list};
 ghost use Rattle.sch_jumps.specs.Sizes.{is_near};
 ghost use Rattle.sch_jumps.specs.Spans.{set_of};
 ghost use Rattle.sch_asm.specs.Items.{AreItems, AreOwn, AreRoutines, IsItem};
@@ -119,6 +119,7 @@ fn jump_to(at: u32, long: bool, to: u32) -> Insn
     requires to { to < 2 ^ 30 }
     requires near { long ≡ false → is_near (at + 2) to ≡ true }
     ensures insn { result ≡ jump_of long (displacement (at + cond long 5 2) to) }
+    ensures size { length (spelling result) ≡ cond long 5 2 }
     ensures valid { IsValid result }
 {
     if long {
@@ -135,6 +136,7 @@ fn branch_to(condition: u8, at: u32, long: bool, to: u32) -> Insn
     requires to { to < 2 ^ 30 }
     requires near { long ≡ false → is_near (at + 2) to ≡ true }
     ensures insn { result ≡ branch_of long condition (displacement (at + cond long 6 2) to) }
+    ensures size { length (spelling result) ≡ cond long 6 2 }
     ensures valid { IsValid result }
 {
     if long {
@@ -144,37 +146,13 @@ fn branch_to(condition: u8, at: u32, long: bool, to: u32) -> Insn
     }
 }
 
-// The instruction of an item that stands at an address, if it has one. It says of a jump whether it is long.
-fn insn_of(item: &Item, at: u32, long: bool, layout: &Layout) -> Option<Insn>
-    requires sound { IsItem item.now }
-    requires short { at + size_of long item.now < 2 ^ 30 }
-    requires reach { Reaches (slice_index layout.now.places.items) long at item.now }
-    requires uses { UsesBelow (length layout.now.places.items) item.now }
-    ensures insns { option_list result ≡ insns_at (slice_index layout.now.places.items) long at item.now }
-    ensures valid { IfSome result IsValid }
-    ensures size { IfSome result (λ insn. length (spelling insn) ≡ size_of long item.now) }
-    ensures none { IfNone result (size_of long item.now ≡ 0) }
+// The address of a place by the end of an instruction of seven bytes that stands at another.
+fn rip_to(at: u32, to: u32) -> Arg
+    requires at { at < 2 ^ 30 }
+    requires to { to < 2 ^ 31 }
+    ensures { result ≡ Rip (displacement (at + 7) to) }
 {
-    match item {
-        Item::Label(_) | Item::Mark(_) => None,
-        Item::Plain(insn) => Some(*insn),
-        Item::Jump(label) => Some(jump_to(at, long, layout.place(*label))),
-        Item::JumpIf(condition, label) => {
-            Some(branch_to(*condition, at, long, layout.place(*label)))
-        }
-        Item::LoadLabel(register, label) => Some(Insn::Lea(
-            *register,
-            Arg::Rip(displacement_to(at + 7, layout.place(*label))),
-        )),
-        Item::LoadWord(register, address) => Some(Insn::MovFrom(
-            *register,
-            Arg::Rip(displacement_to(at + 7, *address as u32)),
-        )),
-        Item::StoreWord(address, register) => Some(Insn::MovTo(
-            Arg::Rip(displacement_to(at + 7, *address as u32)),
-            *register,
-        )),
-    }
+    Arg::Rip(displacement_to(at + 7, to))
 }
 
 // How many jumps an item is.
@@ -187,24 +165,59 @@ fn jump_count(item: &Item) -> usize
     }
 }
 
-// The mark of an item, if it is one.
-fn mark_of(item: &Item, at: u32) -> Option<Mark>
-    ensures { option_list result ≡ marks_of at item.now }
-{
-    match item {
-        Item::Mark(kind) => Some(Mark {
-            address: at as u64,
-            kind: *kind,
-        }),
-        _ => None,
-    }
-}
-
 // A place in a text: its address, and how many jumps stand before it.
 #[derive(Clone, Copy)]
 struct Spot {
     at: u32,
     jumps: usize,
+}
+
+// Puts out the instruction or the mark of an item at a place, and says how many bytes the instruction has.
+fn put_out(
+    item: &Item,
+    from: Spot,
+    layout: &Layout,
+    code: &mut Text,
+    marks: &mut List<Mark>,
+) -> Result<usize, Mem>
+    requires sound { IsItem item.now }
+    requires uses { UsesBelow (length layout.now.places.items) item.now }
+    requires short { from.at + size_of (set_of layout.now.longs.items from.jumps) item.now < 2 ^ 30 }
+    requires reach { Reaches (slice_index layout.now.places.items) (set_of layout.now.longs.items from.jumps) from.at item.now }
+    ensures code { OnOk result (code.new ≡ code.old ++ insns_at (slice_index layout.now.places.items) (set_of layout.now.longs.items from.jumps) from.at item.now) }
+    ensures marks { OnOk result (marks.new ≡ marks.old ++ marks_of from.at item.now) }
+    ensures size { IfOk result (λ size. size ≡ size_of (set_of layout.now.longs.items from.jumps) item.now) }
+{
+    match item {
+        Item::Label(_) => Ok(0),
+        Item::Mark(kind) => {
+            marks.push(Mark {
+                address: from.at as u64,
+                kind: *kind,
+            })?;
+            Ok(0)
+        }
+        Item::Plain(insn) => code.push(insn),
+        Item::Jump(label) => {
+            let long = layout.is_long(from.jumps);
+            code.push(&jump_to(from.at, long, layout.place(*label)))
+        }
+        Item::JumpIf(condition, label) => {
+            let long = layout.is_long(from.jumps);
+            let to = layout.place(*label);
+            code.push(&branch_to(*condition, from.at, long, to))
+        }
+        Item::LoadLabel(register, label) => {
+            let to = layout.place(*label);
+            code.push(&Insn::Lea(*register, rip_to(from.at, to)))
+        }
+        Item::LoadWord(register, address) => {
+            code.push(&Insn::MovFrom(*register, rip_to(from.at, *address as u32)))
+        }
+        Item::StoreWord(address, register) => {
+            code.push(&Insn::MovTo(rip_to(from.at, *address as u32), *register))
+        }
+    }
 }
 
 // Puts out the instruction or the mark of an item at a place, and gives the place behind it.
@@ -225,15 +238,9 @@ fn emit_one(
     ensures end { IfOk result (λ end. end.at ≡ from.at + size_of (set_of layout.now.longs.items from.jumps) item.now) }
     ensures jumps { IfOk result (λ end. end.jumps ≡ from.jumps + jumps_of item.now) }
 {
-    if let Some(mark) = mark_of(item, from.at) {
-        marks.push(mark)?;
-    }
-    let size = match insn_of(item, from.at, layout.is_long(from.jumps), layout) {
-        Some(insn) => code.push(insn)? as u32,
-        None => 0,
-    };
+    let size = put_out(item, from, layout, code, marks)?;
     Ok(Spot {
-        at: from.at + size,
+        at: from.at + size as u32,
         jumps: from.jumps + jump_count(item),
     })
 }
