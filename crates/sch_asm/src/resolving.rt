@@ -17,7 +17,7 @@ ghost use Rattle.sch_asm.specs.Pieces.{shortest_size, skeleton};
 use crate::assembly::{Asm, Word};
 use crate::error::AsmError;
 use crate::item::{Item, Mark};
-use crate::layout::{Layout, append_pieces};
+use crate::layout::{Layout, pieces_of};
 use sch_code::Text;
 use sch_insn::{Arg, Insn};
 use sch_jumps::choose;
@@ -89,9 +89,7 @@ fn lay_out(alloc: Global, a: &Asm, routines: &Asm) -> Result<Layout, AsmError>
     ensures fits { IfOk result (λ layout. layout.bytes ≤ max_text_size) }
     ensures too_large { IfErr result (IsTooLarge (shortest_size (a.now.items ++ routines.now.items))) }
 {
-    let mut pieces = Vec::new(alloc);
-    append_pieces(a.items.as_slice(), &mut pieces)?;
-    append_pieces(routines.items.as_slice(), &mut pieces)?;
+    let pieces = pieces_of(alloc, a.items.as_slice(), routines.items.as_slice())?;
     let forms = choose(alloc, &pieces, TEXT_ADDRESS as u32)?;
     let bytes = forms.end - TEXT_ADDRESS;
     if bytes > MAX_TEXT_SIZE {

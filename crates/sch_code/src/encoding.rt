@@ -94,6 +94,7 @@ fn put_spelling(i: &Insn, to: &mut Code)
 }
 
 /// REX with W, one byte of opcode, the operand, and nothing before them.
+#[inline(never)]
 fn put_wide(to: &mut Code, op: u8, r: u8, m: &Arg)
     requires reg { r < 16 }
     requires arg { IsArg m.now }
@@ -107,6 +108,7 @@ fn put_wide(to: &mut Code, op: u8, r: u8, m: &Arg)
 }
 
 /// REX with W, an opcode of 0F and one byte, the operand, and nothing before them.
+#[inline(never)]
 fn put_long(to: &mut Code, op: u8, r: u8, m: &Arg)
     requires reg { r < 16 }
     requires arg { IsArg m.now }
@@ -121,6 +123,7 @@ fn put_long(to: &mut Code, op: u8, r: u8, m: &Arg)
 }
 
 /// REX without W, one byte of opcode, the operand, and nothing before them.
+#[inline(never)]
 fn put_narrow(to: &mut Code, op: u8, r: u8, m: &Arg)
     requires reg { r < 16 }
     requires arg { IsArg m.now }
