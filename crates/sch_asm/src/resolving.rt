@@ -153,16 +153,6 @@ fn rip_to(at: u32, to: u32) -> Arg
     Arg::Rip(displacement_to(at + 7, to))
 }
 
-// How many jumps an item is.
-fn jump_count(item: &Item) -> usize
-    ensures { result ≡ jumps_of item.now }
-{
-    match item {
-        Item::Jump(_) | Item::JumpIf(_, _) => 1,
-        _ => 0,
-    }
-}
-
 // A place in a text: its address, and how many jumps stand before it.
 #[derive(Clone, Copy)]
 struct Spot {
@@ -170,50 +160,17 @@ struct Spot {
     jumps: usize,
 }
 
-// Puts out the instruction or the mark of an item at a place, and says how many bytes the instruction has.
-fn put_out(
-    item: &Item,
-    from: Spot,
-    layout: &Layout,
-    code: &mut Text,
-    marks: &mut List<Mark>,
-) -> Result<usize, Mem>
-    requires sound { IsItem item.now }
-    requires uses { UsesBelow (length layout.now.places.items) item.now }
-    requires short { from.at + size_of (set_of layout.now.longs.items from.jumps) item.now < 2 ^ 30 }
-    requires reach { Reaches (slice_index layout.now.places.items) (set_of layout.now.longs.items from.jumps) from.at item.now }
-    ensures code { OnOk result (code.new ≡ code.old ++ insns_at (slice_index layout.now.places.items) (set_of layout.now.longs.items from.jumps) from.at item.now) }
-    ensures marks { OnOk result (marks.new ≡ marks.old ++ marks_of from.at item.now) }
-    ensures size { IfOk result (λ size. size ≡ size_of (set_of layout.now.longs.items from.jumps) item.now) }
-{
-    match item {
-        Item::Label(_) => Ok(0),
-        Item::Mark(kind) => {
-            marks.push(Mark {
-                address: from.at as u64,
-                kind: *kind,
-            })?;
-            Ok(0)
-        }
-        Item::Plain(insn) => code.push(insn),
-        Item::Jump(label) => {
-            let long = layout.is_long(from.jumps);
-            code.push(&jump_to(from.at, long, layout.place(*label)))
-        }
-        Item::JumpIf(condition, label) => {
-            let long = layout.is_long(from.jumps);
-            let to = layout.place(*label);
-            code.push(&branch_to(*condition, from.at, long, to))
-        }
-        Item::LoadLabel(register, label) => {
-            let to = layout.place(*label);
-            code.push(&Insn::Lea(*register, rip_to(from.at, to)))
-        }
-        Item::LoadWord(register, address) => {
-            code.push(&Insn::MovFrom(*register, rip_to(from.at, *address as u32)))
-        }
-        Item::StoreWord(address, register) => {
-            code.push(&Insn::MovTo(rip_to(from.at, *address as u32), *register))
+impl Spot {
+    // The place behind bytes that have some jumps in them.
+    fn behind(self, size: usize, jumps: usize) -> Spot
+        requires low { self.at + size < 2 ^ 32 }
+        requires few { self.jumps + jumps < 2 ^ 64 }
+        ensures end { result.at ≡ self.at + size }
+        ensures jumps { result.jumps ≡ self.jumps + jumps }
+    {
+        Spot {
+            at: self.at + size as u32,
+            jumps: self.jumps + jumps,
         }
     }
 }
@@ -236,11 +193,46 @@ fn emit_one(
     ensures end { IfOk result (λ end. end.at ≡ from.at + size_of (set_of layout.now.longs.items from.jumps) item.now) }
     ensures jumps { IfOk result (λ end. end.jumps ≡ from.jumps + jumps_of item.now) }
 {
-    let size = put_out(item, from, layout, code, marks)?;
-    Ok(Spot {
-        at: from.at + size as u32,
-        jumps: from.jumps + jump_count(item),
-    })
+    match item {
+        Item::Label(_) => Ok(from),
+        Item::Mark(kind) => {
+            marks.push(Mark {
+                address: from.at as u64,
+                kind: *kind,
+            })?;
+            Ok(from)
+        }
+        Item::Plain(insn) => {
+            let size = code.push(insn)?;
+            Ok(from.behind(size, 0))
+        }
+        Item::Jump(label) => {
+            let long = layout.is_long(from.jumps);
+            let size = code.push(&jump_to(from.at, long, layout.place(*label)))?;
+            Ok(from.behind(size, 1))
+        }
+        Item::JumpIf(condition, label) => {
+            let long = layout.is_long(from.jumps);
+            let to = layout.place(*label);
+            let size = code.push(&branch_to(*condition, from.at, long, to))?;
+            Ok(from.behind(size, 1))
+        }
+        Item::LoadLabel(register, label) => {
+            let to = layout.place(*label);
+            let size = code.push(&Insn::Lea(*register, rip_to(from.at, to)))?;
+            Ok(from.behind(size, 0))
+        }
+        Item::LoadWord(register, address) => {
+            let to = *address as u32;
+            let size = code.push(&Insn::MovFrom(*register, rip_to(from.at, to)))?;
+            Ok(from.behind(size, 0))
+        }
+        Item::StoreWord(address, register) => {
+            let to = *address as u32;
+            let size = code.push(&Insn::MovTo(rip_to(from.at, to), *register))?;
+            Ok(from.behind(size, 0))
+        }
+    }
 }
 
 // Puts out the instructions and marks of the items from a place on, and gives the place behind them.

@@ -70,7 +70,6 @@ impl Code {
         self.put(number.cast_unsigned());
     }
 
-    #[inline(always)]
     fn put_all(&mut self, bytes: &[u8])
         requires { length self.old + length bytes.now ≤ 16 }
         ensures { self.new ≡ self.old ++ bytes.now }

@@ -94,7 +94,6 @@ fn put_spelling(i: &Insn, to: &mut Code)
 }
 
 /// REX with W, one byte of opcode, the operand, and nothing before them.
-#[inline(never)]
 fn put_wide(to: &mut Code, op: u8, r: u8, m: &Arg)
     requires reg { r < 16 }
     requires arg { IsArg m.now }
@@ -108,7 +107,6 @@ fn put_wide(to: &mut Code, op: u8, r: u8, m: &Arg)
 }
 
 /// REX with W, an opcode of 0F and one byte, the operand, and nothing before them.
-#[inline(never)]
 fn put_long(to: &mut Code, op: u8, r: u8, m: &Arg)
     requires reg { r < 16 }
     requires arg { IsArg m.now }
@@ -123,7 +121,6 @@ fn put_long(to: &mut Code, op: u8, r: u8, m: &Arg)
 }
 
 /// REX without W, one byte of opcode, the operand, and nothing before them.
-#[inline(never)]
 fn put_narrow(to: &mut Code, op: u8, r: u8, m: &Arg)
     requires reg { r < 16 }
     requires arg { IsArg m.now }
@@ -151,7 +148,6 @@ fn rex_of(w: u8, r: u8, m: &Arg) -> u8
 }
 
 /// ModRM and what follows it.
-#[inline(always)]
 fn put_operand(to: &mut Code, r: u8, m: &Arg)
     requires room { length to.old ≤ 3 }
     requires reg { r < 16 }
