@@ -1,6 +1,6 @@
 //! Where items and labels stand.
 
-ghost use Rattle.std.specs.Prelude.{◌≡◌, ◌+◌, ◌*◌, ◌^◌, ◌<◌, ◌++◌, EachIndex, OnOk, false, length, slice_index, slice_index_or};
+ghost use Rattle.std.specs.Prelude.{◌≡◌, ◌+◌, ◌*◌, ◌^◌, ◌<◌, ◌++◌, EachIndex, IfOk, OnOk, false, length, slice_index, slice_index_or};
 ghost use Rattle.sch_jumps.specs.Spans.{set_of};
 ghost use Rattle.sch_asm.specs.Items.{AreItems};
 ghost use Rattle.sch_asm.specs.Layout.{IsSized};
@@ -9,6 +9,7 @@ ghost use Rattle.sch_asm.specs.Pieces.{piece_of, skeleton};
 use crate::item::Item;
 use sch_jumps::Piece;
 use sch_word::Mem;
+use std::alloc::Global;
 
 /// The address of each label of a text, which of its jumps are long, and how many bytes it has.
 #[derive(Drop)]
@@ -52,13 +53,27 @@ fn piece_of(item: &Item) -> Piece
     }
 }
 
-/// Adds the pieces of items.
-pub fn append_pieces(items: &[Item], pieces: &mut Vec<Piece>) -> Result<(), Mem>
+/// The pieces of items, and behind them those of routines.
+pub fn pieces_of(alloc: Global, items: &[Item], routines: &[Item]) -> Result<Vec<Piece>, Mem>
+    requires items { AreItems items.now }
+    requires routines { AreItems routines.now }
+    ensures { IfOk result (λ pieces. pieces.items ≡ skeleton items.now ++ skeleton routines.now) }
+{
+    let count = items.len().saturating_add(routines.len());
+    let mut pieces = Vec::with_capacity(alloc, count)?;
+    append_pieces(items, &mut pieces)?;
+    append_pieces(routines, &mut pieces)?;
+    Ok(pieces)
+}
+
+// Adds the pieces of items.
+fn append_pieces(items: &[Item], pieces: &mut Vec<Piece>) -> Result<(), Mem>
     requires sound { AreItems items.now }
     ensures { OnOk result (pieces.new.items ≡ pieces.old.items ++ skeleton items.now) }
 {
+    pieces.reserve(items.len())?;
     for item in items {
-        pieces.push(piece_of(item))?;
+        pieces.push_reserved(piece_of(item));
     }
     Ok(())
 }

@@ -1,12 +1,11 @@
 //! The narrow forms of instructions: a displacement and a number have one byte where they fit.
 
-ghost use Rattle.std.specs.Prelude.{◌≡◌, IfOk};
+ghost use Rattle.std.specs.Prelude.{◌≡◌};
 ghost use Rattle.sch_asm.specs.Narrow.{is_byte, narrow, narrow_arg, narrow_item, narrow_number, narrow_operand, narrowed};
 
 use crate::item::Item;
 use sch_insn::{Arg, Insn};
-use sch_word::{List, Mem};
-use std::alloc::Global;
+use sch_word::List;
 
 /// Whether a number fits one byte.
 fn is_byte(n: i32) -> bool
@@ -15,96 +14,96 @@ fn is_byte(n: i32) -> bool
     -128 <= n && n <= 127
 }
 
-/// An operand with its displacement in one byte, where it fits.
-fn narrow_arg(m: Arg) -> Arg
-    ensures { result ≡ narrow_arg m }
+/// Gives an operand's displacement one byte, where it fits.
+fn narrow_arg(m: &mut Arg)
+    ensures { m.new ≡ narrow_arg m.old }
 {
-    match m {
-        Arg::Base32(b, d) if is_byte(d) => Arg::Base8(b, d as i8),
-        _ => m,
+    match *m {
+        Arg::Base32(b, d) if is_byte(d) => *m = Arg::Base8(b, d as i8),
+        _ => {}
     }
 }
 
-/// An instruction with its number in one byte, where it fits and there is such a form.
-fn narrow_number(insn: Insn) -> Insn
-    ensures { result ≡ narrow_number insn }
+/// Gives an instruction's number one byte, where it fits and there is such a form.
+fn narrow_number(insn: &mut Insn)
+    ensures { insn.new ≡ narrow_number insn.old }
+{
+    match *insn {
+        Insn::AddNumber(m, n) if is_byte(n) => *insn = Insn::AddNumber8(m, n as i8),
+        Insn::OrNumber(m, n) if is_byte(n) => *insn = Insn::OrNumber8(m, n as i8),
+        Insn::AndNumber(m, n) if is_byte(n) => *insn = Insn::AndNumber8(m, n as i8),
+        Insn::SubNumber(m, n) if is_byte(n) => *insn = Insn::SubNumber8(m, n as i8),
+        Insn::XorNumber(m, n) if is_byte(n) => *insn = Insn::XorNumber8(m, n as i8),
+        Insn::CmpNumber(m, n) if is_byte(n) => *insn = Insn::CmpNumber8(m, n as i8),
+        _ => {}
+    }
+}
+
+/// Gives the displacement of an instruction's operand one byte, where it fits.
+fn narrow_operand(insn: &mut Insn)
+    ensures { insn.new ≡ narrow_operand insn.old }
 {
     match insn {
-        Insn::AddNumber(m, n) if is_byte(n) => Insn::AddNumber8(m, n as i8),
-        Insn::OrNumber(m, n) if is_byte(n) => Insn::OrNumber8(m, n as i8),
-        Insn::AndNumber(m, n) if is_byte(n) => Insn::AndNumber8(m, n as i8),
-        Insn::SubNumber(m, n) if is_byte(n) => Insn::SubNumber8(m, n as i8),
-        Insn::XorNumber(m, n) if is_byte(n) => Insn::XorNumber8(m, n as i8),
-        Insn::CmpNumber(m, n) if is_byte(n) => Insn::CmpNumber8(m, n as i8),
-        _ => insn,
+        Insn::MovTo(m, _) => narrow_arg(m),
+        Insn::MovFrom(_, m) => narrow_arg(m),
+        Insn::MovNumber(m, _) => narrow_arg(m),
+        Insn::StoreByte(m, _) => narrow_arg(m),
+        Insn::LoadByte(_, m) => narrow_arg(m),
+        Insn::Lea(_, m) => narrow_arg(m),
+        Insn::AddTo(m, _) => narrow_arg(m),
+        Insn::OrTo(m, _) => narrow_arg(m),
+        Insn::AndTo(m, _) => narrow_arg(m),
+        Insn::SubTo(m, _) => narrow_arg(m),
+        Insn::XorTo(m, _) => narrow_arg(m),
+        Insn::CmpTo(m, _) => narrow_arg(m),
+        Insn::AddFrom(_, m) => narrow_arg(m),
+        Insn::OrFrom(_, m) => narrow_arg(m),
+        Insn::AndFrom(_, m) => narrow_arg(m),
+        Insn::SubFrom(_, m) => narrow_arg(m),
+        Insn::XorFrom(_, m) => narrow_arg(m),
+        Insn::CmpFrom(_, m) => narrow_arg(m),
+        Insn::AddNumber(m, _) => narrow_arg(m),
+        Insn::OrNumber(m, _) => narrow_arg(m),
+        Insn::AndNumber(m, _) => narrow_arg(m),
+        Insn::SubNumber(m, _) => narrow_arg(m),
+        Insn::XorNumber(m, _) => narrow_arg(m),
+        Insn::CmpNumber(m, _) => narrow_arg(m),
+        Insn::AddNumber8(m, _) => narrow_arg(m),
+        Insn::OrNumber8(m, _) => narrow_arg(m),
+        Insn::AndNumber8(m, _) => narrow_arg(m),
+        Insn::SubNumber8(m, _) => narrow_arg(m),
+        Insn::XorNumber8(m, _) => narrow_arg(m),
+        Insn::CmpNumber8(m, _) => narrow_arg(m),
+        Insn::TestTo(m, _) => narrow_arg(m),
+        Insn::Imul(_, m) => narrow_arg(m),
+        Insn::Neg(m) => narrow_arg(m),
+        Insn::Idiv(m) => narrow_arg(m),
+        Insn::Shl(m, _) => narrow_arg(m),
+        Insn::Shr(m, _) => narrow_arg(m),
+        Insn::Sar(m, _) => narrow_arg(m),
+        Insn::JumpTo(m) => narrow_arg(m),
+        _ => {}
     }
 }
 
-/// An instruction with its operand's displacement in one byte, where it fits.
-fn narrow_operand(insn: Insn) -> Insn
-    ensures { result ≡ narrow_operand insn }
+/// Gives an item's instruction its narrow form.
+fn narrow_item(item: &mut Item)
+    ensures { item.new ≡ narrow_item item.old }
 {
-    match insn {
-        Insn::MovTo(m, r) => Insn::MovTo(narrow_arg(m), r),
-        Insn::MovFrom(r, m) => Insn::MovFrom(r, narrow_arg(m)),
-        Insn::MovNumber(m, n) => Insn::MovNumber(narrow_arg(m), n),
-        Insn::StoreByte(m, r) => Insn::StoreByte(narrow_arg(m), r),
-        Insn::LoadByte(r, m) => Insn::LoadByte(r, narrow_arg(m)),
-        Insn::Lea(r, m) => Insn::Lea(r, narrow_arg(m)),
-        Insn::AddTo(m, r) => Insn::AddTo(narrow_arg(m), r),
-        Insn::OrTo(m, r) => Insn::OrTo(narrow_arg(m), r),
-        Insn::AndTo(m, r) => Insn::AndTo(narrow_arg(m), r),
-        Insn::SubTo(m, r) => Insn::SubTo(narrow_arg(m), r),
-        Insn::XorTo(m, r) => Insn::XorTo(narrow_arg(m), r),
-        Insn::CmpTo(m, r) => Insn::CmpTo(narrow_arg(m), r),
-        Insn::AddFrom(r, m) => Insn::AddFrom(r, narrow_arg(m)),
-        Insn::OrFrom(r, m) => Insn::OrFrom(r, narrow_arg(m)),
-        Insn::AndFrom(r, m) => Insn::AndFrom(r, narrow_arg(m)),
-        Insn::SubFrom(r, m) => Insn::SubFrom(r, narrow_arg(m)),
-        Insn::XorFrom(r, m) => Insn::XorFrom(r, narrow_arg(m)),
-        Insn::CmpFrom(r, m) => Insn::CmpFrom(r, narrow_arg(m)),
-        Insn::AddNumber(m, n) => Insn::AddNumber(narrow_arg(m), n),
-        Insn::OrNumber(m, n) => Insn::OrNumber(narrow_arg(m), n),
-        Insn::AndNumber(m, n) => Insn::AndNumber(narrow_arg(m), n),
-        Insn::SubNumber(m, n) => Insn::SubNumber(narrow_arg(m), n),
-        Insn::XorNumber(m, n) => Insn::XorNumber(narrow_arg(m), n),
-        Insn::CmpNumber(m, n) => Insn::CmpNumber(narrow_arg(m), n),
-        Insn::AddNumber8(m, n) => Insn::AddNumber8(narrow_arg(m), n),
-        Insn::OrNumber8(m, n) => Insn::OrNumber8(narrow_arg(m), n),
-        Insn::AndNumber8(m, n) => Insn::AndNumber8(narrow_arg(m), n),
-        Insn::SubNumber8(m, n) => Insn::SubNumber8(narrow_arg(m), n),
-        Insn::XorNumber8(m, n) => Insn::XorNumber8(narrow_arg(m), n),
-        Insn::CmpNumber8(m, n) => Insn::CmpNumber8(narrow_arg(m), n),
-        Insn::TestTo(m, r) => Insn::TestTo(narrow_arg(m), r),
-        Insn::Imul(r, m) => Insn::Imul(r, narrow_arg(m)),
-        Insn::Neg(m) => Insn::Neg(narrow_arg(m)),
-        Insn::Idiv(m) => Insn::Idiv(narrow_arg(m)),
-        Insn::Shl(m, k) => Insn::Shl(narrow_arg(m), k),
-        Insn::Shr(m, k) => Insn::Shr(narrow_arg(m), k),
-        Insn::Sar(m, k) => Insn::Sar(narrow_arg(m), k),
-        Insn::JumpTo(m) => Insn::JumpTo(narrow_arg(m)),
-        _ => insn,
-    }
-}
-
-/// An item with its instruction in the narrow form.
-fn narrow_item(item: Item) -> Item
-    ensures { result ≡ narrow_item item }
-{
-    match item {
-        Item::Plain(insn) => Item::Plain(narrow_operand(narrow_number(insn))),
-        _ => item,
+    if let Item::Plain(insn) = item {
+        narrow_number(insn);
+        narrow_operand(insn);
     }
 }
 
 /// The items with each instruction in its narrow form: a displacement and a number of add, or, and, sub, xor and cmp
-/// have one byte where they fit.
-pub fn narrowed(alloc: Global, items: &[Item]) -> Result<List<Item>, Mem>
-    ensures { IfOk result (λ made. made ≡ narrowed items.now) }
+/// have one byte where they fit. The list is changed in place, which takes no memory.
+pub fn narrowed(items: List<Item>) -> List<Item>
+    ensures { result ≡ narrowed items }
 {
-    let mut made = List::new(alloc);
-    for item in items {
-        made.push(narrow_item(*item))?;
+    let mut items = items.into_vec();
+    for item in items.iter_mut() {
+        narrow_item(item);
     }
-    Ok(made)
+    List::from_vec(items)
 }

@@ -1,11 +1,11 @@
 //! From items to a text: `resolve`.
 
-ghost use Rattle.std.specs.Prelude.{◌≡◌, ◌+◌, ◌*◌, ◌^◌, ◌<◌, ◌≤◌, ◌++◌, cond, false, true, length, IfOk, IfErr, IfNone, IfSome, OnOk, slice_index};
+ghost use Rattle.std.specs.Prelude.{◌≡◌, ◌+◌, ◌*◌, ◌^◌, ◌<◌, ◌≤◌, ◌++◌, cond, false, true, length, IfOk, IfErr, OnOk, slice_index};
 ghost use Rattle.std.specs.List.{flat_map};
 ghost use Rattle.sch_word.specs.runs.ProgramLayout.{max_text_size};
+ghost use Rattle.sch_insn.specs.declared.insn.Arg.TheVariants.{Rip};
 ghost use Rattle.sch_insn.specs.Spelling.{AllValid, IsCondition, IsValid, spelling};
 ghost use Rattle.sch_jumps.specs.Least.{IsExact, IsLeast};
-ghost use Rattle.std.specs.Option.{option_to_list};
 ghost use Rattle.sch_jumps.specs.Sizes.{is_near};
 ghost use Rattle.sch_jumps.specs.Spans.{set_of};
 ghost use Rattle.sch_asm.specs.Items.{AreItems, AreOwn, AreRoutines, IsItem};
@@ -17,7 +17,7 @@ ghost use Rattle.sch_asm.specs.Pieces.{shortest_size, skeleton};
 use crate::assembly::{Asm, Word};
 use crate::error::AsmError;
 use crate::item::{Item, Mark};
-use crate::layout::{Layout, append_pieces};
+use crate::layout::{Layout, pieces_of};
 use sch_code::Text;
 use sch_insn::{Arg, Insn};
 use sch_jumps::choose;
@@ -89,9 +89,7 @@ fn lay_out(alloc: Global, a: &Asm, routines: &Asm) -> Result<Layout, AsmError>
     ensures fits { IfOk result (λ layout. layout.bytes ≤ max_text_size) }
     ensures too_large { IfErr result (IsTooLarge (shortest_size (a.now.items ++ routines.now.items))) }
 {
-    let mut pieces = Vec::new(alloc);
-    append_pieces(a.items.as_slice(), &mut pieces)?;
-    append_pieces(routines.items.as_slice(), &mut pieces)?;
+    let pieces = pieces_of(alloc, a.items.as_slice(), routines.items.as_slice())?;
     let forms = choose(alloc, &pieces, TEXT_ADDRESS as u32)?;
     let bytes = forms.end - TEXT_ADDRESS;
     if bytes > MAX_TEXT_SIZE {
@@ -119,6 +117,7 @@ fn jump_to(at: u32, long: bool, to: u32) -> Insn
     requires to { to < 2 ^ 30 }
     requires near { long ≡ false → is_near (at + 2) to ≡ true }
     ensures insn { result ≡ jump_of long (displacement (at + cond long 5 2) to) }
+    ensures size { length (spelling result) ≡ cond long 5 2 }
     ensures valid { IsValid result }
 {
     if long {
@@ -135,6 +134,7 @@ fn branch_to(condition: u8, at: u32, long: bool, to: u32) -> Insn
     requires to { to < 2 ^ 30 }
     requires near { long ≡ false → is_near (at + 2) to ≡ true }
     ensures insn { result ≡ branch_of long condition (displacement (at + cond long 6 2) to) }
+    ensures size { length (spelling result) ≡ cond long 6 2 }
     ensures valid { IsValid result }
 {
     if long {
@@ -144,60 +144,13 @@ fn branch_to(condition: u8, at: u32, long: bool, to: u32) -> Insn
     }
 }
 
-// The instruction of an item that stands at an address, if it has one. It says of a jump whether it is long.
-fn insn_of(item: &Item, at: u32, long: bool, layout: &Layout) -> Option<Insn>
-    requires sound { IsItem item.now }
-    requires short { at + size_of long item.now < 2 ^ 30 }
-    requires reach { Reaches (slice_index layout.now.places.items) long at item.now }
-    requires uses { UsesBelow (length layout.now.places.items) item.now }
-    ensures insns { option_to_list result ≡ insns_at (slice_index layout.now.places.items) long at item.now }
-    ensures valid { IfSome result IsValid }
-    ensures size { IfSome result (λ insn. length (spelling insn) ≡ size_of long item.now) }
-    ensures none { IfNone result (size_of long item.now ≡ 0) }
+// The address of a place by the end of an instruction of seven bytes that stands at another.
+fn rip_to(at: u32, to: u32) -> Arg
+    requires at { at < 2 ^ 30 }
+    requires to { to < 2 ^ 31 }
+    ensures { result ≡ Rip (displacement (at + 7) to) }
 {
-    match item {
-        Item::Label(_) | Item::Mark(_) => None,
-        Item::Plain(insn) => Some(*insn),
-        Item::Jump(label) => Some(jump_to(at, long, layout.place(*label))),
-        Item::JumpIf(condition, label) => {
-            Some(branch_to(*condition, at, long, layout.place(*label)))
-        }
-        Item::LoadLabel(register, label) => Some(Insn::Lea(
-            *register,
-            Arg::Rip(displacement_to(at + 7, layout.place(*label))),
-        )),
-        Item::LoadWord(register, address) => Some(Insn::MovFrom(
-            *register,
-            Arg::Rip(displacement_to(at + 7, *address as u32)),
-        )),
-        Item::StoreWord(address, register) => Some(Insn::MovTo(
-            Arg::Rip(displacement_to(at + 7, *address as u32)),
-            *register,
-        )),
-    }
-}
-
-// How many jumps an item is.
-fn jump_count(item: &Item) -> usize
-    ensures { result ≡ jumps_of item.now }
-{
-    match item {
-        Item::Jump(_) | Item::JumpIf(_, _) => 1,
-        _ => 0,
-    }
-}
-
-// The mark of an item, if it is one.
-fn mark_of(item: &Item, at: u32) -> Option<Mark>
-    ensures { option_to_list result ≡ marks_of at item.now }
-{
-    match item {
-        Item::Mark(kind) => Some(Mark {
-            address: at as u64,
-            kind: *kind,
-        }),
-        _ => None,
-    }
+    Arg::Rip(displacement_to(at + 7, to))
 }
 
 // A place in a text: its address, and how many jumps stand before it.
@@ -205,6 +158,21 @@ fn mark_of(item: &Item, at: u32) -> Option<Mark>
 struct Spot {
     at: u32,
     jumps: usize,
+}
+
+impl Spot {
+    // The place behind bytes that have some jumps in them.
+    fn behind(self, size: usize, jumps: usize) -> Spot
+        requires low { self.at + size < 2 ^ 32 }
+        requires few { self.jumps + jumps < 2 ^ 64 }
+        ensures end { result.at ≡ self.at + size }
+        ensures jumps { result.jumps ≡ self.jumps + jumps }
+    {
+        Spot {
+            at: self.at + size as u32,
+            jumps: self.jumps + jumps,
+        }
+    }
 }
 
 // Puts out the instruction or the mark of an item at a place, and gives the place behind it.
@@ -225,17 +193,46 @@ fn emit_one(
     ensures end { IfOk result (λ end. end.at ≡ from.at + size_of (set_of layout.now.longs.items from.jumps) item.now) }
     ensures jumps { IfOk result (λ end. end.jumps ≡ from.jumps + jumps_of item.now) }
 {
-    if let Some(mark) = mark_of(item, from.at) {
-        marks.push(mark)?;
+    match item {
+        Item::Label(_) => Ok(from),
+        Item::Mark(kind) => {
+            marks.push(Mark {
+                address: from.at as u64,
+                kind: *kind,
+            })?;
+            Ok(from)
+        }
+        Item::Plain(insn) => {
+            let size = code.push(insn)?;
+            Ok(from.behind(size, 0))
+        }
+        Item::Jump(label) => {
+            let long = layout.is_long(from.jumps);
+            let size = code.push(&jump_to(from.at, long, layout.place(*label)))?;
+            Ok(from.behind(size, 1))
+        }
+        Item::JumpIf(condition, label) => {
+            let long = layout.is_long(from.jumps);
+            let to = layout.place(*label);
+            let size = code.push(&branch_to(*condition, from.at, long, to))?;
+            Ok(from.behind(size, 1))
+        }
+        Item::LoadLabel(register, label) => {
+            let to = layout.place(*label);
+            let size = code.push(&Insn::Lea(*register, rip_to(from.at, to)))?;
+            Ok(from.behind(size, 0))
+        }
+        Item::LoadWord(register, address) => {
+            let to = *address as u32;
+            let size = code.push(&Insn::MovFrom(*register, rip_to(from.at, to)))?;
+            Ok(from.behind(size, 0))
+        }
+        Item::StoreWord(address, register) => {
+            let to = *address as u32;
+            let size = code.push(&Insn::MovTo(rip_to(from.at, to), *register))?;
+            Ok(from.behind(size, 0))
+        }
     }
-    let size = match insn_of(item, from.at, layout.is_long(from.jumps), layout) {
-        Some(insn) => code.push(insn)? as u32,
-        None => 0,
-    };
-    Ok(Spot {
-        at: from.at + size,
-        jumps: from.jumps + jump_count(item),
-    })
 }
 
 // Puts out the instructions and marks of the items from a place on, and gives the place behind them.

@@ -1,5 +1,6 @@
 -- A text spells the instructions whose spellings it is.
 use Rattle.std.proofs.Common.{◌≡◌, ℕ, zero, suc, ◌+◌, ◌<◌, ◌≤◌, List, [], ◌∷◌, ◌++◌, length, take, Some, None, refl, sym, ap, ◌∙◌, subst, arith, append-nil, length-append}
+use Rattle.std.proofs.lemmas.List.{length-take, take-take}
 use Rattle.std.specs.List.{flat_map}
 use Rattle.std.proofs.lemmas.List.Concat.{flat_map-append}
 use Rattle.std.proofs.Math.Seq.{take-append-add, drop-append_seam}
@@ -77,11 +78,26 @@ text_more bytes bytes' count count' i t v e f =
     let l = length-append is (i ∷ []) in
     subst (IsText bytes') (omega (arith, l, f, t.counted)) (is_text bytes' (is ++ i ∷ []) (one_more bytes bytes' count i t v e))
 
--- of what is put behind others only the front is kept
-pub front_kept : (old whole spelled part kept : List ℕ) (end size : ℕ) → take (length spelled) whole ≡ spelled → spelled ≡ part → size ≡ length part → end ≡ length old + size → kept ≡ take end (old ++ whole) → kept ≡ old ++ part
-front_kept old whole spelled part kept end size front same few at e =
-    e ∙ ap (λ n. take n (old ++ whole)) at ∙ take-append-add old whole size
-    ∙ ap (λ l. old ++ l) (ap (λ n. take n whole) (few ∙ sym (ap length same)) ∙ front ∙ same)
+-- Some bytes were put over those from a place on: of them only the front is kept.
+pub record Overwritten (all before whole spelled : List ℕ) (at room size : ℕ) : Type 0 where
+  pub put : take (at + room) all ≡ before ++ whole
+  pub front : take (length spelled) whole ≡ spelled
+  pub count : size ≡ length spelled
+  pub place : length before ≡ at
+  pub few : size ≤ room
+
+module _ (all before whole spelled : List ℕ) (at room size : ℕ) where
+  pub front_kept : Overwritten all before whole spelled at room size → take (at + size) all ≡ before ++ spelled
+  front_kept h =
+      sym (take-take (at + size) (at + room) all (omega (arith, h.few))) ∙ ap (take (at + size)) h.put
+      ∙ ap (λ n. take (n + size) (before ++ whole)) (sym h.place) ∙ take-append-add before whole size
+      ∙ ap (λ l. before ++ l) (ap (λ n. take n whole) h.count ∙ h.front)
+
+  pub front_within : Overwritten all before whole spelled at room size → at + size ≤ length all
+  front_within h =
+      let a = ap length h.put in let b = length-append before whole in let c = length-take (at + room) all in
+      let d = ap length h.front in let e = length-take (length spelled) whole in
+      omega (arith, a, b, c, d, e, h.count, h.place)
 
 pub text_empty : IsText [] 0
 text_empty = is_text [] [] (record { valid = tt; same = refl })

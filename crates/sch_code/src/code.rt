@@ -57,8 +57,9 @@ impl Code {
         requires { length self.old < 16 }
         ensures { self.new ≡ self.old ++ byte ∷ [] }
     {
-        self.bytes[self.len] = byte;
-        self.len += 1;
+        let at = self.len;
+        self.bytes[at] = byte;
+        self.len = at + 1;
     }
 
     /// One byte.
@@ -73,9 +74,9 @@ impl Code {
         requires { length self.old + length bytes.now ≤ 16 }
         ensures { self.new ≡ self.old ++ bytes.now }
     {
-        for byte in bytes {
-            self.put(*byte);
-        }
+        let end = self.len + bytes.len();
+        self.bytes[self.len..end].copy_from_slice(bytes);
+        self.len = end;
     }
 
     /// Four bytes, the lowest first.

@@ -1,3 +1,4 @@
+pub mod Free
 pub mod Sizes
 pub mod Least
 pub mod Spans

@@ -4,7 +4,7 @@ ghost use Rattle.std.specs.Prelude.{◌≡◌, ◌+◌, ◌^◌, ◌<◌, EachIn
 ghost use Rattle.sch_jumps.specs.Sizes.{ArePieces, growths, jump_count};
 ghost use Rattle.sch_jumps.specs.Least.{AllReach, IsExact, IsLeast, text_size};
 ghost use Rattle.sch_jumps.specs.Places.{Once, Own};
-ghost use Rattle.sch_jumps.specs.Spans.{LabelsBelow, set_of, table, table', the_highs, the_longs, the_lows, the_rooms};
+ghost use Rattle.sch_jumps.specs.Spans.{LabelsBelow, label_bound, set_of, table, table', the_highs, the_longs, the_lows, the_rooms};
 
 use crate::layout::place_labels;
 use crate::piece::Piece;
@@ -38,8 +38,9 @@ pub fn choose(alloc: Global, pieces: &[Piece], from: u32) -> Result<Forms, Mem>
     ensures known { IfOk result (λ p. LabelsBelow (length p.places.items) pieces.now) }
     ensures low { IfOk result (λ p. p.end < 2 ^ 30 → EachIndex p.places.items (λ l. slice_index p.places.items l < 2 ^ 30)) }
 {
-    let longs = long_jumps(alloc, pieces)?;
-    let mut places = at_start(alloc, from, label_bound(pieces))?;
+    let bound = label_bound(pieces);
+    let longs = long_within(alloc, pieces, bound)?;
+    let mut places = at_start(alloc, from, bound)?;
     let end = place_labels(pieces, &longs, from as u64, &mut places);
     Ok(Forms { longs, places, end })
 }
@@ -59,13 +60,24 @@ pub fn long_jumps(alloc: Global, pieces: &[Piece]) -> Result<Vec<bool>, Mem>
     ensures exact { IfOk result (λ longs. IsExact pieces.now (set_of longs.items)) }
     ensures each { IfOk result (λ longs. length longs.items ≡ jump_count pieces.now) }
 {
+    long_within(alloc, pieces, label_bound(pieces))
+}
+
+// The same, by one more than the greatest label.
+fn long_within(alloc: Global, pieces: &[Piece], bound: usize) -> Result<Vec<bool>, Mem>
+    requires sound { ArePieces pieces.now }
+    requires bound { bound ≡ label_bound 0 pieces.now }
+    ensures least { IfOk result (λ longs. IsLeast pieces.now (set_of longs.items)) }
+    ensures exact { IfOk result (λ longs. IsExact pieces.now (set_of longs.items)) }
+    ensures each { IfOk result (λ longs. length longs.items ≡ jump_count pieces.now) }
+{
     let Spans {
         lows,
         highs,
         growths,
         mut rooms,
         mut longs,
-    } = spans(alloc, pieces)?;
+    } = spans(alloc, pieces, bound)?;
     let firsts = firsts(alloc, &highs, &longs)?;
     let lasts = lasts(alloc, &lows, &longs)?;
     let mut done = none_done(alloc, longs.len())?;
@@ -80,15 +92,15 @@ pub fn long_jumps(alloc: Global, pieces: &[Piece]) -> Result<Vec<bool>, Mem>
 }
 
 // The spans of the jumps of a text.
-fn spans(alloc: Global, pieces: &[Piece]) -> Result<Spans, Mem>
+fn spans(alloc: Global, pieces: &[Piece], bound: usize) -> Result<Spans, Mem>
     requires sound { ArePieces pieces.now }
+    requires bound { bound ≡ label_bound 0 pieces.now }
     ensures lows { IfOk result (λ s. s.lows.items ≡ the_lows (table pieces.now) (table' pieces.now) 0 0 pieces.now) }
     ensures highs { IfOk result (λ s. s.highs.items ≡ the_highs (table pieces.now) (table' pieces.now) 0 0 pieces.now) }
     ensures growths { IfOk result (λ s. s.growths.items ≡ growths pieces.now) }
     ensures rooms { IfOk result (λ s. s.rooms.items ≡ the_rooms (table pieces.now) (table' pieces.now) 0 0 pieces.now) }
     ensures longs { IfOk result (λ s. s.longs.items ≡ the_longs (table pieces.now) (table' pieces.now) 0 0 pieces.now) }
 {
-    let bound = label_bound(pieces);
     let mut befores = no_jumps(alloc, bound)?;
     let mut places = no_bytes(alloc, bound)?;
     let jumps = enter_labels(pieces, &mut befores, &mut places);

@@ -112,7 +112,7 @@ fn value_items(alloc: Global, heap_end: u32) -> Result<List<Item>, Mem>
 {
     let mut items = List::new(alloc);
     value_routines(&mut items, heap_end)?;
-    narrowed(alloc, items.as_slice())
+    Ok(narrowed(items))
 }
 
 // The routines that know how values are in the machine, one behind the other. They name where the heap ends.

@@ -126,7 +126,7 @@ fn items_of(alloc: Global, p: &FrameProgram, ends: Ends) -> Result<List<Item>, M
         ends.depth (length p.now.bodies) (codes_of p.now.bodies))) }
 {
     let items = selected_items(alloc, p, ends)?;
-    narrowed(alloc, items.as_slice())
+    Ok(narrowed(items))
 }
 
 /// The items and data of a frame program under limits of heap and depth. The registers of the frame, the heap and the depth are set,

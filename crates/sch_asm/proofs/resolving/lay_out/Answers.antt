@@ -1,5 +1,5 @@
 -- The table that is filled is that of the items.
-use Rattle.std.proofs.Common.{◌≡◌, ℕ, ◌<◌, ◌++◌, List, [], length, Bool, sym, ap, ◌∙◌, subst, arith}
+use Rattle.std.proofs.Common.{◌≡◌, ℕ, ◌<◌, ◌++◌, List, length, Bool, sym, ap, ◌∙◌, subst, arith}
 use Rattle.std.specs.Prelude.{slice_index}
 use Rattle.sch_word.specs.runs.ProgramLayout.{text_address}
 use Rattle.sch_jumps.specs.declared.piece.Piece.{Piece}
@@ -15,11 +15,6 @@ use Rattle.sch_asm.specs.Pieces.{skeleton}
 use Rattle.sch_asm.proofs.Skeleton.{skeleton_append, sound_pieces}
 use Rattle.sch_asm.proofs.Tables.{once_in_both, own_high, routines_low, stand_back, stand_below, stand_front, use_append, uses_known}
 use Rattle.sch_asm.proofs.resolving.lay_out.Goals as goal
-
--- the pieces of two lists
-both : (xs ys first second : List Item) (none front all : List Piece) → none ≡ [] → first ≡ xs → second ≡ ys → front ≡ none ++ skeleton first → all ≡ front ++ skeleton second → all ≡ skeleton (xs ++ ys)
-both xs ys first second none front all e f g h i =
-    i ∙ ap (λ l. l ++ skeleton second) (h ∙ ap (λ l. l ++ skeleton first) e ∙ ap skeleton f) ∙ ap (λ l. skeleton xs ++ skeleton l) g ∙ sym (skeleton_append xs ys)
 
 laid_out : (xs ys : List Item) (ws rs : List Word) (places : List ℕ) (longs : List Bool) (z : ℕ) → AreOwn xs → AreRoutines ys rs z → IsEachOnce (labels_in xs) → IsEachOnce (labels_in ys) → AreKnown xs ws → AreKnown ys rs
     → IsLeast (skeleton (xs ++ ys)) (set_of longs)
@@ -44,13 +39,12 @@ laid_out xs ys ws rs places longs z own routines once once' known known' least e
       words_use = u.1;
     }
 
-the_pieces : (xs ys first second : List Item) (none front all given : List Piece) → none ≡ [] → first ≡ xs → second ≡ ys → front ≡ none ++ skeleton first → all ≡ front ++ skeleton second → given ≡ all → given ≡ skeleton (xs ++ ys)
-the_pieces xs ys first second none front all given e f g h i j = j ∙ both xs ys first second none front all e f g h i
+the_pieces : (xs ys first second : List Item) (made given : List Piece) → first ≡ xs → second ≡ ys → made ≡ skeleton first ++ skeleton second → given ≡ made → given ≡ skeleton (xs ++ ys)
+the_pieces xs ys first second made given f g h i = i ∙ h ∙ ap (λ l. skeleton l ++ skeleton second) f ∙ ap (λ l. skeleton xs ++ skeleton l) g ∙ sym (skeleton_append xs ys)
 
 pub choose-requires-clause-sound : goal.choose-requires-clause-sound
 choose-requires-clause-sound c =
-    let e = the_pieces c.args.a.now.items c.args.routines.now.items c.as_slice.result.now c.as_slice-2.result.now c.new-pieces.result.items c.append_pieces.new.pieces.items c.append_pieces-2.new.pieces.items c.deref.result.now
-    c.new-pieces.ensures.items c.as_slice.ensures c.as_slice-2.ensures c.in_ok-append_pieces.ensures c.in_ok-append_pieces-2.ensures c.deref.ensures.value in
+    let e = the_pieces c.args.a.now.items c.args.routines.now.items c.as_slice.result.now c.as_slice-2.result.now c.in_ok-pieces.pieces.items c.deref.result.now c.as_slice.ensures c.as_slice-2.ensures c.in_ok-pieces.ensures c.deref.ensures.value in
     subst ArePieces (sym e) (sound_pieces (c.args.a.now.items ++ c.args.routines.now.items))
 
 pub returns-clause-places : goal.returns-clause-places
@@ -58,8 +52,7 @@ returns-clause-places c =
     let xs = c.args.a.now.items in
     let ys = c.args.routines.now.items in
     let ps = c.deref.result.now in
-    let e : ps ≡ skeleton (xs ++ ys) = the_pieces xs ys c.as_slice.result.now c.as_slice-2.result.now c.new-pieces.result.items c.append_pieces.new.pieces.items c.append_pieces-2.new.pieces.items ps
-    c.new-pieces.ensures.items c.as_slice.ensures c.as_slice-2.ensures c.in_ok-append_pieces.ensures c.in_ok-append_pieces-2.ensures c.deref.ensures.value in
+    let e : ps ≡ skeleton (xs ++ ys) = the_pieces xs ys c.as_slice.result.now c.as_slice-2.result.now c.in_ok-pieces.pieces.items ps c.as_slice.ensures c.as_slice-2.ensures c.in_ok-pieces.ensures c.deref.ensures.value in
     let f = c.in_ok-forms.forms in
     let h = c.in_ok-forms.ensures in
     let low : f.end < 1073741824 = omega (arith, c.if-bytes-gt-MAX_TEXT_SIZE.false, h.end) in

@@ -38,7 +38,7 @@ they_reach ps s from n t u h e f g =
     ap (λ x. slice_index x l) g ∙ placed_at ps s 0 from t l d ∙ ap (λ a. place_from s a 0 from ps l) (v ∙ sym z) ∙ ap (λ a. place_from s (from + 0) 0 a ps l) (sym z)))
 
 pub place_labels-end-requires-clause-below : goal.place_labels-end-requires-clause-below
-place_labels-end-requires-clause-below c = subst (λ n. LabelsBelow n c.args.pieces.now) (sym (in_table c.args.pieces.now c.label_bound.result c.args.from c.in_ok-places.places.items c.label_bound.ensures c.in_ok-places.ensures)) (labels_below c.args.pieces.now)
+place_labels-end-requires-clause-below c = subst (λ n. LabelsBelow n c.args.pieces.now) (sym (in_table c.args.pieces.now c.label_bound-bound.result c.args.from c.in_ok-places.places.items c.label_bound-bound.ensures c.in_ok-places.ensures)) (labels_below c.args.pieces.now)
 
 pub returns-clause-end : goal.returns-clause-end
 returns-clause-end c =
@@ -50,7 +50,7 @@ pub returns-clause-reach : goal.returns-clause-reach
 returns-clause-reach c = λ lt.
     let ps = c.args.pieces.now in
     let s = c.in_ok-longs.longs.items in
-    they_reach ps (set_of s) c.args.from c.label_bound.result c.in_ok-places.places.items c.place_labels-end.new.places.items c.in_ok-longs.ensures.least c.label_bound.ensures c.in_ok-places.ensures
+    they_reach ps (set_of s) c.args.from c.label_bound-bound.result c.in_ok-places.places.items c.place_labels-end.new.places.items c.in_ok-longs.ensures.least c.label_bound-bound.ensures c.in_ok-places.ensures
     (c.place_labels-end.ensures.places lt ∙ ap (λ l. placed_from (set_of l) 0 c.args.from ps c.in_ok-places.places.items) c.deref.ensures.value)
 
 they_own : (ps : List Piece) (s : Set) (from n : ℕ) (t u : List ℕ) → n ≡ label_bound 0 ps → t ≡ replicate n from → u ≡ placed_from s 0 from ps t → Once ps → Own s (slice_index u) 0 from ps
@@ -62,13 +62,13 @@ pub returns-clause-own : goal.returns-clause-own
 returns-clause-own c = λ lt. λ once.
     let ps = c.args.pieces.now in
     let s = c.in_ok-longs.longs.items in
-    they_own ps (set_of s) c.args.from c.label_bound.result c.in_ok-places.places.items c.place_labels-end.new.places.items c.label_bound.ensures c.in_ok-places.ensures
+    they_own ps (set_of s) c.args.from c.label_bound-bound.result c.in_ok-places.places.items c.place_labels-end.new.places.items c.label_bound-bound.ensures c.in_ok-places.ensures
     (c.place_labels-end.ensures.places lt ∙ ap (λ l. placed_from (set_of l) 0 c.args.from ps c.in_ok-places.places.items) c.deref.ensures.value) once
 
 pub returns-clause-known : goal.returns-clause-known
 returns-clause-known c =
     let ps = c.args.pieces.now in
-    let k = in_table ps c.label_bound.result c.args.from c.in_ok-places.places.items c.label_bound.ensures c.in_ok-places.ensures in
+    let k = in_table ps c.label_bound-bound.result c.args.from c.in_ok-places.places.items c.label_bound-bound.ensures c.in_ok-places.ensures in
     subst (λ n. LabelsBelow n ps) (sym (c.place_labels-end.ensures.size ∙ k)) (labels_below ps)
 
 they_are_low : (ps : List Piece) (s : Set) (from n : ℕ) (t u : List ℕ) → t ≡ replicate n from → u ≡ placed_from s 0 from ps t → from < 1073741824 → end_from s 0 from ps < 1073741824 → (l : ℕ) → l < length u → slice_index u l < 1073741824
@@ -83,6 +83,6 @@ returns-clause-low c = λ lt. λ l. λ within.
     let ps = c.args.pieces.now in
     let s = c.in_ok-longs.longs.items in
     let e : c.place_labels-end.result ≡ end_from (set_of s) 0 c.args.from ps = c.place_labels-end.ensures.end ∙ ap (λ l. end_from (set_of l) 0 c.args.from ps) c.deref.ensures.value in
-    they_are_low ps (set_of s) c.args.from c.label_bound.result c.in_ok-places.places.items c.place_labels-end.new.places.items c.in_ok-places.ensures
+    they_are_low ps (set_of s) c.args.from c.label_bound-bound.result c.in_ok-places.places.items c.place_labels-end.new.places.items c.in_ok-places.ensures
     (c.place_labels-end.ensures.places lt ∙ ap (λ l. placed_from (set_of l) 0 c.args.from ps c.in_ok-places.places.items) c.deref.ensures.value)
     c.requires.few (subst (λ a. a < 1073741824) e lt) l within
