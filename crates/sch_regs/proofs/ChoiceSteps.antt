@@ -2,6 +2,7 @@
 use Rattle.std.proofs.Common.{◌≡◌, ℕ, zero, suc, ◌+◌, ◌^◌, ◌<◌, ◌≤◌, Option, Some, None, Bool, true, false, List, [], ◌∷◌, ◌++◌, refl, ap, sym, ◌∙◌, arith, subst}
 use Rattle.std.specs.Prelude.{nat_eq, nat_lt, ◌||◌, ◌&&◌, not, cond, map, filter, slice_set, slice_get}
 use Rattle.std.specs.List.{list_all}
+use Rattle.std.specs.Bool.{OnFalse}
 use Rattle.std.proofs.lemmas.Bool.Decides.{nat_tests}
 use Rattle.std.specs.FinSet as set
 use Rattle.std.proofs.lemmas.Bool.{eqb-true, eq-eqb, ne_eqb}
@@ -44,28 +45,19 @@ holder live (w ∷ t) r x l h = by (nat_eq x w.0 && same_place w.1 (Reg r)) refl
       or_left (live w.0 && same_place w.1 (Reg r)) _ (and_of (live w.0) _ (sym (ap live (eqb-true x w.0 (and_left (nat_eq x w.0) _ e))) ∙ l) (and_right (nat_eq x w.0) _ e))
   by false e f h = or_right (live w.0 && same_place w.1 (Reg r)) _ (f h)
 
-pub free_register : (t : Table) (r : ℕ) (s live m : NumberSet) (otherwise : Place) → IsHeld t r s → m ≡ set.intersection s live → m ≡ set.empty
-    → Reg r ≡ cond (held (set.contains live) t r) otherwise (Reg r)
-free_register t r s live m otherwise h meets none =
-    sym (ap (λ b. cond b otherwise (Reg r)) (never_true (held (set.contains live) t r) (λ e.
+-- whether a register is free, by whether its set meets that of what is live
+pub free_register : (live : NumberSet) (t : Table) (r : ℕ) (s m : NumberSet) (free : Bool) → IsHeld t r s → m ≡ set.intersection s live
+    → (free ≡ true → m ≡ set.empty) → OnFalse free (HasMember m) → free ≡ not (held (set.contains live) t r)
+free_register live t r s m true h meets none has =
+    sym (ap not (never_true (held (set.contains live) t r) (λ e.
     let w = held_by (set.contains live) t r e in
-    false_true (sym (ap (λ q. set.contains q w.0) (sym meets ∙ none)) ∙ (contains-intersection s live w.0 ∙ and_of (set.contains s w.0) _ (h w.0 ∙ w.1.1) w.1.0))
+    false_true (sym (ap (λ q. set.contains q w.0) (sym meets ∙ none refl)) ∙ (contains-intersection s live w.0 ∙ and_of (set.contains s w.0) _ (h w.0 ∙ w.1.1) w.1.0))
     (contains-empty w.0))))
-
-pub held_register : (t : Table) (r : ℕ) (s live m : NumberSet) (otherwise : Place) → IsHeld t r s → m ≡ set.intersection s live → HasMember m
-    → otherwise ≡ cond (held (set.contains live) t r) otherwise (Reg r)
-held_register t r s live m otherwise h meets has =
+free_register live t r s m false h meets none has =
     let both : (set.contains s has.0 && set.contains live has.0) ≡ true
     = sym (contains-intersection s live has.0) ∙ (ap (λ q. set.contains q has.0) (sym meets) ∙ has.1) in
-    sym (ap (λ b. cond b otherwise (Reg r))
+    sym (ap not
     (holder (set.contains live) t r has.0 (and_right (set.contains s has.0) _ both) (sym (h has.0) ∙ and_left (set.contains s has.0) _ both)))
-
-pub chain : (live : ℕ → Bool) (t : Table) (n : ℕ) (p0 p1 p2 p3 p4 p5 p6 : Place) → n ≡ slots t → p0 ≡ Slot n → p1 ≡ cond (held live t 7) p0 (Reg 7)
-    → p2 ≡ cond (held live t 6) p1 (Reg 6) → p3 ≡ cond (held live t 10) p2 (Reg 10) → p4 ≡ cond (held live t 9) p3 (Reg 9) → p5 ≡ cond (held live t 8) p4 (Reg 8)
-    → p6 ≡ cond (held live t 3) p5 (Reg 3) → p6 ≡ first_free live t argument_registers
-chain live t n p0 p1 p2 p3 p4 p5 p6 e e0 e1 e2 e3 e4 e5 e6 =
-    e6 ∙ ap (λ p. cond (held live t 3) p (Reg 3)) (e5 ∙ ap (λ p. cond (held live t 8) p (Reg 8)) (e4 ∙ ap (λ p. cond (held live t 9) p (Reg 9))
-    (e3 ∙ ap (λ p. cond (held live t 10) p (Reg 10)) (e2 ∙ ap (λ p. cond (held live t 6) p (Reg 6)) (e1 ∙ ap (λ p. cond (held live t 7) p (Reg 7)) (e0 ∙ ap Slot e))))))
 
 -- ## A variable is given a place
 

@@ -1,6 +1,6 @@
 //! The choice of a place: the first register that holds nothing live, or else the next slot.
 
-ghost use Rattle.std.specs.Prelude.{◌≡◌, ◌*◌, ◌+◌, ◌<◌, ◌^◌, ℕ, ◌∷◌, cond, slice_set};
+ghost use Rattle.std.specs.Prelude.{◌≡◌, ◌*◌, ◌+◌, ◌<◌, ◌^◌, ℕ, ◌∷◌, cond, not, slice_set};
 ghost use Rattle.std.specs.FinSet as set;
 ghost use Rattle.sch_word.specs.declared.place.Place.TheVariants.{Reg};
 ghost use Rattle.sch_word.specs.values.Registers.{argument_registers};
@@ -22,21 +22,11 @@ fn is_register(register: u8, p: Place) -> bool
     }
 }
 
-// A register, unless a variable that is live is in it.
-fn unless_held<const N: usize>(
-    held: &Set<N>,
-    live: &Set<N>,
-    register: u8,
-    otherwise: Place,
-) -> Place
-    ensures { (t : table.Table) → IsHeld t register held.now
-        → result ≡ cond (table.held (set.contains live.now) t register) otherwise (Reg register) }
+// Whether no variable that is live is in a register, by the variables that are in it.
+fn is_free<const N: usize>(held: &Set<N>, live: &Set<N>) -> bool
+    ensures { (t : table.Table) (r : ℕ) → IsHeld t r held.now → result ≡ not (table.held (set.contains live.now) t r) }
 {
-    if held.meet(live).is_empty() {
-        Place::Reg(register)
-    } else {
-        otherwise
-    }
+    held.meet(live).is_empty()
 }
 
 // The first register that holds nothing live, or else the next slot.
@@ -44,13 +34,25 @@ fn first_free<const N: usize>(placing: &Placing<N>, live: &Set<N>) -> Place
     ensures { (count : ℕ) (t : table.Table) → ShowsAll count placing.now t
         → result ≡ table.first_free (set.contains live.now) t argument_registers }
 {
-    let slot = Place::Slot(placing.slots);
-    let rdi = unless_held(&placing.rdi, live, RDI, slot);
-    let rsi = unless_held(&placing.rsi, live, RSI, rdi);
-    let r10 = unless_held(&placing.r10, live, R10, rsi);
-    let r9 = unless_held(&placing.r9, live, R9, r10);
-    let r8 = unless_held(&placing.r8, live, R8, r9);
-    unless_held(&placing.rbx, live, RBX, r8)
+    if is_free(&placing.rbx, live) {
+        return Place::Reg(RBX);
+    }
+    if is_free(&placing.r8, live) {
+        return Place::Reg(R8);
+    }
+    if is_free(&placing.r9, live) {
+        return Place::Reg(R9);
+    }
+    if is_free(&placing.r10, live) {
+        return Place::Reg(R10);
+    }
+    if is_free(&placing.rsi, live) {
+        return Place::Reg(RSI);
+    }
+    if is_free(&placing.rdi, live) {
+        return Place::Reg(RDI);
+    }
+    Place::Slot(placing.slots)
 }
 
 // Adds a variable to those in a register, where that is its place.
