@@ -9,6 +9,7 @@ mod instructions;
 mod moves;
 mod operand_places;
 mod regions;
+mod room;
 mod saves;
 mod variable_places;
 
