@@ -19,7 +19,6 @@ use crate::call_layout::{CLOSURE, LINK, write_call, write_tail_call};
 use crate::instructions::{Writer, leave, new_label, new_writer, put, put_under};
 use crate::operand_places::{members_at, operation_at};
 use crate::regions::Regions;
-use crate::room::expected_length;
 use crate::saves::{write_bound, write_heads, write_members};
 use crate::variable_places::VariablePlaces;
 use sch_control::{Entry, Exp, Member, Operation, arrival};
@@ -315,7 +314,7 @@ pub fn write_region_body<C: Drop, P: VariablePlaces, R: Restores<C>>(
         allocation,
         regions: Regions::Nowhere,
     };
-    let mut out = new_writer(alloc, expected_length(e))?;
+    let mut out = new_writer(alloc)?;
     enter(&allocation.places, entry, &mut out)?;
     lay_region(&around, saves, e, None, &mut out)?;
     Ok(out)

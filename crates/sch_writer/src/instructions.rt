@@ -7,6 +7,9 @@ use sch_frames::Instruction;
 use sch_word::{List, MarkKind, Mem};
 use std::alloc::Global;
 
+/// For how many instructions there is room at first. A form that calls a procedure with an operand has as many.
+const FIRST_ROOM: usize = 8;
+
 /// Instructions as they are written, and how many labels there are among them.
 #[derive(Drop)]
 pub struct Writer {
@@ -14,14 +17,14 @@ pub struct Writer {
     pub labels: u32,
 }
 
-/// Nothing is written yet. There is room for a number of instructions.
-pub(crate) fn new_writer(alloc: Global, room: usize) -> Result<Writer, Mem>
+/// Nothing is written yet.
+pub(crate) fn new_writer(alloc: Global) -> Result<Writer, Mem>
     ensures instructions { IfOk result (λ out. out.instructions ≡ []) }
     ensures labels { IfOk result (λ out. out.labels ≡ 0) }
 {
-    let instructions = Vec::with_capacity(alloc, room)?;
+    let room = Vec::with_capacity(alloc, FIRST_ROOM)?;
     Ok(Writer {
-        instructions: List::from_vec(instructions),
+        instructions: List::from_vec(room),
         labels: 0,
     })
 }
@@ -39,7 +42,6 @@ pub(crate) fn new_label(out: &mut Writer) -> u32
 }
 
 /// One instruction more.
-#[inline(always)]
 pub(crate) fn put(out: &mut Writer, i: Instruction) -> Result<(), Mem>
     ensures instructions { OnOk result (out.new.instructions ≡ out.old.instructions ++ i ∷ []) }
     ensures labels { out.new.labels ≡ out.old.labels }
@@ -49,7 +51,6 @@ pub(crate) fn put(out: &mut Writer, i: Instruction) -> Result<(), Mem>
 }
 
 /// One instruction more, under a mark of its own where there is one.
-#[inline(always)]
 pub(crate) fn put_under(out: &mut Writer, mark: Option<MarkKind>, i: Instruction) -> Result<(), Mem>
     ensures instructions { OnOk result (Writes out.old.instructions out.new.instructions (under mark i)) }
     ensures labels { out.new.labels ≡ out.old.labels }

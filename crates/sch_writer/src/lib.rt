@@ -9,7 +9,6 @@ mod instructions;
 mod moves;
 mod operand_places;
 mod regions;
-mod room;
 mod saves;
 mod variable_places;
 
