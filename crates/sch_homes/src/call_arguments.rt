@@ -29,7 +29,7 @@ fn atom_argument(a: Atom<Place>) -> Argument
 fn atom_arguments(alloc: Global, atoms: &[Atom<Place>]) -> Result<List<Argument>, Mem>
     ensures { IfOk result (λ made. map tree made ≡ map atom_tree atoms.now) }
 {
-    let mut made = List::new(alloc);
+    let mut made = List::from_vec(Vec::with_capacity(alloc, atoms.len())?);
     for a in atoms {
         made.push(atom_argument(*a))?;
     }

@@ -83,7 +83,7 @@ fn moves_from(
 ) -> Result<List<Move>, Mem>
     ensures { IfOk result (λ moves. moves_of moves ≡ map (calls.move_of (arguments_at (place_in lives.now.places.now) a.now)) (transfers_of steps.now)) }
 {
-    let mut moves = List::new(alloc);
+    let mut moves = List::from_vec(Vec::with_capacity(alloc, steps.len())?);
     for step in steps {
         moves.push(move_of(alloc, lives, a, step)?)?;
     }

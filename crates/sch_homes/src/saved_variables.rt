@@ -94,7 +94,7 @@ pub(crate) fn give_homes<const N: usize>(
         ≡ first + count_below (λ x. has_register (slice_get places.now x) && set.contains saved.now x) (length places.now)) }
 {
     let mut given = HomeSlots {
-        homes: List::new(alloc),
+        homes: List::from_vec(Vec::with_capacity(alloc, places.len())?),
         end: first,
     };
     for (x, p) in places.iter().enumerate() {

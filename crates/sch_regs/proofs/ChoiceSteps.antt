@@ -1,7 +1,8 @@
 -- What the sets of variables in registers say of a table, and the steps of a choice.
 use Rattle.std.proofs.Common.{◌≡◌, ℕ, zero, suc, ◌+◌, ◌^◌, ◌<◌, ◌≤◌, Option, Some, None, Bool, true, false, List, [], ◌∷◌, ◌++◌, refl, ap, sym, ◌∙◌, arith, subst}
-use Rattle.std.specs.Prelude.{nat_eq, nat_lt, ◌||◌, ◌&&◌, not, cond, map, filter, slice_set, slice_get}
+use Rattle.std.specs.Prelude.{nat_eq, nat_lt, ◌||◌, ◌&&◌, not, cond, map, filter, slice_set, slice_get, slice_index_or}
 use Rattle.std.specs.List.{list_all}
+use Rattle.std.specs.Bool.{OnFalse}
 use Rattle.std.proofs.lemmas.Bool.Decides.{nat_tests}
 use Rattle.std.specs.FinSet as set
 use Rattle.std.proofs.lemmas.Bool.{eqb-true, eq-eqb, ne_eqb}
@@ -20,7 +21,7 @@ use Rattle.sch_word.specs.values.Places.{is_slot, same_place}
 use Rattle.sch_word.specs.values.Options.{first_or_0}
 use Rattle.sch_regs.specs.NotedSets.{Noted, assign_noted}
 use Rattle.sch_regs.specs.PlaceChoice.{Table, place_in, slots, in_order, held, first_free, choose, choose_each, live_first}
-use Rattle.sch_regs.specs.Shows.{holds, IsHeld, is_wanted}
+use Rattle.sch_regs.specs.Shows.{holds, AreHeld, IsHeld, is_wanted, with_held}
 
 -- ## What is held
 
@@ -44,28 +45,19 @@ holder live (w ∷ t) r x l h = by (nat_eq x w.0 && same_place w.1 (Reg r)) refl
       or_left (live w.0 && same_place w.1 (Reg r)) _ (and_of (live w.0) _ (sym (ap live (eqb-true x w.0 (and_left (nat_eq x w.0) _ e))) ∙ l) (and_right (nat_eq x w.0) _ e))
   by false e f h = or_right (live w.0 && same_place w.1 (Reg r)) _ (f h)
 
-pub free_register : (t : Table) (r : ℕ) (s live m : NumberSet) (otherwise : Place) → IsHeld t r s → m ≡ set.intersection s live → m ≡ set.empty
-    → Reg r ≡ cond (held (set.contains live) t r) otherwise (Reg r)
-free_register t r s live m otherwise h meets none =
-    sym (ap (λ b. cond b otherwise (Reg r)) (never_true (held (set.contains live) t r) (λ e.
+-- whether a register is free, by whether its set meets that of what is live
+pub free_register : (live : NumberSet) (t : Table) (r : ℕ) (s m : NumberSet) (free : Bool) → IsHeld t r s → m ≡ set.intersection s live
+    → (free ≡ true → m ≡ set.empty) → OnFalse free (HasMember m) → free ≡ not (held (set.contains live) t r)
+free_register live t r s m true h meets none has =
+    sym (ap not (never_true (held (set.contains live) t r) (λ e.
     let w = held_by (set.contains live) t r e in
-    false_true (sym (ap (λ q. set.contains q w.0) (sym meets ∙ none)) ∙ (contains-intersection s live w.0 ∙ and_of (set.contains s w.0) _ (h w.0 ∙ w.1.1) w.1.0))
+    false_true (sym (ap (λ q. set.contains q w.0) (sym meets ∙ none refl)) ∙ (contains-intersection s live w.0 ∙ and_of (set.contains s w.0) _ (h w.0 ∙ w.1.1) w.1.0))
     (contains-empty w.0))))
-
-pub held_register : (t : Table) (r : ℕ) (s live m : NumberSet) (otherwise : Place) → IsHeld t r s → m ≡ set.intersection s live → HasMember m
-    → otherwise ≡ cond (held (set.contains live) t r) otherwise (Reg r)
-held_register t r s live m otherwise h meets has =
+free_register live t r s m false h meets none has =
     let both : (set.contains s has.0 && set.contains live has.0) ≡ true
     = sym (contains-intersection s live has.0) ∙ (ap (λ q. set.contains q has.0) (sym meets) ∙ has.1) in
-    sym (ap (λ b. cond b otherwise (Reg r))
+    sym (ap not
     (holder (set.contains live) t r has.0 (and_right (set.contains s has.0) _ both) (sym (h has.0) ∙ and_left (set.contains s has.0) _ both)))
-
-pub chain : (live : ℕ → Bool) (t : Table) (n : ℕ) (p0 p1 p2 p3 p4 p5 p6 : Place) → n ≡ slots t → p0 ≡ Slot n → p1 ≡ cond (held live t 7) p0 (Reg 7)
-    → p2 ≡ cond (held live t 6) p1 (Reg 6) → p3 ≡ cond (held live t 10) p2 (Reg 10) → p4 ≡ cond (held live t 9) p3 (Reg 9) → p5 ≡ cond (held live t 8) p4 (Reg 8)
-    → p6 ≡ cond (held live t 3) p5 (Reg 3) → p6 ≡ first_free live t argument_registers
-chain live t n p0 p1 p2 p3 p4 p5 p6 e e0 e1 e2 e3 e4 e5 e6 =
-    e6 ∙ ap (λ p. cond (held live t 3) p (Reg 3)) (e5 ∙ ap (λ p. cond (held live t 8) p (Reg 8)) (e4 ∙ ap (λ p. cond (held live t 9) p (Reg 9))
-    (e3 ∙ ap (λ p. cond (held live t 10) p (Reg 10)) (e2 ∙ ap (λ p. cond (held live t 6) p (Reg 6)) (e1 ∙ ap (λ p. cond (held live t 7) p (Reg 7)) (e0 ∙ ap Slot e))))))
 
 -- ## A variable is given a place
 
@@ -75,6 +67,46 @@ into_register t r y p s s' here put h x =
 
 pub elsewhere : (t : Table) (r y : ℕ) (p : Place) (s : NumberSet) → same_place p (Reg r) ≡ false → IsHeld t r s → IsHeld ((y, p) ∷ t) r s
 elsewhere t r y p s there h x = h x ∙ ap (λ b. b || holds t r x) (sym (ap (λ b. nat_eq x y && b) there ∙ and-false (nat_eq x y)))
+
+held_after : (t : Table) (r y : ℕ) (p : Place) (s : NumberSet) → IsHeld t r s → IsHeld ((y, p) ∷ t) r (with_held r s y p)
+held_after t r y p s h = by (same_place p (Reg r)) refl where
+  by : (b : Bool) → same_place p (Reg r) ≡ b → IsHeld ((y, p) ∷ t) r (cond b (set.insert s y) s)
+  by true e = into_register t r y p s (set.insert s y) e refl h
+  by false e = elsewhere t r y p s e h
+
+-- the set of one register, which has `k` others before it, once a variable has a place
+abbrev one_after : (y : ℕ) (p : Place) (k register : ℕ) → List NumberSet → List NumberSet
+one_after y p k r sets = slice_set sets k (with_held r (slice_index_or sets k set.empty) y p)
+
+all_after : (t : Table) (y : ℕ) (p : Place) (sets : List NumberSet) → AreHeld t argument_registers sets
+    → AreHeld ((y, p) ∷ t) argument_registers
+    (one_after y p 5 7 (one_after y p 4 6 (one_after y p 3 10 (one_after y p 2 9 (one_after y p 1 8 (one_after y p 0 3 sets))))))
+all_after t y p [] h = absurd h
+all_after t y p (s0 ∷ []) h = absurd h.1
+all_after t y p (s0 ∷ s1 ∷ []) h = absurd h.1.1
+all_after t y p (s0 ∷ s1 ∷ s2 ∷ []) h = absurd h.1.1.1
+all_after t y p (s0 ∷ s1 ∷ s2 ∷ s3 ∷ []) h = absurd h.1.1.1.1
+all_after t y p (s0 ∷ s1 ∷ s2 ∷ s3 ∷ s4 ∷ []) h = absurd h.1.1.1.1.1
+all_after t y p (s0 ∷ s1 ∷ s2 ∷ s3 ∷ s4 ∷ s5 ∷ []) h = (
+  held_after t 3 y p s0 h.0,
+  (
+    held_after t 8 y p s1 h.1.0,
+    (
+      held_after t 9 y p s2 h.1.1.0,
+      (held_after t 10 y p s3 h.1.1.1.0, (held_after t 6 y p s4 h.1.1.1.1.0, (held_after t 7 y p s5 h.1.1.1.1.1.0, tt))),
+    ),
+  ),
+)
+all_after t y p (s0 ∷ s1 ∷ s2 ∷ s3 ∷ s4 ∷ s5 ∷ s6 ∷ sets) h = absurd h.1.1.1.1.1.1
+
+-- the set of each register, from one to the next
+pub all_held : (t : Table) (y : ℕ) (p : Place) (s0 s1 s2 s3 s4 s5 s6 : List NumberSet) → s1 ≡ one_after y p 0 3 s0 → s2 ≡ one_after y p 1 8 s1
+    → s3 ≡ one_after y p 2 9 s2 → s4 ≡ one_after y p 3 10 s3 → s5 ≡ one_after y p 4 6 s4 → s6 ≡ one_after y p 5 7 s5
+    → AreHeld t argument_registers s0 → AreHeld ((y, p) ∷ t) argument_registers s6
+all_held t y p s0 s1 s2 s3 s4 s5 s6 e1 e2 e3 e4 e5 e6 h =
+    subst (AreHeld ((y, p) ∷ t) argument_registers)
+    (sym (e6 ∙ ap (one_after y p 5 7) (e5 ∙ ap (one_after y p 4 6) (e4 ∙ ap (one_after y p 3 10) (e3 ∙ ap (one_after y p 2 9) (e2 ∙ ap (one_after y p 1 8) e1))))))
+    (all_after t y p s0 h)
 
 -- the list of places with one more
 set_listed : (f : ℕ → Place) (p : Place) (k n y : ℕ) → slice_set (map f (numbers k n)) y p ≡ map (λ x. cond (nat_eq x (k + y)) p (f x)) (numbers k n)

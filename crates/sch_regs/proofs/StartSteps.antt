@@ -1,18 +1,24 @@
 -- What the walks over a body begin with.
-use Rattle.std.proofs.Common.{◌≡◌, ℕ, zero, suc, ◌+◌, List, [], ◌∷◌, replicate, refl, ap, ◌∙◌, sym, arith}
+use Rattle.std.proofs.Common.{◌≡◌, ℕ, zero, suc, ◌+◌, List, [], ◌∷◌, replicate, length, subst, refl, ap, ◌∙◌, sym, arith}
 use Rattle.std.specs.Prelude.{map}
 use Rattle.std.specs.FinSet as set
 use Rattle.sch_sets.specs.Members.{NumberSet}
 use Rattle.sch_sets.proofs.Membership.{contains-empty}
 use Rattle.sch_word.specs.trees.Bindings.{numbers}
+use Rattle.sch_word.specs.values.Registers.{argument_registers}
 use Rattle.sch_word.specs.declared.place.Place.{Place}
 use Rattle.sch_word.specs.declared.place.Place.TheVariants.{Reg}
 use Rattle.sch_control.specs.flow.Places.{arrival}
 use Rattle.sch_regs.specs.PlaceChoice.{place_in, in_order, arrived}
-use Rattle.sch_regs.specs.Shows.{IsHeld}
+use Rattle.sch_regs.specs.Shows.{AreHeld}
 
-pub none_held : (r : ℕ) (s : NumberSet) → s ≡ set.empty → IsHeld [] r s
-none_held r s e x = ap (λ q. set.contains q x) e ∙ contains-empty x
+-- no register holds a variable
+none_in : (registers : List ℕ) → AreHeld [] registers (replicate (length registers) set.empty)
+none_in [] = tt
+none_in (r ∷ registers) = (contains-empty, none_in registers)
+
+pub none_held : (sets : List NumberSet) → sets ≡ replicate 6 set.empty → AreHeld [] argument_registers sets
+none_held sets e = subst (AreHeld [] argument_registers) (sym e) (none_in argument_registers)
 
 same_places : (k n : ℕ) → replicate n (Reg 3) ≡ map (place_in []) (numbers k n)
 same_places k zero = refl

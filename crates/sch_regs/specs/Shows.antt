@@ -1,12 +1,13 @@
 -- What the walk over a body keeps, as the table that it stands for.
 use Rattle.std.specs.Prelude.{◌≡◌, ◌<◌, ◌^◌, ℕ, Bool, false, ◌||◌, ◌&&◌, nat_eq, not, cond, filter, List, [], ◌∷◌}
 use Rattle.std.specs.FinSet as set
+use Rattle.sch_word.specs.declared.place.Place.{Place}
 use Rattle.sch_word.specs.declared.place.Place.TheVariants.{Reg}
 use Rattle.sch_word.specs.values.Places.{same_place}
 use Rattle.sch_sets.specs.Members.{NumberSet}
 use Rattle.sch_regs.specs.PlaceChoice.{Table, slots, in_order, choose_each, live_first}
 use Rattle.sch_regs.specs.declared.placing.Placing.{Placing}
-use Rattle.sch_word.specs.declared.registers.TheConstants.{R8, R9, R10, RBX, RDI, RSI}
+use Rattle.sch_word.specs.values.Registers.{argument_registers}
 
 -- a variable is in that register, by some entry of the table
 abbrev pub holds : Table → (register : ℕ) → ℕ → Bool
@@ -17,14 +18,20 @@ holds (w ∷ t) r x = (nat_eq x w.0 && same_place w.1 (Reg r)) || holds t r x
 abbrev pub IsHeld : Table → (register : ℕ) → NumberSet → Type 0
 IsHeld t r s = (x : ℕ) → set.contains s x ≡ holds t r x
 
+-- each of some sets has the variables that are in its register
+abbrev pub AreHeld : Table → (registers : List ℕ) → List NumberSet → Type 0
+AreHeld t [] [] = Unit {0}
+AreHeld t [] (s ∷ sets) = ⊥
+AreHeld t (r ∷ registers) [] = ⊥
+AreHeld t (r ∷ registers) (s ∷ sets) = IsHeld t r s × AreHeld t registers sets
+
+-- the variables that are in a register, once another variable has a place
+abbrev pub with_held : (register : ℕ) → NumberSet → (variable : ℕ) → Place → NumberSet
+with_held register s y p = cond (same_place p (Reg register)) (set.insert s y) s
+
 -- all of it
 pub record ShowsAll {N : ℕ} (count : ℕ) (p : Placing N) (t : Table) : Type 0 where
-  pub rbx : IsHeld t RBX p.rbx.value
-  pub r8 : IsHeld t R8 p.r8.value
-  pub r9 : IsHeld t R9 p.r9.value
-  pub r10 : IsHeld t R10 p.r10.value
-  pub rsi : IsHeld t RSI p.rsi.value
-  pub rdi : IsHeld t RDI p.rdi.value
+  pub held : AreHeld t argument_registers p.held.items
   pub slots : p.slots ≡ slots t
   pub places : p.places.items ≡ in_order count t
 

@@ -1,17 +1,17 @@
 //! The choice of a place: the first register that holds nothing live, or else the next slot.
 
-ghost use Rattle.std.specs.Prelude.{◌≡◌, ◌*◌, ◌+◌, ◌<◌, ◌^◌, ℕ, ◌∷◌, cond, slice_set};
+ghost use Rattle.std.specs.Prelude.{◌≡◌, ◌*◌, ◌+◌, ◌<◌, ◌^◌, ℕ, ◌∷◌, cond, not, slice_index_or, slice_set};
 ghost use Rattle.std.specs.FinSet as set;
-ghost use Rattle.sch_word.specs.declared.place.Place.TheVariants.{Reg};
+ghost use Rattle.sch_word.specs.declared.place.Place.TheVariants.{Reg, Slot};
 ghost use Rattle.sch_word.specs.values.Registers.{argument_registers};
 ghost use Rattle.sch_word.specs.values.Places.{is_slot, same_place};
 ghost use Rattle.sch_regs.specs.PlaceChoice as table;
-ghost use Rattle.sch_regs.specs.Shows.{Becomes, IsHeld, ShowsAll};
+ghost use Rattle.sch_regs.specs.Shows.{AreHeld, Becomes, IsHeld, with_held};
 
 use crate::placing::Placing;
 use sch_sets::Set;
-use sch_word::Place;
 use sch_word::registers::{R8, R9, R10, RBX, RDI, RSI};
+use sch_word::{ARGUMENT_REGISTERS, Place};
 
 fn is_register(register: u8, p: Place) -> bool
     ensures { result ≡ same_place p (Reg register) }
@@ -22,44 +22,43 @@ fn is_register(register: u8, p: Place) -> bool
     }
 }
 
-// A register, unless a variable that is live is in it.
-fn unless_held<const N: usize>(
-    held: &Set<N>,
+// Whether no variable that is live is in a register, by the variables that are in it.
+fn is_free<const N: usize>(held: &Set<N>, live: &Set<N>) -> bool
+    ensures { (t : table.Table) (r : ℕ) → IsHeld t r held.now → result ≡ not (table.held (set.contains live.now) t r) }
+{
+    held.meet(live).is_empty()
+}
+
+// The first of some registers that holds nothing live, by the variables that are in each of them, or else the next slot.
+fn first_free<const N: usize>(
+    registers: &[u8],
+    held: &[Set<N>],
     live: &Set<N>,
-    register: u8,
-    otherwise: Place,
+    slot: Place,
 ) -> Place
-    ensures { (t : table.Table) → IsHeld t register held.now
-        → result ≡ cond (table.held (set.contains live.now) t register) otherwise (Reg register) }
+    ensures { (t : table.Table) → AreHeld t registers.now held.now → slot ≡ Slot (table.slots t)
+        → result ≡ table.first_free (set.contains live.now) t registers.now }
 {
-    if held.meet(live).is_empty() {
-        Place::Reg(register)
-    } else {
-        otherwise
+    let [register, registers @ ..] = registers else {
+        return slot;
+    };
+    let [first, held @ ..] = held else {
+        return slot;
+    };
+    if is_free(first, live) {
+        return Place::Reg(*register);
     }
+    first_free(registers, held, live, slot)
 }
 
-// The first register that holds nothing live, or else the next slot.
-fn first_free<const N: usize>(placing: &Placing<N>, live: &Set<N>) -> Place
-    ensures { (count : ℕ) (t : table.Table) → ShowsAll count placing.now t
-        → result ≡ table.first_free (set.contains live.now) t argument_registers }
-{
-    let slot = Place::Slot(placing.slots);
-    let rdi = unless_held(&placing.rdi, live, RDI, slot);
-    let rsi = unless_held(&placing.rsi, live, RSI, rdi);
-    let r10 = unless_held(&placing.r10, live, R10, rsi);
-    let r9 = unless_held(&placing.r9, live, R9, r10);
-    let r8 = unless_held(&placing.r8, live, R8, r9);
-    unless_held(&placing.rbx, live, RBX, r8)
-}
-
-// Adds a variable to those in a register, where that is its place.
-fn hold<const N: usize>(held: &mut Box<Set<N>>, register: u8, y: u32, p: Place)
+// Adds a variable to those in a register, where that is its place. There are `k` registers before it.
+fn hold<const N: usize>(held: &mut Vec<Set<N>>, k: usize, register: u8, y: u32, p: Place)
     requires { y < 64 * N }
-    ensures { (t : table.Table) → IsHeld t register held.old.value → IsHeld ((y, p) ∷ t) register held.new.value }
+    ensures { held.new.items
+        ≡ slice_set held.old.items k (with_held register (slice_index_or held.old.items k set.empty) y p) }
 {
-    if is_register(register, p) {
-        held.insert(y);
+    if k < held.len() && is_register(register, p) {
+        held[k].insert(y);
     }
 }
 
@@ -69,12 +68,12 @@ pub(crate) fn give<const N: usize>(placing: &mut Placing<N>, y: u32, p: Place)
     requires within { y < 64 * N }
     ensures { Becomes placing.old placing.new (λ t. (y, p) ∷ t) }
 {
-    hold(&mut placing.rbx, RBX, y, p);
-    hold(&mut placing.r8, R8, y, p);
-    hold(&mut placing.r9, R9, y, p);
-    hold(&mut placing.r10, R10, y, p);
-    hold(&mut placing.rsi, RSI, y, p);
-    hold(&mut placing.rdi, RDI, y, p);
+    hold(&mut placing.held, 0, RBX, y, p);
+    hold(&mut placing.held, 1, R8, y, p);
+    hold(&mut placing.held, 2, R9, y, p);
+    hold(&mut placing.held, 3, R10, y, p);
+    hold(&mut placing.held, 4, RSI, y, p);
+    hold(&mut placing.held, 5, RDI, y, p);
     set_place(&mut placing.places, y, p);
     placing.slots = count_slot(placing.slots, p);
 }
@@ -103,6 +102,7 @@ pub(crate) fn choose<const N: usize>(placing: &mut Placing<N>, live: &Set<N>, y:
     requires { y < 64 * N }
     ensures { Becomes placing.old placing.new (table.choose (set.contains live.now) y) }
 {
-    let p = first_free(placing, live);
+    let slot = Place::Slot(placing.slots);
+    let p = first_free(&ARGUMENT_REGISTERS, placing.held.as_slice(), live, slot);
     give(placing, y, p);
 }

@@ -3,16 +3,11 @@
 use sch_sets::Set;
 use sch_word::Place;
 
-/// The places of variables by their numbers, how many of them are slots, and the variables in each of the six registers. The
-/// sets are on the heap, as they are large.
+/// The places of variables by their numbers, how many of them are slots, and the variables in each of `ARGUMENT_REGISTERS`, in
+/// their order.
 #[derive(Drop)]
 pub(crate) struct Placing<const N: usize> {
     pub places: Vec<Place>,
     pub slots: u32,
-    pub rbx: Box<Set<N>>,
-    pub r8: Box<Set<N>>,
-    pub r9: Box<Set<N>>,
-    pub r10: Box<Set<N>>,
-    pub rsi: Box<Set<N>>,
-    pub rdi: Box<Set<N>>,
+    pub held: Vec<Set<N>>,
 }

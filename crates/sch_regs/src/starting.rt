@@ -13,7 +13,7 @@ use crate::placing::Placing;
 use sch_control::{Entry, arrival};
 use sch_sets::Set;
 use sch_word::registers::RBX;
-use sch_word::{CLOSURE_REGISTER, LINK_REGISTER, Mem, Place};
+use sch_word::{ARGUMENT_REGISTERS, CLOSURE_REGISTER, LINK_REGISTER, Mem, Place};
 use std::alloc::Global;
 
 // A list in which each number counts as being in RBX.
@@ -27,22 +27,15 @@ fn unplaced(alloc: Global, variables: u32) -> Result<Vec<Place>, Mem>
     Ok(places)
 }
 
-/// An empty set for each variable.
-pub(crate) fn none_noted<const N: usize>(alloc: Global, variables: u32) -> Result<Vec<Set<N>>, Mem>
-    ensures { IfOk result (λ sets. sets.items ≡ replicate variables set.empty) }
+/// An empty set for each of a number of variables or registers.
+pub(crate) fn none_noted<const N: usize>(alloc: Global, count: u32) -> Result<Vec<Set<N>>, Mem>
+    ensures { IfOk result (λ sets. sets.items ≡ replicate count set.empty) }
 {
-    let mut sets = Vec::with_capacity(alloc, variables as usize)?;
-    for done in 0..variables {
+    let mut sets = Vec::with_capacity(alloc, count as usize)?;
+    for done in 0..count {
         sets.push(Set::new())?;
     }
     Ok(sets)
-}
-
-// An empty set on the heap.
-fn no_variables<const N: usize>(alloc: Global) -> Result<Box<Set<N>>, Mem>
-    ensures { IfOk result (λ b. b.value ≡ set.empty) }
-{
-    Ok(Box::new(alloc, Set::new())?)
 }
 
 // No variable has a place.
@@ -51,21 +44,11 @@ fn none_placed<const N: usize>(alloc: Global, variables: u32) -> Result<Placing<
     ensures { IfOk result (λ p. Shows variables p []) }
 {
     let places = unplaced(alloc, variables)?;
-    let rbx = no_variables(alloc)?;
-    let r8 = no_variables(alloc)?;
-    let r9 = no_variables(alloc)?;
-    let r10 = no_variables(alloc)?;
-    let rsi = no_variables(alloc)?;
-    let rdi = no_variables(alloc)?;
+    let held = none_noted(alloc, ARGUMENT_REGISTERS.len() as u32)?;
     Ok(Placing {
         places,
         slots: 0,
-        rbx,
-        r8,
-        r9,
-        r10,
-        rsi,
-        rdi,
+        held,
     })
 }
 

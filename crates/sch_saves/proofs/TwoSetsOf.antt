@@ -3,7 +3,7 @@ use Rattle.std.proofs.Common.{◌≡◌, ℕ, Bool, true, false, List, Some, Non
 use Rattle.std.specs.Prelude.{nat_lt, ◌||◌, ◌&&◌, filter}
 use Rattle.std.specs.FinSet as set
 use Rattle.sch_sets.specs.Members.{NumberSet}
-use Rattle.sch_sets.proofs.Membership.{contains-empty, contains-union, contains-intersection}
+use Rattle.sch_sets.proofs.Membership.{same_tests, contains-empty, contains-union, contains-intersection}
 use Rattle.sch_word.specs.trees.NumberSets.{has}
 use Rattle.sch_word.specs.trees.Bindings.{numbers}
 use Rattle.sch_word.proofs.facts.Booleans.{and_true}
@@ -27,6 +27,11 @@ both_needed n e s t is =
       by : (v : Bool) → v ≡ true → (p q : Bool) → ((v && p) && (v && q)) ≡ (p && q)
       by true h p q = refl
       by false h p q = absurd (cc)
+
+-- nothing more is needed
+pub none_before : (before s : NumberSet) → before ≡ set.empty → s ≡ set.union before s
+none_before before s none =
+    same_tests s (set.union before s) (λ x. sym (contains-union before s x ∙ ap (λ b. b || set.contains s x) (ap (λ z. set.contains z x) none ∙ contains-empty x)))
 
 -- ## Bools
 

@@ -38,12 +38,22 @@ fn clear<const N: usize>(on_true: &mut Set<N>, on_false: &mut Set<N>)
     *on_false = Set::new();
 }
 
-// What an expression and then another one need, for a result of the other one.
+// Adds to what an expression needs, for each of its results, what the one before it needs. That is nothing, unless a call is in it.
 #[inline(never)]
-fn need_then<const N: usize>(on_true: &Set<N>, on_false: &Set<N>, next: &mut Set<N>)
-    ensures { next.new ≡ set.union (set.intersection on_true.now on_false.now) next.old }
+fn need_before<const N: usize>(
+    before_true: &Set<N>,
+    before_false: &Set<N>,
+    on_true: &mut Set<N>,
+    on_false: &mut Set<N>,
+)
+    ensures on_true { on_true.new ≡ set.union (set.intersection before_true.now before_false.now) on_true.old }
+    ensures on_false { on_false.new ≡ set.union (set.intersection before_true.now before_false.now) on_false.old }
 {
-    *next = on_true.meet(on_false).union(next);
+    let before = before_true.meet(before_false);
+    if !before.is_empty() {
+        *on_true = before.union(on_true);
+        *on_false = before.union(on_false);
+    }
 }
 
 // What a test and then one of two arms need, for a result of the arms.
@@ -144,15 +154,13 @@ pub(crate) fn with_needs<const N: usize>(
         Exp::Bind(x, a, b) => {
             let a = with_needs(alloc, variables, a, &mut before_true, &mut before_false)?;
             let b = with_needs(alloc, variables, b, on_true, on_false)?;
-            need_then(&before_true, &before_false, on_true);
-            need_then(&before_true, &before_false, on_false);
+            need_before(&before_true, &before_false, on_true, on_false);
             boxed_bind(alloc, *x, a, b)
         }
         Exp::Seq(a, b) => {
             let a = with_needs(alloc, variables, a, &mut before_true, &mut before_false)?;
             let b = with_needs(alloc, variables, b, on_true, on_false)?;
-            need_then(&before_true, &before_false, on_true);
-            need_then(&before_true, &before_false, on_false);
+            need_before(&before_true, &before_false, on_true, on_false);
             boxed_seq(alloc, a, b)
         }
         Exp::If(a, b, c) => {

@@ -7,13 +7,11 @@ ghost use Rattle.sch_control.specs.flow.Middle.{listed};
 ghost use Rattle.sch_control.specs.flow.Regions.{SavesBelow};
 ghost use Rattle.sch_saves.specs.LazyRegions as lazily;
 
-use crate::regions::with_region;
-use sch_control::{
-    Exp, boxed, boxed_bind, boxed_end, boxed_fix, boxed_if, boxed_return, boxed_seq, with_all,
-};
+use sch_control::{Exp, Operation, with_all};
 use sch_sets::Set;
 use sch_word::{List, Mem};
 use std::alloc::Global;
+use std::mem;
 
 // Adds a variable that is not in a set.
 fn push_other<const N: usize>(s: &Set<N>, x: u32, xs: &mut List<u32>) -> Result<(), Mem>
@@ -38,51 +36,44 @@ fn others<const N: usize>(alloc: Global, s: &Set<N>, xs: &[u32]) -> Result<List<
     Ok(ys)
 }
 
-/// An expression whose regions save nothing that a region round them saves; `inside` has the variables of the regions
-/// round the expression.
-pub(crate) fn outermost<const N: usize>(
+/// Takes out of each region what a region round it saves, and takes out each region that is left with nothing; `inside` has
+/// the variables of the regions round the expression.
+pub(crate) fn keep_outermost<const N: usize>(
     alloc: Global,
-    e: Box<Exp<Set<N>>>,
+    e: &mut Exp<Set<N>>,
     inside: &Set<N>,
-) -> Result<Box<Exp<Set<N>>>, Mem>
-    requires below { SavesBelow (64 * N) (listed e.value) }
-    ensures made { IfOk result (λ r. listed r.value ≡ lazily.outermost (λ x. set.contains inside.now x) (listed e.entry.value)) }
+) -> Result<(), Mem>
+    requires below { SavesBelow (64 * N) (listed e.old) }
+    ensures made { OnOk result (listed e.new ≡ lazily.outermost (λ x. set.contains inside.now x) (listed e.old)) }
 {
-    match Box::into_inner(e) {
-        Exp::Bind(x, a, b) => {
-            let a = outermost(alloc, a, inside)?;
-            let b = outermost(alloc, b, inside)?;
-            boxed_bind(alloc, x, a, b)
+    match e {
+        Exp::Do(_) | Exp::Call(_, _) | Exp::TailCall(_) => {}
+        Exp::Bind(_, a, b) => {
+            keep_outermost(alloc, a, inside)?;
+            keep_outermost(alloc, b, inside)?;
         }
         Exp::Seq(a, b) => {
-            let a = outermost(alloc, a, inside)?;
-            let b = outermost(alloc, b, inside)?;
-            boxed_seq(alloc, a, b)
+            keep_outermost(alloc, a, inside)?;
+            keep_outermost(alloc, b, inside)?;
         }
         Exp::If(a, b, c) => {
-            let a = outermost(alloc, a, inside)?;
-            let b = outermost(alloc, b, inside)?;
-            let c = outermost(alloc, c, inside)?;
-            boxed_if(alloc, a, b, c)
+            keep_outermost(alloc, a, inside)?;
+            keep_outermost(alloc, b, inside)?;
+            keep_outermost(alloc, c, inside)?;
         }
-        Exp::Fix(members, e) => {
-            let e = outermost(alloc, e, inside)?;
-            boxed_fix(alloc, members, e)
-        }
-        Exp::Return(e) => {
-            let e = outermost(alloc, e, inside)?;
-            boxed_return(alloc, e)
-        }
-        Exp::End(e) => {
-            let e = outermost(alloc, e, inside)?;
-            boxed_end(alloc, e)
-        }
-        Exp::Save(saves, e) => {
+        Exp::Fix(_, e) => keep_outermost(alloc, e, inside)?,
+        Exp::Return(e) => keep_outermost(alloc, e, inside)?,
+        Exp::End(e) => keep_outermost(alloc, e, inside)?,
+        Exp::Save(saves, body) => {
             let kept = others(alloc, inside, saves.as_slice())?;
             let within = with_all(inside, saves.as_slice());
-            let e = outermost(alloc, e, &within)?;
-            with_region(alloc, kept, e)
+            keep_outermost(alloc, body, &within)?;
+            if kept.is_empty() {
+                *e = mem::replace(&mut **body, Exp::Do(Operation::UnsetCell));
+            } else {
+                *saves = kept;
+            }
         }
-        e => boxed(alloc, e),
     }
+    Ok(())
 }

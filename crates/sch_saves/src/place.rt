@@ -11,7 +11,7 @@ ghost use Rattle.sch_paths.specs.PlainlySame.{PlainlySame};
 ghost use Rattle.sch_saves.specs.Promises.{EachSaveFollowed};
 
 use crate::needs::{surround, with_needs};
-use crate::outermost::outermost;
+use crate::outermost::keep_outermost;
 use crate::variables::{Variables, first_variables};
 use sch_control::{Exp, LiveBody, SavedBody};
 use sch_sets::Set;
@@ -31,8 +31,9 @@ fn lazily_saved<const N: usize>(
     let mut on_true = Set::new();
     let mut on_false = Set::new();
     let marked = with_needs(alloc, &variables, e, &mut on_true, &mut on_false)?;
-    let whole = surround(alloc, &variables, &on_true, &on_false, marked)?;
-    outermost(alloc, whole, &Set::new())
+    let mut whole = surround(alloc, &variables, &on_true, &on_false, marked)?;
+    keep_outermost(alloc, &mut whole, &Set::new())?;
+    Ok(whole)
 }
 
 /// The body with regions that save, each round the body or an arm of a test: of what each path through it has a call

@@ -25,7 +25,7 @@ fn atoms_at<P: VariablePlaces>(
 ) -> Result<List<Atom<Place>>, Mem>
     ensures { IfOk result (λ made. made ≡ atoms_at (P.plan places.now).place atoms.now) }
 {
-    let mut made = List::new(alloc);
+    let mut made = List::from_vec(Vec::with_capacity(alloc, atoms.len())?);
     for a in atoms {
         made.push(atom_at(places, a))?;
     }
@@ -56,7 +56,7 @@ fn operands_at<P: VariablePlaces>(
 ) -> Result<List<Operand<Place>>, Mem>
     ensures { IfOk result (λ made. made ≡ operands_at (P.plan places.now).place operands.now) }
 {
-    let mut made = List::new(alloc);
+    let mut made = List::from_vec(Vec::with_capacity(alloc, operands.len())?);
     for o in operands {
         made.push(operand_at(alloc, places, o)?)?;
     }
@@ -79,7 +79,7 @@ fn sources_at<P: VariablePlaces>(
 ) -> Result<List<Source<Place>>, Mem>
     ensures { IfOk result (λ made. made ≡ sources_at (P.plan places.now).place sources.now) }
 {
-    let mut made = List::new(alloc);
+    let mut made = List::from_vec(Vec::with_capacity(alloc, sources.len())?);
     for c in sources {
         made.push(source_at(places, c))?;
     }
@@ -120,7 +120,7 @@ pub(crate) fn members_at<P: VariablePlaces>(
 ) -> Result<List<Member<Place>>, Mem>
     ensures { IfOk result (λ made. made ≡ members_at (P.plan places.now).place members.now) }
 {
-    let mut made = List::new(alloc);
+    let mut made = List::from_vec(Vec::with_capacity(alloc, members.len())?);
     for m in members {
         made.push(member_at(alloc, places, m)?)?;
     }

@@ -9,7 +9,7 @@ pub returns-in_ok-b-in-Bind-clause-sets : goal.returns-in_ok-b-in-Bind-clause-se
 returns-in_ok-b-in-Bind-clause-sets g t c =
     IfOk-weaker c.boxed_bind.result _ _
     (λ x l. equal_tree c.args.variables.now.count _ _ _ _ (ap listed c.in-Bind.is)
-    (bind_sets c.args.variables.now.count c.in-Bind.x (listed c.in-Bind.a.value) (listed c.in-Bind.b.value) _ _ _ _ _ _ c.need_then.ensures c.need_then-in-Bind.ensures
+    (bind_sets c.args.variables.now.count c.in-Bind.x (listed c.in-Bind.a.value) (listed c.in-Bind.b.value) _ _ _ _ _ _ c.need_before.ensures.on_true c.need_before.ensures.on_false
     (equal_tree c.args.variables.now.count (listed c.in-Bind.a.value) _ _ _ (ap listed (sym c.deref.ensures)) c.in_ok-a-in-Bind.ensures.sets)
     (equal_tree c.args.variables.now.count (listed c.in-Bind.b.value) _ _ _ (ap listed (sym c.deref-in-Bind.ensures)) c.in_ok-b-in-Bind.ensures.sets)))
     c.boxed_bind.ensures
@@ -18,7 +18,7 @@ pub returns-in_ok-b-in-Seq-clause-sets : goal.returns-in_ok-b-in-Seq-clause-sets
 returns-in_ok-b-in-Seq-clause-sets g t c =
     IfOk-weaker c.boxed_seq.result _ _
     (λ x l. equal_tree c.args.variables.now.count _ _ _ _ (ap listed c.in-Seq.is)
-    (sequence_sets c.args.variables.now.count (listed c.in-Seq.a.value) (listed c.in-Seq.b.value) _ _ _ _ _ _ c.need_then-in-Seq.ensures c.need_then-in-Seq-2.ensures
+    (sequence_sets c.args.variables.now.count (listed c.in-Seq.a.value) (listed c.in-Seq.b.value) _ _ _ _ _ _ c.need_before-in-Seq.ensures.on_true c.need_before-in-Seq.ensures.on_false
     (equal_tree c.args.variables.now.count (listed c.in-Seq.a.value) _ _ _ (ap listed (sym c.deref-in-Seq.ensures)) c.in_ok-a-in-Seq.ensures.sets)
     (equal_tree c.args.variables.now.count (listed c.in-Seq.b.value) _ _ _ (ap listed (sym c.deref-in-Seq-2.ensures)) c.in_ok-b-in-Seq.ensures.sets)))
     c.boxed_seq.ensures
