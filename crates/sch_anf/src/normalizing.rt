@@ -248,6 +248,9 @@ fn normalize_dropped(
     ensures next { OnOk result (v.new.next ≡ v.old.next + cond (specs.ends_in_call (tree e.now)) (suc (binds (tree e.now))) (binds (tree e.now))) }
     ensures scope { OnOk result (v.new.bound.items ≡ v.old.bound.items) }
 {
+    if matches!(e, Exp::Constant(_) | Exp::Literal(_)) {
+        return Ok(());
+    }
     if ends_in_call(e) {
         normalize_bound(alloc, starts, e, v, steps)?;
         return Ok(());
@@ -285,7 +288,7 @@ fn normalize_parts(
     if count == 0 {
         return read_atom(alloc, tail, Atom::Constant(Const::Unspecified));
     }
-    let mut steps = Vec::with_capacity(alloc, count - 1)?;
+    let mut steps = Vec::new(alloc);
     for i in 0..count - 1 {
         normalize_dropped(alloc, starts, &items[i], v, &mut steps)?;
     }

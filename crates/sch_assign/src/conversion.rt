@@ -5,6 +5,7 @@ ghost use Rattle.sch_cells.specs.Tree as plain;
 ghost use Rattle.sch_cells.specs.View.{tree, trees_of, lambdas_of};
 ghost use Rattle.sch_assign.specs.Converted.{Low, and_cell, cells_for, empty_cells, wrapped, filling, converted, converted_each, converted_lambdas};
 ghost use Rattle.sch_assign.specs.InRange.{InRange, EachInRange, LambdasInRange};
+ghost use Rattle.sch_assign.specs.Kinds.{IsLet, IsRecursive};
 ghost use Rattle.sch_assign.specs.Table.{table};
 
 use crate::marking::variable_at;
@@ -191,23 +192,72 @@ fn convert(alloc: Global, celled: &[bool], n: u32, e: &Exp) -> Result<Exp, Mem>
             let parts = convert_each(alloc, celled, n, parts)?;
             Ok(Exp::Seq(parts))
         }
-        Exp::Let {
+        Exp::Let { .. } => convert_let(alloc, celled, n, e),
+        Exp::Fix { .. } | Exp::Rec { .. } => convert_recursive(alloc, celled, n, e),
+        Exp::Lambda(l) => convert_procedure(alloc, celled, n, l),
+        Exp::Call {
             site,
-            first,
-            inits,
-            body,
+            spread,
+            operator,
+            operands,
         } => {
-            let cs = cells(alloc, celled, n, *first, count(inits))?;
-            let inits = convert_each(alloc, celled, n, inits)?;
-            let body = convert_boxed(alloc, celled, n, body)?;
-            let body = wrap(alloc, cs, body)?;
-            Ok(Exp::Let {
+            let operator = convert_boxed(alloc, celled, n, operator)?;
+            let operands = convert_each(alloc, celled, n, operands)?;
+            Ok(Exp::Call {
                 site: *site,
-                first: *first,
-                inits,
-                body,
+                spread: *spread,
+                operator,
+                operands,
             })
         }
+        Exp::Prim(site, which, operands) => {
+            let operands = convert_each(alloc, celled, n, operands)?;
+            Ok(Exp::Prim(*site, *which, operands))
+        }
+        Exp::NewCells(_, _) | Exp::CellGet(_) | Exp::CellSet(_, _) => unreachable!(),
+    }
+}
+
+// The same for a Let. As functions of their own, this and the next two keep the frames of the walk small.
+#[cycle(converting)]
+#[inline(never)]
+fn convert_let(alloc: Global, celled: &[bool], n: u32, e: &Exp) -> Result<Exp, Mem>
+    requires kind { IsLet (tree e.now) }
+    requires within { InRange n (tree e.now) }
+    requires few { n + n < 2 ^ 32 }
+    ensures { IfOk result (λ q. tree q ≡ converted (table celled.now) n (tree e.now)) }
+{
+    let Exp::Let {
+        site,
+        first,
+        inits,
+        body,
+    } = e
+    else {
+        unreachable!();
+    };
+    let cs = cells(alloc, celled, n, *first, count(inits))?;
+    let inits = convert_each(alloc, celled, n, inits)?;
+    let body = convert_boxed(alloc, celled, n, body)?;
+    let body = wrap(alloc, cs, body)?;
+    Ok(Exp::Let {
+        site: *site,
+        first: *first,
+        inits,
+        body,
+    })
+}
+
+// The same for a group of procedures and for a Rec.
+#[cycle(converting)]
+#[inline(never)]
+fn convert_recursive(alloc: Global, celled: &[bool], n: u32, e: &Exp) -> Result<Exp, Mem>
+    requires kind { IsRecursive (tree e.now) }
+    requires within { InRange n (tree e.now) }
+    requires few { n + n < 2 ^ 32 }
+    ensures { IfOk result (λ q. tree q ≡ converted (table celled.now) n (tree e.now)) }
+{
+    match e {
         Exp::Fix {
             first,
             lambdas,
@@ -234,31 +284,22 @@ fn convert(alloc: Global, celled: &[bool], n: u32, e: &Exp) -> Result<Exp, Mem>
             let parts = fill(alloc, n, *first, count, body)?;
             recursive(alloc, cs, *site, *first, inits, parts)
         }
-        Exp::Lambda(l) => {
-            let l = convert_lambda(alloc, celled, n, l)?;
-            Ok(Exp::Lambda(Box::new(alloc, l)?))
-        }
-        Exp::Call {
-            site,
-            spread,
-            operator,
-            operands,
-        } => {
-            let operator = convert_boxed(alloc, celled, n, operator)?;
-            let operands = convert_each(alloc, celled, n, operands)?;
-            Ok(Exp::Call {
-                site: *site,
-                spread: *spread,
-                operator,
-                operands,
-            })
-        }
-        Exp::Prim(site, which, operands) => {
-            let operands = convert_each(alloc, celled, n, operands)?;
-            Ok(Exp::Prim(*site, *which, operands))
-        }
-        Exp::NewCells(_, _) | Exp::CellGet(_) | Exp::CellSet(_, _) => unreachable!(),
+        _ => unreachable!(),
     }
+}
+
+// A procedure on the heap.
+#[cycle(converting)]
+#[inline(never)]
+fn convert_procedure(alloc: Global, celled: &[bool], n: u32, l: &Lambda) -> Result<Exp, Mem>
+    requires low { Low n l.now.first l.now.formals }
+    requires within { InRange n (tree l.now.body) }
+    requires few { n + n < 2 ^ 32 }
+    ensures { IfOk result (λ q. tree q ≡
+        converted (table celled.now) n (plain.lambda l.now.name l.now.first l.now.formals l.now.rest (tree l.now.body))) }
+{
+    let l = convert_lambda(alloc, celled, n, l)?;
+    Ok(Exp::Lambda(Box::new(alloc, l)?))
 }
 
 // The same on the heap. As a function of its own it keeps the frames of the walk small.

@@ -1,6 +1,6 @@
 //! From tokens to data: one token after another, with a stack of what is open.
 
-ghost use Rattle.std.specs.Prelude.{◌≡◌, ◌+◌, ◌<◌, ◌≤◌, [], ◌∷◌, OnOk, reverse, vec_len};
+ghost use Rattle.std.specs.Prelude.{◌≡◌, ◌+◌, ◌<◌, ◌≤◌, [], ◌∷◌, IsTrue, OnOk, reverse, vec_len};
 ghost use Rattle.sch_read.specs.Text.{max_nesting};
 
 use crate::datum::Datum;
@@ -29,6 +29,39 @@ pub(crate) enum Frame {
     Waiting(u32),
 }
 
+impl Frame {
+    ghost use Rattle.sch_read.specs.Parser.Stack.{is_row, is_tail, with_item};
+    ghost use Rattle.sch_read.specs.Parser.StackView.{frame_of};
+    ghost use Rattle.sch_read.specs.Views.{tree_of};
+
+    /// Whether it is a list with the datum after its dot.
+    fn is_tail(&self) -> bool
+        ensures { result ≡ is_tail (frame_of self.now) }
+    {
+        matches!(self, Frame::Tail(_, _, _))
+    }
+
+    /// Whether it takes one datum after another.
+    fn is_row(&self) -> bool
+        ensures { result ≡ is_row (frame_of self.now) }
+    {
+        matches!(self, Frame::Items(_, _) | Frame::Elements(_, _))
+    }
+
+    /// A datum goes into it.
+    #[tactic(auto, using(crate::proofs::DataLists::data_of_push))]
+    fn put(&mut self, d: Datum) -> Result<(), Mem>
+        requires { IsTrue (is_row (frame_of self.old)) }
+        ensures { OnOk result (frame_of self.new ≡ with_item (frame_of self.old) (tree_of d)) }
+    {
+        match self {
+            Frame::Items(_, items) => items.push(d),
+            Frame::Elements(_, items) => items.push(d),
+            _ => unreachable!(),
+        }
+    }
+}
+
 /// The levels that may still be opened, what is open, the innermost last, and the data before.
 #[derive(Drop)]
 pub(crate) struct Parser {
@@ -40,7 +73,7 @@ pub(crate) struct Parser {
 }
 
 impl Parser {
-    ghost use Rattle.sch_read.specs.Parser.Stack.{put, shut, start, in_list, in_vector, in_tail, at_top, read_dot, step};
+    ghost use Rattle.sch_read.specs.Parser.Stack.{put, shut, start, in_list, in_vector, in_tail, at_top, read_dot, step, is_behind_tail};
     ghost use Rattle.sch_read.specs.Grammar.{none, Open};
     ghost use Rattle.sch_read.specs.Views.{tree_of, data_of};
     ghost use Rattle.sch_read.specs.Parser.StackView.{state_of, stack_of, frame_of, StepsTo};
@@ -59,8 +92,20 @@ impl Parser {
     }
 
     /// A datum is whole: it goes into what is open.
-    #[tactic(auto, using(crate::proofs::DataLists::data_of_push, crate::proofs::FrameStack::stack_of_push))]
     fn put(&mut self, d: Datum) -> Result<(), Mem>
+        ensures { OnOk result (state_of self.new ≡ put self.old.spare (tree_of d) (stack_of self.old.frames.items) (data_of self.old.top)) }
+    {
+        let open = self.frames.len();
+        if open > 0 && self.frames[open - 1].is_row() {
+            self.frames[open - 1].put(d)?;
+            return Ok(());
+        }
+        self.put_out(d)
+    }
+
+    /// The same, through the quotes that wait for it.
+    #[tactic(auto, using(crate::proofs::DataLists::data_of_push, crate::proofs::FrameStack::stack_of_push))]
+    fn put_out(&mut self, d: Datum) -> Result<(), Mem>
         ensures { OnOk result (state_of self.new ≡ put self.old.spare (tree_of d) (stack_of self.old.frames.items) (data_of self.old.top)) }
     {
         let mut d = d;
@@ -161,12 +206,6 @@ impl Parser {
                 Ok(())
             }
             Token::Dot => self.read_dot(place, items, at),
-            Token::Plain(value) => {
-                let mut items = items;
-                items.push(plain(at, value))?;
-                self.push(Frame::Items(place, items))?;
-                Ok(())
-            }
             token => {
                 self.push(Frame::Items(place, items))?;
                 self.start(at, token)
@@ -264,12 +303,23 @@ impl Parser {
         }
     }
 
-    /// A token.
-    #[tactic(auto, using(crate::proofs::FrameStack::stack_of_push))]
+    /// Whether the innermost is a list with the datum after its dot.
+    fn is_behind_tail(&self) -> bool
+        ensures { result ≡ is_behind_tail (stack_of self.now.frames.items) }
+    {
+        let open = self.frames.len();
+        open > 0 && self.frames[open - 1].is_tail()
+    }
+
+    /// A token. One with which a datum may begin leaves what is open where it lies.
+    #[tactic(auto, using(crate::proofs::FrameStack::stack_of_push, crate::proofs::FrameStack::step_begins))]
     pub(crate) fn step(&mut self, at: u32, token: Token) -> Result<(), ReadError>
         ensures { StepsTo result (step self.old.spare
             (stack_of self.old.frames.items) (data_of self.old.top) (token_of at token)) (state_of self.new) }
     {
+        if token.begins() && !self.is_behind_tail() {
+            return self.start(at, token);
+        }
         match self.frames.pop() {
             None => self.at_top(at, token),
             Some(Frame::Items(place, items)) => self.in_list(place, items, at, token),

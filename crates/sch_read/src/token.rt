@@ -1,5 +1,7 @@
 //! Tokens, as the code keeps them.
 
+ghost use Rattle.std.specs.Prelude.{◌≡◌, ℕ};
+
 use crate::datum::Atom;
 
 /// What is wrong with a token that is ill formed.
@@ -26,6 +28,18 @@ pub(crate) enum Token {
     Plain(Atom),
     Huge,
     Bad(Flaw),
+}
+
+impl Token {
+    ghost use Rattle.sch_read.specs.Lexer.TokenView.{token_of};
+    ghost use Rattle.sch_read.specs.Parser.Stack.{begins};
+
+    /// Whether a datum may begin with the token.
+    pub(crate) fn begins(&self) -> bool
+        ensures { (at : ℕ) → result ≡ begins (token_of at self.now) }
+    {
+        matches!(self, Token::Plain(_) | Token::Open(_))
+    }
 }
 
 /// A token and its place; a bad one stands at its fault.

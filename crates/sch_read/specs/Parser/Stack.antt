@@ -1,6 +1,6 @@
 -- How the code joins tokens to data: one after another, with a stack of what is open. No public clause
 -- cites this; it is proved to give the grammar's data and the first fault.
-use Rattle.std.specs.Prelude.{ℕ, zero, suc, List, [], ◌∷◌, Result, Ok, Err}
+use Rattle.std.specs.Prelude.{ℕ, zero, suc, Bool, true, false, List, [], ◌∷◌, Result, Ok, Err}
 use Rattle.sch_word.specs.values.Options.{when_ok}
 use Rattle.sch_read.specs.Grammar.{Token, Open, Close, Dot, Plain, Huge, Bad, Opener, parenthesis, hash_parenthesis, quote_mark, bad_token, Datum, Data, atom, list, vector, none}
 use Rattle.sch_read.specs.Grammar.{cons, join, one, quoted, with_tail}
@@ -17,6 +17,33 @@ pub data Frame : Type 0 where
   Elements : ℕ → Data → Frame
   -- a quote that waits for its datum
   Waiting : ℕ → Frame
+
+-- whether it is a list with the datum after its dot
+abbrev pub is_tail : Frame → Bool
+is_tail (Tail at xs d) = true
+is_tail _ = false
+
+-- whether it takes one datum after another, and it with one datum more
+abbrev pub is_row : Frame → Bool
+is_row (Items at xs) = true
+is_row (Elements at xs) = true
+is_row _ = false
+
+abbrev pub with_item : Frame → Datum → Frame
+with_item (Items at xs) d = Items at (join xs (one d))
+with_item (Elements at xs) d = Elements at (join xs (one d))
+with_item f d = f
+
+-- whether the innermost is a list with the datum after its dot
+abbrev pub is_behind_tail : List Frame → Bool
+is_behind_tail [] = false
+is_behind_tail (f ∷ fs) = is_tail f
+
+-- whether a datum may begin with a token
+abbrev pub begins : Token → Bool
+begins (Open at o) = true
+begins (Plain at a) = true
+begins _ = false
 
 -- what is open, the innermost first; the data before; and how many levels may still be opened
 pub record State : Type 0 where

@@ -84,7 +84,7 @@ normalize_parts-loop-i-init t c =
     let items = c.as_slice-items.result.now in
     let es = sym (trees_of_list items) in
     record {
-      parts = ap (λ ss. after ss (normal_parts c.args.starts.now c.args.tail (left items) (scope_of v.bound.items) v.next)) c.in_ok-steps.ensures.items
+      parts = ap (λ ss. after ss (normal_parts c.args.starts.now c.args.tail (left items) (scope_of v.bound.items) v.next)) c.new-steps.ensures.items
           ∙ ap (λ ts. normal_parts c.args.starts.now c.args.tail ts (scope_of v.bound.items) v.next) es;
       few = ap (λ ts. v.next + binds_parts ts) es;
       labels = subst (λ ts. LabelsFitEach (length c.args.starts.now) ts) (trees_of_list items)
