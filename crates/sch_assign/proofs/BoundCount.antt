@@ -1,7 +1,7 @@
 -- There is one variable more for each that gets a cell.
 use Rattle.std.proofs.Common.{◌≡◌, ℕ, zero, suc, ◌+◌, Bool, true, false, cond, List, [], ◌∷◌, ◌++◌, length, refl, sym, ap, ◌∙◌, arith, length-append}
 use Rattle.std.specs.List.{count_by}
-use Rattle.std.proofs.lemmas.List.Sums.{sum_by-append}
+use Rattle.std.proofs.lemmas.List.Sums.{sum_by-append, sum_by-cons}
 use Rattle.sch_word.specs.trees.Bindings.{numbers, scope_with}
 use Rattle.sch_cells.specs.declared.tree.NewCell.{NewCell}
 use Rattle.sch_cells.specs.Tree.{Tree, Trees, Lambdas, Source, constant, literal, variable, global, set_variable, set_global, define, branch, sequence, bind, fix, letrec, lambda, call, operation, new_cells, cell_get, cell_set, no_trees, and_tree, no_lambdas, and_lambda, count, count_lambdas}
@@ -18,12 +18,9 @@ keys_length : (cs : List NewCell) → length (cells_bound cs) ≡ length cs
 keys_length [] = refl
 keys_length (c ∷ cs) = ap suc (keys_length cs)
 
-count_first : (f : ℕ → Bool) (x : ℕ) (xs : List ℕ) → count_by f (x ∷ xs) ≡ cond (f x) 1 0 + count_by f xs
-count_first f x xs = let h = sum_by-append (λ z. cond (f z) 1 0) (x ∷ []) xs in omega (arith, h)
-
 count_same_by : (f g : ℕ → Bool) (xs : List ℕ) → ((x : ℕ) → f x ≡ g x) → count_by f xs ≡ count_by g xs
 count_same_by f g [] h = refl
-count_same_by f g (x ∷ xs) h = count_first f x xs ∙ rw (h x, count_same_by f g xs h) refl ∙ sym (count_first g x xs)
+count_same_by f g (x ∷ xs) h = sum_by-cons (λ z. cond (f z) 1 0) x xs ∙ rw (h x, count_same_by f g xs h) refl ∙ sym (sum_by-cons (λ z. cond (g z) 1 0) x xs)
 
 module _ (has_cell : ℕ → Bool) (n : ℕ) where
   -- a list with those of it that get cells
@@ -41,7 +38,7 @@ module _ (has_cell : ℕ → Bool) (n : ℕ) where
 
   group_cells : (x m : ℕ) → length (cells_for has_cell n x m) ≡ count_by has_cell (numbers x m)
   group_cells x zero = refl
-  group_cells x (suc m) = go (has_cell x) (group_cells (suc x) m) ∙ sym (count_first has_cell x (numbers (suc x) m))
+  group_cells x (suc m) = go (has_cell x) (group_cells (suc x) m) ∙ sym (sum_by-cons (λ z. cond (has_cell z) 1 0) x (numbers (suc x) m))
     where
       go : (b : Bool) → length (cells_for has_cell n (suc x) m) ≡ count_by has_cell (numbers (suc x) m) → length (and_cell n b x (cells_for has_cell n (suc x) m)) ≡ cond b 1 0 + count_by has_cell (numbers (suc x) m)
       go true k = omega (arith, k)

@@ -4,11 +4,12 @@ use Rattle.std.specs.Prelude.{◌||◌, ◌&&◌, not, nat_eq, nat_lt}
 use Rattle.std.specs.FinSet as set
 use Rattle.std.specs.List.{list_all}
 use Rattle.std.proofs.lemmas.List.{drop_all}
+use Rattle.std.proofs.lemmas.List.Folds.{list_all-append}
 use Rattle.sch_sets.specs.Members.{NumberSet}
 use Rattle.sch_sets.proofs.Membership.{contains-insert, contains-remove}
 use Rattle.sch_word.specs.trees.NumberSets.{has}
 use Rattle.sch_word.proofs.facts.Lists.{next_left}
-use Rattle.sch_word.proofs.facts.Booleans.{and_left, and_right, and_of, or_right_false, or_around, not_either}
+use Rattle.sch_word.proofs.facts.Booleans.{and_left, and_right, and_parts, or_right_false, or_around, not_either}
 use Rattle.sch_word.proofs.facts.NumberSets.{has_append}
 use Rattle.sch_control.specs.declared.operation.Atom.{Atom}
 use Rattle.sch_control.specs.declared.operation.Atom.TheVariants.{Constant, Literal, Variable}
@@ -35,14 +36,9 @@ with_append xs ys s m r f g x =
     g x ∙ (ap (λ b. has x (named ys) || b) (f x)
     ∙ (or_around (has x (named xs)) (has x (named ys)) (set.contains s x) ∙ ap (λ b. b || set.contains s x) (sym (has_named x xs ys))))
 
-all_parts : (p : ℕ → Bool) (xs ys : List ℕ) → list_all p (xs ++ ys) ≡ true → (list_all p xs ≡ true) × (list_all p ys ≡ true)
-all_parts p [] ys h = (refl, h)
-all_parts p (x ∷ xs) ys h =
-    let rest = all_parts p xs ys (and_right (p x) _ h) in
-    (and_of (p x) _ (and_left (p x) _ h) rest.0, rest.1)
-
 pub below_parts : (bound : ℕ) (xs ys : List (Atom ℕ)) → AtomsBelow bound (xs ++ ys) → AtomsBelow bound xs × AtomsBelow bound ys
-below_parts bound xs ys h = all_parts (λ x. nat_lt x bound) (named xs) (named ys) (sym (ap (list_all (λ x. nat_lt x bound)) (named_append xs ys)) ∙ h)
+below_parts bound xs ys h =
+    and_parts _ _ (sym (ap (list_all (λ x. nat_lt x bound)) (named_append xs ys) ∙ list_all-append (λ x. nat_lt x bound) (named xs) (named ys)) ∙ h)
 
 -- ## One atom
 

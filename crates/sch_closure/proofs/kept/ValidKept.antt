@@ -2,7 +2,7 @@
 use Rattle.std.proofs.Common.{◌≡◌, ℕ, zero, suc, ◌+◌, ◌<◌, ◌≤◌, ◌^◌, ◌*◌, Bool, true, false, List, [], ◌∷◌, ◌++◌, length, map, Option, Some, None, refl, sym, ap, ◌∙◌, subst, arith, length-append, cond}
 use Rattle.std.specs.Prelude.{IsTrue, nat_eq, nat_le, not, ◌||◌, ◌&&◌, slice_get}
 use Rattle.std.specs.List.{list_all, count_by}
-use Rattle.std.proofs.lemmas.List.Sums.{sum_by-append}
+use Rattle.std.proofs.lemmas.List.Sums.{sum_by-append, sum_by-cons}
 use Rattle.std.proofs.lemmas.Bool.{eq-eqb, leb-true, le-leb}
 use Rattle.std.proofs.lemmas.List.{map-append}
 use Rattle.sch_word.proofs.facts.Booleans.{and_of, and_parts}
@@ -82,12 +82,9 @@ none_fails t (x ∷ xs) h =
     let r = and_parts (t x) (list_all t xs) h in
     rw (r.0) (omega (arith, none_fails t xs r.1))
 
-count_cons : {A : Type 0} (p : A → Bool) (x : A) (xs : List A) → count_by p (x ∷ xs) ≡ cond (p x) 1 0 + count_by p xs
-count_cons p x xs = omega (arith, sum_by-append (λ x. cond (p x) 1 0) (x ∷ []) xs)
-
 all_hold : {A : Type 0} (t : A → Bool) (xs : List A) → count_by (λ x. not (t x)) xs ≡ 0 → IsTrue (list_all t xs)
 all_hold t [] h = refl
-all_hold t (x ∷ xs) h = go (t x) (λ k. all_hold t xs k) (sym (count_cons (λ x. not (t x)) x xs) ∙ h)
+all_hold t (x ∷ xs) h = go (t x) (λ k. all_hold t xs k) (sym (sum_by-cons (λ x. cond (not (t x)) 1 0) x xs) ∙ h)
   where
     go : (b : Bool) → (count_by (λ x. not (t x)) xs ≡ 0 → IsTrue (list_all t xs)) → cond (not b) 1 0 + count_by (λ x. not (t x)) xs ≡ 0 → IsTrue (b && list_all t xs)
     go true deeper k = deeper (omega (arith, k))
