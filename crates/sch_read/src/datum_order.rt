@@ -19,7 +19,7 @@ fn enter_datum<'a>(d: &'a Datum, left: &mut ToVisit<'a, Datum>) -> Result<(), Me
 }
 
 /// Puts the parts of a datum before what is left to visit.
-fn enter_parts<'a>(d: &'a Datum, left: &mut ToVisit<'a, Datum>) -> Result<(), Mem>
+pub fn enter_parts<'a>(d: &'a Datum, left: &mut ToVisit<'a, Datum>) -> Result<(), Mem>
     ensures { OnOk result (trees_of left.new ≡ parts (tree_of d.now) ++ trees_of left.old) }
 {
     match &d.node {

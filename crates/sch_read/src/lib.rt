@@ -19,7 +19,7 @@ mod token;
 mod trees;
 
 pub use datum::{Atom, Datum, Node};
-pub use datum_order::data_in_order;
+pub use datum_order::{data_in_order, enter_parts};
 pub use error::ReadError;
 pub use laws::{
     a_text_has_one_fault, a_text_spells_data_or_has_a_fault, a_text_spells_one_list_of_data,
