@@ -49,17 +49,26 @@ fn count_true(all: &[bool]) -> usize {
     count
 }
 
-// How many jumps are long where the last one goes over so many bytes and 120.
+// They, and then one that goes over so many bytes and 120.
 #[tactic(auto, using(crate::proofs::JoinedPieces::are_pieces_behind))]
+fn push_chain(pieces: &mut List<Piece>, count: u8) -> Result<(), Mem>
+    requires few { count ≤ 15 }
+    requires sound { ArePieces pieces.old }
+    ensures sound { OnOk result (ArePieces pieces.new) }
+{
+    links(pieces)?;
+    pieces.push(Piece::Jump(5, LINKS))?;
+    pieces.push(Piece::Label(LINKS - 1))?;
+    bytes_behind_120(pieces, count)?;
+    pieces.push(Piece::Label(LINKS))
+}
+
+// How many of these jumps are long.
 fn long_ones(alloc: Global, count: u8) -> Result<usize, Mem>
     requires few { count ≤ 15 }
 {
     let mut pieces = List::new(alloc);
-    links(&mut pieces)?;
-    pieces.push(Piece::Jump(5, LINKS))?;
-    pieces.push(Piece::Label(LINKS - 1))?;
-    bytes_behind_120(&mut pieces, count)?;
-    pieces.push(Piece::Label(LINKS))?;
+    push_chain(&mut pieces, count)?;
     let longs = long_jumps(alloc, pieces.as_slice())?;
     Ok(count_true(longs.as_slice()))
 }

@@ -8,6 +8,7 @@ use crate::routines::resolved;
 use sch_asm::{Asm, Item};
 use sch_insn::{Arg, Insn};
 use sch_io::MemOutlet;
+use sch_step::Machine;
 use sch_word::registers::{R11, RAX, RCX, RDX};
 use sch_word::{List, Mem};
 use std::alloc::Global;
@@ -74,19 +75,28 @@ fn bytes_program(alloc: Global, count: i32) -> Result<Asm, Mem>
     program(alloc, &filling!(FILL_BYTES, count))
 }
 
+// What a machine puts that exits with 0.
+fn check_puts(alloc: Global, machine: &mut Machine, wanted: &[u8]) -> Result<(), Fail> {
+    let mut out = MemOutlet::new(alloc, &[], 100)?;
+    if runs_so(machine, &mut out, &[(999, Some(0))]) && out.taken() == wanted {
+        return Ok(());
+    }
+    Err(Fail::from("another end or output"))
+}
+
 // What is put after a fill.
 fn check_filled(alloc: Global, program: &Asm, wanted: &[u8]) -> Result<(), Fail>
     requires { AreOwn program.now.items }
 {
     let resolved = resolved(alloc, program)?;
     let text = resolved.code.into_bytes();
-    let words = resolved.words.as_slice();
-    let mut machine = machine(alloc, text.as_slice(), words, resolved.zeros)?;
-    let mut out = MemOutlet::new(alloc, &[], 100)?;
-    if runs_so(&mut machine, &mut out, &[(999, Some(0))]) && out.taken() == wanted {
-        return Ok(());
-    }
-    Err(Fail::from("another end or output"))
+    let mut machine = machine(
+        alloc,
+        text.as_slice(),
+        resolved.words.as_slice(),
+        resolved.zeros,
+    )?;
+    check_puts(alloc, &mut machine, wanted)
 }
 
 /// How many words of "ABCDEFGH" are filled in, and what is then put.

@@ -1,10 +1,11 @@
 //! The forms of jumps: one of two bytes exactly where it reaches its label.
 
-ghost use Rattle.sch_asm.specs.Items.{AreOwn};
+ghost use Rattle.std.specs.Prelude.{[], false, IsTrue};
+ghost use Rattle.sch_asm.specs.Items.{AreItems, AreKnown, AreOwn, IsEachOnce, labels_in, marks_arrive};
 
 use crate::fills::program;
 use crate::routines::resolved;
-use sch_asm::{Asm, Item};
+use sch_asm::{Asm, AsmError, Item};
 use sch_insn::condition::L;
 use sch_insn::{Arg, Insn};
 use sch_word::registers::RAX;
@@ -65,12 +66,24 @@ const ON_A_CONDITION: [Item; 4] = [
 
 const TO_ITSELF: [Item; 2] = [Item::Label(1024), Item::Jump(1024)];
 
-// The text of a program and the routines begins with these bytes.
-fn check_begin(alloc: Global, program: &Asm, bytes: &[u8]) -> Result<(), Fail>
+// Whether the text of a program and the routines begins with these bytes.
+fn begins_with(alloc: Global, program: &Asm, bytes: &[u8]) -> Result<bool, AsmError>
     requires { AreOwn program.now.items }
 {
     let resolved = resolved(alloc, program)?;
-    if resolved.code.into_bytes().as_slice().starts_with(bytes) {
+    Ok(resolved.code.into_bytes().as_slice().starts_with(bytes))
+}
+
+// The text of these items begins with these bytes.
+fn check_begin(alloc: Global, items: &[Item], bytes: &[u8]) -> Result<(), Fail>
+    requires own { AreOwn items.now }
+    requires sound { AreItems items.now }
+    requires once { IsEachOnce (labels_in items.now) }
+    requires known { AreKnown items.now [] }
+    requires marked { IsTrue (marks_arrive false items.now) }
+{
+    let program = program(alloc, items)?;
+    if begins_with(alloc, &program, bytes)? {
         return Ok(());
     }
     Err(Fail::from("other bytes"))
@@ -78,19 +91,13 @@ fn check_begin(alloc: Global, program: &Asm, bytes: &[u8]) -> Result<(), Fail>
 
 #[test]
 fn a_jump_is_short_where_it_reaches(rt: HostRuntime) -> Result<(), Fail> {
-    let alloc = rt.alloc();
-    let over_127 = program(alloc, &OVER_127)?;
-    check_begin(alloc, &over_127, &[0xEB, 0x7F])?;
-    let over_128 = program(alloc, &OVER_128)?;
-    check_begin(alloc, &over_128, &[0xE9, 0x80, 0, 0, 0])
+    check_begin(rt.alloc(), &OVER_127, &[0xEB, 0x7F])?;
+    check_begin(rt.alloc(), &OVER_128, &[0xE9, 0x80, 0, 0, 0])
 }
 
 #[test]
 fn a_jump_over_a_jump_is_short(rt: HostRuntime) -> Result<(), Fail> {
-    let alloc = rt.alloc();
-    let branch = program(alloc, &ON_A_CONDITION)?;
     let bytes = [0x7C, 0x05, 0x48, 0x01, 0xC0, 0xEB, 0x00];
-    check_begin(alloc, &branch, &bytes)?;
-    let itself = program(alloc, &TO_ITSELF)?;
-    check_begin(alloc, &itself, &[0xEB, 0xFE])
+    check_begin(rt.alloc(), &ON_A_CONDITION, &bytes)?;
+    check_begin(rt.alloc(), &TO_ITSELF, &[0xEB, 0xFE])
 }

@@ -33,10 +33,15 @@ fn one_word(alloc: Global) -> Result<Asm, Mem>
     })
 }
 
+// It resolved.
+fn resolved_word(alloc: Global) -> Result<Resolved, AsmError> {
+    let program = one_word(alloc)?;
+    resolved(alloc, &program)
+}
+
 #[test]
 fn routines_are_resolved(rt: HostRuntime) -> Result<(), Fail> {
-    let program = one_word(rt.alloc())?;
-    let resolved = resolved(rt.alloc(), &program)?;
+    let resolved = resolved_word(rt.alloc())?;
     assert!(rt; resolved.code.len() == 339);
     assert!(rt; resolved.words.as_slice() == [2, 1, 0, 0, 0, 0, 0, 0].as_slice());
     Ok(())
