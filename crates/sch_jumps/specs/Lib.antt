@@ -1,4 +1,4 @@
-pub mod Free
+pub mod Capacity
 pub mod Sizes
 pub mod Least
 pub mod Spans
