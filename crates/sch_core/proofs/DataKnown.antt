@@ -1,17 +1,11 @@
--- Data in order, each of which is in range by itself.
-use Rattle.std.proofs.Common.{◌≡◌, ℕ, ◌+◌, ◌<◌, true, List, [], ◌∷◌, ◌++◌, length, take, get_or, refl, sym, subst, add-one}
+-- Data that are in range, each with its parts.
+use Rattle.std.proofs.Common.{◌≡◌, true, List, [], ◌∷◌, ◌++◌, refl}
 use Rattle.std.specs.Prelude.{◌&&◌}
-use Rattle.std.specs.Borrow.{Bor}
 use Rattle.std.proofs.lemmas.Bool.{and_from}
-use Rattle.std.proofs.lemmas.List.{map-append}
-use Rattle.sch_word.specs.trees.InOrder.{AreInOrder, none as no_trees, next}
 use Rattle.sch_word.proofs.facts.Booleans.{and_parts}
-use Rattle.sch_word.proofs.facts.Lists.{next_taken}
 use Rattle.sch_read.specs.Grammar.{Datum, Data, atom, list, dotted, vector, none, cons}
-use Rattle.sch_read.specs.declared.datum.Datum as code
-use Rattle.sch_read.specs.DatumParts.{each_of, parts, lent_tree, lent_trees}
-use Rattle.sch_read.specs.Views.{tree_of}
-use Rattle.sch_core.specs.Quotable.{datum_in_range, data_in_range, own_in_range, AllQuotable, EachOwn}
+use Rattle.sch_read.specs.DatumParts.{each_of, parts}
+use Rattle.sch_core.specs.Quotable.{datum_in_range, data_in_range, own_in_range, AllQuotable}
 
 pub all_quotable : (xs : Data) → data_in_range xs ≡ true → AllQuotable xs
 all_quotable none h = tt
@@ -19,26 +13,13 @@ all_quotable (cons d ds) h = let k = and_parts _ _ h in (k.0, all_quotable ds k.
 
 -- ## Data by what each of them is alone
 
-abbrev EachInRange : List Datum → Type 0
+abbrev pub EachInRange : List Datum → Type 0
 EachInRange [] = Unit {0}
 EachInRange (d ∷ ds) = (datum_in_range d ≡ true) × EachInRange ds
 
-own_push : (ds : List Datum) (d : Datum) → EachOwn ds → own_in_range d ≡ true → EachOwn (ds ++ d ∷ [])
-own_push [] d h o = (o, tt)
-own_push (x ∷ ds) d h o = (h.0, own_push ds d h.1 o)
-
--- one datum more is known
-pub next_own : (nodes : List (Bor code.Datum)) (i : ℕ) (d : Bor code.Datum) → i < length nodes → d ≡ get_or nodes i d → own_in_range (tree_of d.now) ≡ true
-    → EachOwn (lent_trees (take i nodes)) → EachOwn (lent_trees (take (i + 1) nodes))
-next_own nodes i d l e o h =
-    rw add-one (subst (λ t. EachOwn (lent_trees t)) (sym (next_taken nodes i d l e)) (own_last (take i nodes) h))
-  where
-    own_last : (ds : List (Bor code.Datum)) → EachOwn (lent_trees ds) → EachOwn (lent_trees (ds ++ d ∷ []))
-    own_last ds k = subst EachOwn (sym (map-append lent_tree ds (d ∷ []))) (own_push (lent_trees ds) (tree_of d.now) k o)
-
-own_parted : (ds es : List Datum) → EachOwn (ds ++ es) → EachOwn ds × EachOwn es
-own_parted [] es h = (tt, h)
-own_parted (d ∷ ds) es h = let k = own_parted ds es h.1 in ((h.0, k.0), k.1)
+each_parted : (ds es : List Datum) → EachInRange (ds ++ es) → EachInRange ds × EachInRange es
+each_parted [] es h = (tt, h)
+each_parted (d ∷ ds) es h = let k = each_parted ds es h.1 in ((h.0, k.0), k.1)
 
 each_data : (ds : Data) → EachInRange (each_of ds) → data_in_range ds ≡ true
 each_data none h = refl
@@ -54,11 +35,9 @@ by_parts (list at ds) o h = each_data ds h
 by_parts (dotted at ds last) o h = each_and ds last h
 by_parts (vector at ds) o h = each_data ds h
 
-pub in_order : (nodes trees : List Datum) → AreInOrder parts nodes trees → EachOwn nodes → EachInRange trees
-in_order _ _ no_trees h = tt
-in_order _ _ (next tree below behind others p q) h =
-    let k = own_parted below behind h.1 in
-    (by_parts tree h.0 (in_order below (parts tree) p k.0), in_order behind others q k.1)
+-- a datum and others, by its parts and these
+pub known_by_parts : (d : Datum) (others : List Datum) → own_in_range d ≡ true → EachInRange (parts d ++ others) → EachInRange (d ∷ others)
+known_by_parts d others o h = let k = each_parted (parts d) others h in (by_parts d o k.0, k.1)
 
-pub trees_known : (nodes : List Datum) (ds : Data) → AreInOrder parts nodes (each_of ds) → EachOwn nodes → AllQuotable ds
-trees_known nodes ds w h = all_quotable ds (each_data ds (in_order nodes (each_of ds) w h))
+pub trees_known : (ds : Data) → EachInRange (each_of ds) → AllQuotable ds
+trees_known ds h = all_quotable ds (each_data ds h)

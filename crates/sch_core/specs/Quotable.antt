@@ -19,10 +19,6 @@ abbrev pub own_in_range : Datum → Bool
 own_in_range (atom at a) = atom_in_range a
 own_in_range _ = true
 
-abbrev pub EachOwn : List Datum → Type 0
-EachOwn [] = Unit {0}
-EachOwn (d ∷ ds) = (own_in_range d ≡ true) × EachOwn ds
-
 abbrev mutual
   pub datum_in_range : Datum → Bool
   datum_in_range (atom at a) = atom_in_range a

@@ -3,12 +3,11 @@
 ghost use Rattle.std.specs.Prelude.{◌≡◌, true, OnOk};
 ghost use Rattle.sch_word.specs.values.Fixnum.{is_fixnum};
 ghost use Rattle.sch_word.specs.values.Values.{is_byte, are_bytes};
-ghost use Rattle.sch_read.specs.DatumParts.{lent_trees};
 ghost use Rattle.sch_read.specs.Views.{tree_of, data_of, atom_of};
-ghost use Rattle.sch_core.specs.Quotable.{atom_in_range, own_in_range, AllQuotable, EachOwn};
+ghost use Rattle.sch_core.specs.Quotable.{atom_in_range, own_in_range, AllQuotable};
 
-use sch_read::{Atom, Datum, data_in_order};
-use sch_word::{Fix, Mem};
+use sch_read::{Atom, Datum, enter_parts};
+use sch_word::{Fix, Mem, ToVisit};
 use std::alloc::Global;
 
 /// A list of bytes has bytes, by its type.
@@ -49,20 +48,14 @@ fn know_own(d: &Datum)
     }
 }
 
-/// The same of data, one after the other.
-fn know_each(nodes: &[&Datum])
-    ensures { EachOwn (lent_trees nodes.now) }
-{
-    for d in nodes {
-        know_own(d);
-    }
-}
-
 /// What data have at any level is in range, by their types.
 pub(crate) fn know_data(alloc: Global, items: &[Datum]) -> Result<(), Mem>
     ensures { OnOk result (AllQuotable (data_of items.now)) }
 {
-    let order = data_in_order(alloc, items)?;
-    know_each(order.as_slice());
+    let mut left = ToVisit::new(alloc, items);
+    'each: while let Some(d) = left.next() {
+        know_own(d);
+        enter_parts(d, &mut left)?;
+    }
     Ok(())
 }
