@@ -15,7 +15,6 @@ ghost use Rattle.sch_read.specs.Lexer.PartialLexeme.{IsMet, left};
 
 use crate::datum::Datum;
 use crate::error::ReadError;
-use crate::letters::is_white;
 use crate::lexeme::{Stage, begin, next};
 use crate::lexer::token;
 use crate::parser::{Frame, Parser};
@@ -30,21 +29,8 @@ pub(crate) struct Lexeme {
     pub(crate) stage: Stage,
 }
 
-/// The lexeme is whole: its token goes to the parser. Most lexemes are single blanks, which have none.
+/// The lexeme is whole: its token goes to the parser.
 fn feed(parser: &mut Parser, at: u32, lexeme: &[u8]) -> Result<(), ReadError>
-    requires { at + length lexeme.now < 2 ^ 32 }
-    ensures { Feeds result (state_of parser.old) (state_of parser.new) (λ ts. token_at at lexeme.now ++ ts) }
-{
-    if let [first, ..] = lexeme {
-        if is_white(*first) {
-            return Ok(());
-        }
-    }
-    feed_token(parser, at, lexeme)
-}
-
-/// The token of a lexeme goes to the parser, where it has one.
-fn feed_token(parser: &mut Parser, at: u32, lexeme: &[u8]) -> Result<(), ReadError>
     requires { at + length lexeme.now < 2 ^ 32 }
     ensures { Feeds result (state_of parser.old) (state_of parser.new) (λ ts. token_at at lexeme.now ++ ts) }
 {
