@@ -1,18 +1,18 @@
 -- What the sets of variables in registers say of a table, and the steps of a choice.
-use Rattle.std.proofs.Common.{◌≡◌, ℕ, zero, suc, ◌+◌, ◌^◌, ◌<◌, ◌≤◌, Option, Some, None, Bool, true, false, List, [], ◌∷◌, ◌++◌, refl, ap, sym, ◌∙◌, arith, subst}
+use Rattle.std.proofs.Common.{◌≡◌, ℕ, zero, suc, ◌+◌, ◌-◌, ◌^◌, ◌<◌, ◌≤◌, Option, Some, None, Bool, true, false, List, [], ◌∷◌, ◌++◌, length, take, drop, length-append, refl, ap, sym, ◌∙◌, arith, subst}
 use Rattle.std.specs.Prelude.{nat_eq, nat_lt, ◌||◌, ◌&&◌, not, cond, map, filter, slice_set, slice_get, slice_index_or}
 use Rattle.std.specs.List.{list_all}
 use Rattle.std.specs.Bool.{OnFalse}
 use Rattle.std.proofs.lemmas.Bool.Decides.{nat_tests}
 use Rattle.std.specs.FinSet as set
 use Rattle.std.proofs.lemmas.Bool.{eqb-true, eq-eqb, ne_eqb}
+use Rattle.std.proofs.lemmas.List.{append_assoc, take_all}
 use Rattle.std.proofs.Math.Bool.{and-false}
 use Rattle.sch_sets.specs.Members.{NumberSet, HasMember}
 use Rattle.sch_sets.proofs.Membership.{contains-empty, contains-insert, contains-intersection}
 use Rattle.sch_word.specs.trees.Bindings.{numbers}
 use Rattle.sch_word.specs.declared.place.Place.{Place}
 use Rattle.sch_word.specs.declared.place.Place.TheVariants.{Reg, Slot}
-use Rattle.sch_word.specs.values.Registers.{argument_registers}
 use Rattle.sch_word.proofs.facts.Booleans.{and_left, and_right, and_of, or_left, or_right, false_true, never_true, and_true}
 use Rattle.sch_control.specs.declared.operation.Member.{Member}
 use Rattle.sch_control.specs.Tree.{Expression, bind, sequence, branch, fix}
@@ -20,8 +20,8 @@ use Rattle.sch_control.specs.Valid.{member_variables}
 use Rattle.sch_word.specs.values.Places.{is_slot, same_place}
 use Rattle.sch_word.specs.values.Options.{first_or_0}
 use Rattle.sch_regs.specs.NotedSets.{Noted, assign_noted}
-use Rattle.sch_regs.specs.PlaceChoice.{Table, place_in, slots, in_order, held, first_free, choose, choose_each, live_first}
-use Rattle.sch_regs.specs.Shows.{holds, AreHeld, IsHeld, is_wanted, with_held}
+use Rattle.sch_regs.specs.PlaceChoice.{Table, place_in, in_order, held, choose, choose_each, live_first}
+use Rattle.sch_regs.specs.Shows.{holds, AreHeld, IsHeld, each_with_held, is_wanted, with_held}
 
 -- ## What is held
 
@@ -74,39 +74,50 @@ held_after t r y p s h = by (same_place p (Reg r)) refl where
   by true e = into_register t r y p s (set.insert s y) e refl h
   by false e = elsewhere t r y p s e h
 
--- the set of one register, which has `k` others before it, once a variable has a place
-abbrev one_after : (y : ℕ) (p : Place) (k register : ℕ) → List NumberSet → List NumberSet
-one_after y p k r sets = slice_set sets k (with_held r (slice_index_or sets k set.empty) y p)
+at_front : {A : Type 0} (front : List A) (x y : A) (xs : List A) → slice_set (front ++ x ∷ xs) (length front) y ≡ front ++ y ∷ xs
+at_front [] x y xs = refl
+at_front (z ∷ front) x y xs = ap (λ q. z ∷ q) (at_front front x y xs)
 
-all_after : (t : Table) (y : ℕ) (p : Place) (sets : List NumberSet) → AreHeld t argument_registers sets
-    → AreHeld ((y, p) ∷ t) argument_registers
-    (one_after y p 5 7 (one_after y p 4 6 (one_after y p 3 10 (one_after y p 2 9 (one_after y p 1 8 (one_after y p 0 3 sets))))))
-all_after t y p [] h = absurd h
-all_after t y p (s0 ∷ []) h = absurd h.1
-all_after t y p (s0 ∷ s1 ∷ []) h = absurd h.1.1
-all_after t y p (s0 ∷ s1 ∷ s2 ∷ []) h = absurd h.1.1.1
-all_after t y p (s0 ∷ s1 ∷ s2 ∷ s3 ∷ []) h = absurd h.1.1.1.1
-all_after t y p (s0 ∷ s1 ∷ s2 ∷ s3 ∷ s4 ∷ []) h = absurd h.1.1.1.1.1
-all_after t y p (s0 ∷ s1 ∷ s2 ∷ s3 ∷ s4 ∷ s5 ∷ []) h = (
-  held_after t 3 y p s0 h.0,
-  (
-    held_after t 8 y p s1 h.1.0,
-    (
-      held_after t 9 y p s2 h.1.1.0,
-      (held_after t 10 y p s3 h.1.1.1.0, (held_after t 6 y p s4 h.1.1.1.1.0, (held_after t 7 y p s5 h.1.1.1.1.1.0, tt))),
-    ),
-  ),
-)
-all_after t y p (s0 ∷ s1 ∷ s2 ∷ s3 ∷ s4 ∷ s5 ∷ s6 ∷ sets) h = absurd h.1.1.1.1.1.1
+found_at : {A : Type 0} (front : List A) (x d : A) (xs : List A) → slice_index_or (front ++ x ∷ xs) (length front) d ≡ x
+found_at [] x d xs = refl
+found_at (z ∷ front) x d xs = found_at front x d xs
 
--- the set of each register, from one to the next
-pub all_held : (t : Table) (y : ℕ) (p : Place) (s0 s1 s2 s3 s4 s5 s6 : List NumberSet) → s1 ≡ one_after y p 0 3 s0 → s2 ≡ one_after y p 1 8 s1
-    → s3 ≡ one_after y p 2 9 s2 → s4 ≡ one_after y p 3 10 s3 → s5 ≡ one_after y p 4 6 s4 → s6 ≡ one_after y p 5 7 s5
-    → AreHeld t argument_registers s0 → AreHeld ((y, p) ∷ t) argument_registers s6
-all_held t y p s0 s1 s2 s3 s4 s5 s6 e1 e2 e3 e4 e5 e6 h =
-    subst (AreHeld ((y, p) ∷ t) argument_registers)
-    (sym (e6 ∙ ap (one_after y p 5 7) (e5 ∙ ap (one_after y p 4 6) (e4 ∙ ap (one_after y p 3 10) (e3 ∙ ap (one_after y p 2 9) (e2 ∙ ap (one_after y p 1 8) e1))))))
-    (all_after t y p s0 h)
+-- the sets of some registers behind others, once a variable has a place
+after_front : (t : Table) (y : ℕ) (p : Place) (registers : List ℕ) (front sets : List NumberSet) → AreHeld t registers sets
+    → (after : List NumberSet) × ((each_with_held registers (length front) (front ++ sets) y p ≡ front ++ after) × AreHeld ((y, p) ∷ t) registers after)
+after_front t y p [] front [] h = ([], (refl, tt))
+after_front t y p [] front (s ∷ sets) h = absurd h
+after_front t y p (r ∷ registers) front [] h = absurd h
+after_front t y p (r ∷ registers) front (s ∷ sets) h =
+    let s' = with_held r s y p in
+    let rest = after_front t y p registers (front ++ s' ∷ []) sets h.1 in (
+      s' ∷ rest.0,
+      (
+        ap (λ q. each_with_held registers (length front + 1) (slice_set (front ++ s ∷ sets) (length front) (with_held r q y p)) y p) (found_at front s set.empty sets)
+            ∙ (ap (λ q. each_with_held registers (length front + 1) q y p) (at_front front s s' sets ∙ sym (append_assoc front (s' ∷ []) sets))
+            ∙ (ap (λ k. each_with_held registers k ((front ++ s' ∷ []) ++ sets) y p) (sym (length-append front (s' ∷ [])))
+            ∙ (rest.1.0 ∙ append_assoc front (s' ∷ []) rest.0))),
+        (held_after t r y p s h.0, rest.1.1),
+      ),
+    )
+
+pub all_held : (t : Table) (y : ℕ) (p : Place) (registers : List ℕ) (sets : List NumberSet) → AreHeld t registers sets
+    → AreHeld ((y, p) ∷ t) registers (each_with_held registers 0 sets y p)
+all_held t y p registers sets h = let a = after_front t y p registers [] sets h in subst (AreHeld ((y, p) ∷ t) registers) (sym a.1.0) a.1.1
+
+-- one register after another
+pub next_held : (registers : List ℕ) (k y : ℕ) (p : Place) (sets : List NumberSet) → 1 ≤ length registers
+    → each_with_held registers k sets y p
+    ≡ each_with_held (take (length registers - 1) (drop 1 registers)) (k + 1) (slice_set sets k (with_held (slice_index_or registers 0 0) (slice_index_or sets k set.empty) y p)) y p
+next_held [] k y p sets h = absurd (omega (arith, h))
+next_held (r ∷ registers) k y p sets h = ap (λ q. each_with_held q (k + 1) (slice_set sets k (with_held r (slice_index_or sets k set.empty) y p)) y p) (sym whole)
+  where
+    whole : take (suc (length registers) - 1) registers ≡ registers
+    whole = take_all (suc (length registers) - 1) registers (omega arith)
+
+pub none_left : (registers : List ℕ) (k y : ℕ) (p : Place) (sets : List NumberSet) → length registers < 1 → sets ≡ each_with_held registers k sets y p
+none_left [] k y p sets h = refl
+none_left (r ∷ registers) k y p sets h = absurd (omega (arith, h))
 
 -- the list of places with one more
 set_listed : (f : ℕ → Place) (p : Place) (k n y : ℕ) → slice_set (map f (numbers k n)) y p ≡ map (λ x. cond (nat_eq x (k + y)) p (f x)) (numbers k n)

@@ -1,5 +1,5 @@
 -- An expression with what is in scope before it, and its parts.
-use Rattle.std.proofs.Common.{◌≡◌, ◌≢◌, ℕ, Bool, true, false, List, [], ◌++◌, ap, sym, ◌∙◌, inl, inr}
+use Rattle.std.proofs.Common.{◌≡◌, ◌≢◌, ℕ, Bool, true, false, List, ◌++◌, ap, sym, ◌∙◌, inl, inr}
 use Rattle.std.specs.Prelude.{nat_eq, ◌||◌, not}
 use Rattle.std.specs.Bool.{MatchBool}
 use Rattle.std.proofs.lemmas.Bool.{ne_eqb}

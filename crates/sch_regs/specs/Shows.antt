@@ -1,5 +1,5 @@
 -- What the walk over a body keeps, as the table that it stands for.
-use Rattle.std.specs.Prelude.{◌≡◌, ◌<◌, ◌^◌, ℕ, Bool, false, ◌||◌, ◌&&◌, nat_eq, not, cond, filter, List, [], ◌∷◌}
+use Rattle.std.specs.Prelude.{◌≡◌, ◌+◌, ◌<◌, ◌^◌, slice_index_or, slice_set, ℕ, Bool, false, ◌||◌, ◌&&◌, nat_eq, not, cond, filter, List, [], ◌∷◌}
 use Rattle.std.specs.FinSet as set
 use Rattle.sch_word.specs.declared.place.Place.{Place}
 use Rattle.sch_word.specs.declared.place.Place.TheVariants.{Reg}
@@ -28,6 +28,11 @@ AreHeld t (r ∷ registers) (s ∷ sets) = IsHeld t r s × AreHeld t registers s
 -- the variables that are in a register, once another variable has a place
 abbrev pub with_held : (register : ℕ) → NumberSet → (variable : ℕ) → Place → NumberSet
 with_held register s y p = cond (same_place p (Reg register)) (set.insert s y) s
+
+-- the sets of some registers, which have `k` others before them
+abbrev pub each_with_held : (registers : List ℕ) → (k : ℕ) → List NumberSet → (variable : ℕ) → Place → List NumberSet
+each_with_held [] k sets y p = sets
+each_with_held (r ∷ registers) k sets y p = each_with_held registers (k + 1) (slice_set sets k (with_held r (slice_index_or sets k set.empty) y p)) y p
 
 -- all of it
 pub record ShowsAll {N : ℕ} (count : ℕ) (p : Placing N) (t : Table) : Type 0 where

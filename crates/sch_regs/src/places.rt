@@ -12,7 +12,7 @@ use crate::assigning::assign;
 use crate::copying::copy;
 use crate::noting::note;
 use crate::placing::Placing;
-use crate::starting::{all_arrived, formals, none_noted};
+use crate::starting::{all_arrived, empty_sets, formals};
 use sch_control::{PlacedBody, RestoredBody};
 use sch_sets::Set;
 use sch_word::{List, Mem, Place};
@@ -22,7 +22,7 @@ use std::alloc::Global;
 fn places_of<const N: usize>(alloc: Global, b: &RestoredBody<N>) -> Result<List<Place>, Mem>
     ensures { IfOk result (λ ps. ps ≡ places b.now.entry b.now.variables (restored b.now.exp)) }
 {
-    let mut noted = none_noted(alloc, b.variables)?;
+    let mut noted = empty_sets(alloc, b.variables)?;
     let none = Set::new();
     let mut before = Set::new();
     note(&b.exp, &none, &none, &mut before, &mut noted);

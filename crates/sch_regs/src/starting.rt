@@ -28,7 +28,7 @@ fn unplaced(alloc: Global, variables: u32) -> Result<Vec<Place>, Mem>
 }
 
 /// An empty set for each of a number of variables or registers.
-pub(crate) fn none_noted<const N: usize>(alloc: Global, count: u32) -> Result<Vec<Set<N>>, Mem>
+pub(crate) fn empty_sets<const N: usize>(alloc: Global, count: u32) -> Result<Vec<Set<N>>, Mem>
     ensures { IfOk result (λ sets. sets.items ≡ replicate count set.empty) }
 {
     let mut sets = Vec::with_capacity(alloc, count as usize)?;
@@ -44,7 +44,7 @@ fn none_placed<const N: usize>(alloc: Global, variables: u32) -> Result<Placing<
     ensures { IfOk result (λ p. Shows variables p []) }
 {
     let places = unplaced(alloc, variables)?;
-    let held = none_noted(alloc, ARGUMENT_REGISTERS.len() as u32)?;
+    let held = empty_sets(alloc, ARGUMENT_REGISTERS.len() as u32)?;
     Ok(Placing {
         places,
         slots: 0,
