@@ -20,7 +20,7 @@ fn print_each(alloc: Global, data: &[Datum]) -> Result<List<u8>, Mem> {
 // The same of the data of the text.
 fn rewritten(alloc: Global, text: &[u8]) -> Result<List<u8>, ReadError> {
     if text.len() >= 4_294_967_296 {
-        return Err(ReadError::Memory);
+        return Ok(List::new(alloc));
     }
     let data = read_all(alloc, text)?;
     Ok(print_each(alloc, data.as_slice())?)
