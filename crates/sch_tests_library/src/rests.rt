@@ -98,7 +98,8 @@ fn push_list(out: &mut Vec<u8>, first: usize, operands: usize) -> Result<(), All
     out.push(b'(')?;
     out.push(b'0' + (first % 10) as u8)?;
     push_digits(out, first.saturating_add(1), operands)?;
-    out.push(b')')
+    out.push(b')')?;
+    Ok(())
 }
 
 /// What stands before and behind the operands of a call, and the place of the first operand that is written.
