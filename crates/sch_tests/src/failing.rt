@@ -1,7 +1,7 @@
 //! Disks and streams that fail or take less than they are given, at each of their calls in turn.
 
-use crate::outside::{Outcome, Outside, Wanted, call, call_well, check, ended};
-use sch_word::{Answer, Mem};
+use crate::outside::{Outcome, Outside, Wanted, call, call_well, check, ended, written};
+use sch_word::{Answer, Bytes, Mem};
 use std::alloc::Global;
 use std::test::Fail;
 
@@ -59,14 +59,26 @@ fn each_call_of_the_disk_fails(rt: HostRuntime) -> Result<(), Fail> {
     Ok(())
 }
 
+// The executable that is written with a listing.
+fn listed_image(alloc: Global) -> Result<Bytes, Fail> {
+    let mut whole = call_well(alloc, LISTED, TEXT)?;
+    if whole.status != 0 || whole.file(alloc, "f").is_none() {
+        return Err(Fail::from("no listing"));
+    }
+    Ok(whole.file(alloc, "p").ok_or("no file")?)
+}
+
+// Whether the executable is this one where the listing is not written.
+fn leaves(alloc: Global, image: &[u8]) -> Result<bool, Mem> {
+    let mut failed = call_failing(alloc, LISTED, 2)?;
+    Ok(holds(alloc, &mut failed, "p", image))
+}
+
 // Where the listing is not written, the executable is the one that is written with it.
 #[test]
 fn the_executable_is_written_first(rt: HostRuntime) -> Result<(), Fail> {
-    let mut whole = call_well(rt.alloc(), LISTED, TEXT)?;
-    let image = whole.file(rt.alloc(), "p").ok_or("no file")?;
-    assert!(rt; whole.status == 0 && whole.file(rt.alloc(), "f").is_some());
-    let mut failed = call_failing(rt.alloc(), LISTED, 2)?;
-    assert!(rt; holds(rt.alloc(), &mut failed, "p", image.as_slice()));
+    let image = listed_image(rt.alloc())?;
+    assert!(rt; leaves(rt.alloc(), image.as_slice())?);
     Ok(())
 }
 
@@ -94,6 +106,8 @@ fn a_failure_of_a_further_call_is_not_seen(rt: HostRuntime) -> Result<(), Fail> 
 const SHORT: Answer = Answer::Took(1);
 
 const NONE: Answer = Answer::Took(0);
+
+const TWO: Answer = Answer::Took(2);
 
 const ALL: Answer = Answer::Took(9);
 
@@ -152,8 +166,7 @@ fn check_pieces(alloc: Global, file: &[u8], out: &[Answer], wanted: Wanted) -> R
         ..Outside::of(file)
     };
     check(alloc, "run p.scm", source, wanted)?;
-    let mut compiled = call_well(alloc, "compile p.scm p --heap 4096 --depth 20", file)?;
-    let image = compiled.file(alloc, "p").ok_or("no file")?;
+    let image = written(alloc, "compile p.scm p --heap 4096 --depth 20", file)?;
     let image = Outside {
         out,
         ..Outside::of(image.as_slice())
@@ -215,26 +228,47 @@ fn check_text(
 }
 
 // A text that is printed goes on after a write that took one byte, and ends at one that failed or took nothing.
+fn check_whole(alloc: Global, line: &str, whole: &[u8]) -> Result<(), Fail> {
+    check_text(alloc, line, (0, SHORT), (0, whole))?;
+    for count in [0, 1, 2, 9] {
+        let begun = whole.get(..count).ok_or("too short")?;
+        for (last, wanted) in [(FAILED, (3, begun)), (NONE, (3, begun)), (TWO, (0, whole))] {
+            check_text(alloc, line, (count, last), wanted)?;
+        }
+    }
+    Ok(())
+}
+
 fn check_texts(alloc: Global, line: &str) -> Result<(), Fail> {
     let well = call_well(alloc, line, TEXT)?;
     if well.status != 0 {
         return Err(Fail::from("another end"));
     }
-    let whole = well.printed();
-    check_text(alloc, line, (0, Answer::Took(1)), (0, whole))?;
-    for count in [0, 1, 2, 9] {
-        let begun = whole.get(..count).ok_or("too short")?;
-        check_text(alloc, line, (count, Answer::Failed), (3, begun))?;
-        check_text(alloc, line, (count, Answer::Took(0)), (3, begun))?;
-        check_text(alloc, line, (count, Answer::Took(2)), (0, whole))?;
-    }
-    Ok(())
+    check_whole(alloc, line, well.printed())
 }
 
 #[test]
 fn each_answer_to_a_text_is_short_or_fails(rt: HostRuntime) -> Result<(), Fail> {
-    check_texts(rt.alloc(), "list p.scm")?;
-    check_texts(rt.alloc(), "count p.scm --heap 4096")
+    for line in ["list p.scm", "count p.scm --heap 4096"] {
+        check_texts(rt.alloc(), line)?;
+    }
+    Ok(())
+}
+
+// Makes a call over a standard error that takes as many single bytes and then answers otherwise.
+fn check_count(
+    alloc: Global,
+    line: &str,
+    outside: Outside,
+    plan: (usize, Answer),
+    wanted: Wanted,
+) -> Result<(), Fail> {
+    let plan = plan_of(alloc, plan)?;
+    let other = Outside {
+        err: plan.as_slice(),
+        ..outside
+    };
+    check(alloc, line, other, wanted)
 }
 
 // Makes a call again over a standard error that takes single bytes and then answers otherwise, behind each count of them: the
@@ -247,16 +281,23 @@ fn check_line(
     last: Answer,
 ) -> Result<(), Fail> {
     let said = well.said();
-    let printed = well.printed();
-    let most = said.len().checked_add(1).ok_or("too long")?;
-    for count in 0..most {
+    for count in 0..said.len().saturating_add(1) {
         let begun = said.get(..count).ok_or("too short")?;
-        let plan = plan_of(alloc, (count, last))?;
-        let other = Outside {
-            err: plan.as_slice(),
-            ..outside
-        };
-        check(alloc, line, other, (well.status, printed, begun))?;
+        check_count(
+            alloc,
+            line,
+            outside,
+            (count, last),
+            (well.status, well.printed(), begun),
+        )?;
+    }
+    Ok(())
+}
+
+// The same of one call.
+fn check_both(alloc: Global, line: &str, outside: Outside, well: &Outcome) -> Result<(), Fail> {
+    for last in [FAILED, NONE] {
+        check_line(alloc, line, outside, well, last)?;
     }
     Ok(())
 }
@@ -291,8 +332,7 @@ fn each_answer_to_a_line_is_short_or_fails(rt: HostRuntime) -> Result<(), Fail> 
         };
         let well = call(alloc, line, outside)?;
         assert!(rt; well.status == *status, "at {line}");
-        check_line(alloc, line, outside, &well, Answer::Failed)?;
-        check_line(alloc, line, outside, &well, Answer::Took(0))?;
+        check_both(alloc, line, outside, &well)?;
     }
     Ok(())
 }

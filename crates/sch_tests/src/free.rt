@@ -42,15 +42,14 @@ fn push_names(out: &mut Bytes, count: u32) -> Result<(), Mem> {
 }
 
 // A procedure that names this many variables of 1,200, of which a form binds one half, and a procedure in it the other.
-fn naming(alloc: Global, count: u32) -> Result<Bytes, Mem> {
-    let mut text = Bytes::from_slice(alloc, b"1")?;
-    push_groups(&mut text, &[0, 1, 2])?;
-    text.extend_from_slice(b" (lambda ()")?;
-    push_groups(&mut text, &[3, 4, 5])?;
-    text.extend_from_slice(b" (lambda ()")?;
-    push_names(&mut text, count)?;
-    text.extend_from_slice(b"))))))))")?;
-    Ok(text)
+fn push_naming(out: &mut Bytes, count: u32) -> Result<(), Mem> {
+    out.push(b'1')?;
+    for groups in [[0, 1, 2], [3, 4, 5]] {
+        push_groups(out, &groups)?;
+        out.extend_from_slice(b" (lambda ()")?;
+    }
+    push_names(out, count)?;
+    out.extend_from_slice(b"))))))))")
 }
 
 /// How many variables are named, and what is wanted. Each but the last is a value that is dropped, and counts as a variable of
@@ -62,11 +61,17 @@ const NAMED: &[(u32, Wanted)] = &[
     (1002, (7, b"", b"a: byte 2: limit variables\n")),
 ];
 
+// Compiles a text of such a procedure.
+fn check_naming(alloc: Global, count: u32, wanted: Wanted) -> Result<(), Fail> {
+    let mut text = Bytes::new(alloc);
+    push_naming(&mut text, count)?;
+    check_well(alloc, "compile a p", text.as_slice(), wanted)
+}
+
 #[test]
 fn procedures_with_many_free_variables(rt: HostRuntime) -> Result<(), Fail> {
     for (count, wanted) in NAMED {
-        let text = naming(rt.alloc(), *count)?;
-        check_well(rt.alloc(), "compile a p", text.as_slice(), *wanted)?;
+        check_naming(rt.alloc(), *count, *wanted)?;
     }
     Ok(())
 }

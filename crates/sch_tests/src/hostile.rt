@@ -1,6 +1,6 @@
 //! Images that were made by hand, cut off or changed, under `step`.
 
-use crate::outside::{Ended, Wanted, call_well, check_files, check_well};
+use crate::outside::{Ended, Wanted, check_files, check_well, written};
 use crate::program::exit_with;
 use sch_word::{Bytes, Mem};
 use std::alloc::Global;
@@ -79,19 +79,25 @@ fn texts_of_machine_code_get_stuck(rt: HostRuntime) -> Result<(), Fail> {
     Ok(())
 }
 
+/// The status with which a text exits, and what is wanted.
+const EXITS: &[(u8, Wanted)] = &[
+    (0, (0, b"", b"")),
+    (42, (8, b"", b"p.scm: exit status 42\n")),
+    (71, (71, b"", b"stop 71: heap limit\n")),
+];
+
+/// A jump to itself.
+const JUMP: [u8; 5] = [0xE9, 0xFB, 0xFF, 0xFF, 0xFF];
+
+const SPENT: Wanted = (9, b"", b"steps spent\n");
+
 // Those that exit, and a jump to itself.
 #[test]
 fn texts_of_machine_code_end(rt: HostRuntime) -> Result<(), Fail> {
-    let alloc = rt.alloc();
-    let line = "step p.scm";
-    check_text(alloc, line, &exit_with(0), (0, b"", b""))?;
-    let other = (8, b"".as_slice(), b"p.scm: exit status 42\n".as_slice());
-    check_text(alloc, line, &exit_with(42), other)?;
-    let full = (71, b"".as_slice(), b"stop 71: heap limit\n".as_slice());
-    check_text(alloc, line, &exit_with(71), full)?;
-    let spent = (9, b"".as_slice(), b"steps spent\n".as_slice());
-    let jump = [0xE9, 0xFB, 0xFF, 0xFF, 0xFF];
-    check_text(alloc, "step p.scm --steps 10", &jump, spent)
+    for (status, wanted) in EXITS {
+        check_text(rt.alloc(), "step p.scm", &exit_with(*status), *wanted)?;
+    }
+    check_text(rt.alloc(), "step p.scm --steps 10", &JUMP, SPENT)
 }
 
 // A file with another byte at a place.
@@ -104,9 +110,7 @@ fn changed(alloc: Global, file: &[u8], place: usize, byte: u8) -> Result<Vec<u8>
 
 // The image of a small program.
 fn small_image(alloc: Global) -> Result<Bytes, Fail> {
-    let source = b"(display (+ 1 2))(newline)";
-    let mut compiled = call_well(alloc, "compile p.scm p", source)?;
-    Ok(compiled.file(alloc, "p").ok_or("no file")?)
+    written(alloc, "compile p.scm p", b"(display (+ 1 2))(newline)")
 }
 
 const CUTS: &[(usize, &[u8])] = &[
@@ -117,12 +121,8 @@ const CUTS: &[(usize, &[u8])] = &[
     (175, b"p.scm: segment 0\n"),
 ];
 
-// It is whole, or cut off.
-#[test]
-fn a_compiled_image_is_cut_off(rt: HostRuntime) -> Result<(), Fail> {
-    let alloc = rt.alloc();
-    let image = small_image(alloc)?;
-    let image = image.as_slice();
+// Steps an image that is whole, or cut off.
+fn check_cuts(alloc: Global, image: &[u8]) -> Result<(), Fail> {
     let line = "step p.scm";
     check_well(alloc, line, image, (0, b"3\n", b""))?;
     for (length, said) in CUTS {
@@ -133,17 +133,32 @@ fn a_compiled_image_is_cut_off(rt: HostRuntime) -> Result<(), Fail> {
     check_well(alloc, line, begun, (8, b"", b"p.scm: segment 1\n"))
 }
 
-// The number of the program headers is another, or the type of the second one.
+#[test]
+fn a_compiled_image_is_cut_off(rt: HostRuntime) -> Result<(), Fail> {
+    let image = small_image(rt.alloc())?;
+    check_cuts(rt.alloc(), image.as_slice())
+}
+
+/// A place, its byte, and what is said: the number of the program headers is another, or the type of the second one.
+const CHANGES: &[(usize, u8, &[u8])] = &[
+    (56, 17, b"p.scm: wrong machine\n"),
+    (120, 3, b"p.scm: segment 1\n"),
+];
+
+// Steps an image with another byte at a place.
+fn check_changed(alloc: Global, image: &[u8], change: (usize, u8, &[u8])) -> Result<(), Fail> {
+    let (place, byte, said) = change;
+    let other = changed(alloc, image, place, byte)?;
+    check_well(alloc, "step p.scm", other.as_slice(), (8, b"", said))
+}
+
 #[test]
 fn a_compiled_image_is_changed(rt: HostRuntime) -> Result<(), Fail> {
-    let alloc = rt.alloc();
-    let image = small_image(alloc)?;
-    let many = changed(alloc, image.as_slice(), 56, 17)?;
-    let wrong = (8, b"".as_slice(), b"p.scm: wrong machine\n".as_slice());
-    check_well(alloc, "step p.scm", many.as_slice(), wrong)?;
-    let other = changed(alloc, image.as_slice(), 120, 3)?;
-    let second = (8, b"".as_slice(), b"p.scm: segment 1\n".as_slice());
-    check_well(alloc, "step p.scm", other.as_slice(), second)
+    let image = small_image(rt.alloc())?;
+    for change in CHANGES {
+        check_changed(rt.alloc(), image.as_slice(), *change)?;
+    }
+    Ok(())
 }
 
 const NO_IMAGES: &[Ended] = &[
@@ -151,12 +166,12 @@ const NO_IMAGES: &[Ended] = &[
     (&[b' '; 64], (8, b"", b"p.scm: not ELF\n")),
 ];
 
+const TOO_LARGE: Wanted = (8, b"", b"p.scm: too large\n");
+
 // Files of no image, and one with more than 3 GiB of memory.
 #[test]
 fn files_of_no_image(rt: HostRuntime) -> Result<(), Fail> {
-    let alloc = rt.alloc();
-    check_files(alloc, "step p.scm", NO_IMAGES)?;
-    let large = file_of(alloc, &[0xC3], 3_221_225_473)?;
-    let wanted = (8, b"".as_slice(), b"p.scm: too large\n".as_slice());
-    check_well(alloc, "step p.scm", large.as_slice(), wanted)
+    check_files(rt.alloc(), "step p.scm", NO_IMAGES)?;
+    let large = file_of(rt.alloc(), &[0xC3], 3_221_225_473)?;
+    check_well(rt.alloc(), "step p.scm", large.as_slice(), TOO_LARGE)
 }

@@ -1,22 +1,27 @@
 //! The verb `list` over memory, and the listing's file of `compile`.
 
 use crate::outside::{Outside, call, call_well, check, check_well, ended};
-use sch_word::Answer;
+use sch_word::{Answer, Bytes};
 use std::alloc::Global;
 use std::str;
 use std::test::Fail;
 
 const SOURCE: &[u8] = b"(define (f x) x)(newline)";
 
+// The file of a listing that is written beside an executable.
+fn listing_beside(alloc: Global) -> Result<Bytes, Fail> {
+    let mut compiled = call_well(alloc, "compile a p --listing=f", SOURCE)?;
+    if compiled.status != 0 || compiled.file(alloc, "p").is_none() {
+        return Err(Fail::from("no executable"));
+    }
+    Ok(compiled.file(alloc, "f").ok_or("no listing")?)
+}
+
 // The file of a listing holds what `list` prints.
 #[test]
 fn listing_in_a_file(rt: HostRuntime) -> Result<(), Fail> {
-    let listed = call_well(rt.alloc(), "list a", SOURCE)?;
-    let mut compiled = call_well(rt.alloc(), "compile a p --listing=f", SOURCE)?;
-    assert!(rt; compiled.status == 0 && compiled.file(rt.alloc(), "p").is_some());
-    let listing = compiled.file(rt.alloc(), "f").ok_or("no listing")?;
-    assert!(rt; listing.as_slice() == listed.printed());
-    Ok(())
+    let listing = listing_beside(rt.alloc())?;
+    check_well(rt.alloc(), "list a", SOURCE, (0, listing.as_slice(), b""))
 }
 
 #[test]
@@ -111,13 +116,19 @@ fn instructions(listing: &[u8]) -> Result<u64, Fail> {
     Err(Fail::from("no instructions"))
 }
 
+const SUM: &[u8] = b"(display (+ 1 2))(newline)";
+
+// How many instructions are listed of it.
+fn listed_instructions(alloc: Global) -> Result<u64, Fail> {
+    let listed = call_well(alloc, "list a", SUM)?;
+    instructions(listed.printed())
+}
+
 // 10,240 steps for each instruction that is listed are enough for a program this small.
 #[test]
 fn a_source_runs_in_steps_by_its_listing(rt: HostRuntime) -> Result<(), Fail> {
-    let source = b"(display (+ 1 2))(newline)";
-    let listed = call_well(rt.alloc(), "list a", source)?;
-    let count = instructions(listed.printed())?;
+    let count = listed_instructions(rt.alloc())?;
     let steps = count.checked_mul(10_240).ok_or("too many steps")?;
     let line = format!(in rt.alloc(); "run a --steps={steps}")?;
-    check_well(rt.alloc(), line.as_str(), source, (0, b"3\n", b""))
+    check_well(rt.alloc(), line.as_str(), SUM, (0, b"3\n", b""))
 }

@@ -122,6 +122,12 @@ pub(crate) fn call_well(alloc: Global, line: &str, file: &[u8]) -> Result<Outcom
     call(alloc, line, Outside::of(file))
 }
 
+/// The file `p` that a call writes, where nothing fails.
+pub(crate) fn written(alloc: Global, line: &str, file: &[u8]) -> Result<Bytes, Fail> {
+    let mut outcome = call_well(alloc, line, file)?;
+    Ok(outcome.file(alloc, "p").ok_or("no file")?)
+}
+
 /// What is wanted of a call: its status, what the standard output took, and what is said.
 pub(crate) type Wanted<'a> = (u8, &'a [u8], &'a [u8]);
 
@@ -213,17 +219,27 @@ pub(crate) fn repeat(source: &mut Bytes, part: &[u8], count: usize) -> Result<()
     Ok(())
 }
 
+fn push_repeated(source: &mut Bytes, repeated: Repeated) -> Result<(), Mem> {
+    let (first, part, count, last) = repeated;
+    source.extend_from_slice(first)?;
+    repeat(source, part, count)?;
+    source.extend_from_slice(last)
+}
+
+fn check_one(alloc: Global, line: &str, repeated: Repeated, wanted: Wanted) -> Result<(), Fail> {
+    let mut source = Bytes::new(alloc);
+    push_repeated(&mut source, repeated)?;
+    check_well(alloc, line, source.as_slice(), wanted)
+}
+
 /// Calls the program with one line and the file of each of these texts.
 pub(crate) fn check_repeated(
     alloc: Global,
     line: &str,
     rows: &[(Repeated, Wanted)],
 ) -> Result<(), Fail> {
-    for ((first, part, count, last), wanted) in rows {
-        let mut source = Bytes::from_slice(alloc, first)?;
-        repeat(&mut source, part, *count)?;
-        source.extend_from_slice(last)?;
-        check_well(alloc, line, source.as_slice(), *wanted)?;
+    for (repeated, wanted) in rows {
+        check_one(alloc, line, *repeated, *wanted)?;
     }
     Ok(())
 }

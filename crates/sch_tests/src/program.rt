@@ -2,8 +2,8 @@
 ghost use Rattle.std.specs.Prelude.{◌≤◌, length};
 
 use crate::outside::{
-    Called, Ended, Repeated, Wanted, call_well, check_files, check_lines, check_printed,
-    check_repeated, check_well,
+    Called, Ended, Repeated, Wanted, check_files, check_lines, check_printed, check_repeated,
+    check_well, written,
 };
 use sch_cli::report_words;
 use sch_elf::{program_image, write_image};
@@ -126,8 +126,7 @@ const PLACES: &[(usize, &[u8])] = &[
 
 #[test]
 fn program_has_its_header(rt: HostRuntime) -> Result<(), Fail> {
-    let mut outcome = call_well(rt.alloc(), COMPILE, b"(display -42)\n(newline)\n")?;
-    let file = outcome.file(rt.alloc(), "p").ok_or("no file")?;
+    let file = written(rt.alloc(), COMPILE, b"(display -42)\n(newline)\n")?;
     for (place, bytes) in PLACES {
         let rest = file.as_slice().get(*place..).ok_or("too short")?;
         assert!(rt; rest.starts_with(bytes), "at {place}");
@@ -243,8 +242,7 @@ const STEPPED: &[(&[u8], &[u8])] = &[
 #[test]
 fn compiled_images_step(rt: HostRuntime) -> Result<(), Fail> {
     for (source, printed) in STEPPED {
-        let mut compiled = call_well(rt.alloc(), "compile a p --heap 4096", source)?;
-        let image = compiled.file(rt.alloc(), "p").ok_or("no file")?;
+        let image = written(rt.alloc(), "compile a p --heap 4096", source)?;
         check_well(rt.alloc(), "step a", image.as_slice(), (0, printed, b""))?;
     }
     Ok(())

@@ -3,8 +3,8 @@
 use crate::outside::{RUN, check_well, repeat};
 use sch_asm::Mark;
 use sch_driver::{Compiled, MAX_SOURCE_SIZE, compile};
-use sch_listing::Cycle;
-use sch_word::{Bytes, Limits, MarkKind, Place};
+use sch_listing::{Cycle, Listing};
+use sch_word::{Bytes, Limits, MarkKind, Mem, Place};
 use std::alloc::Global;
 use std::str;
 use std::test::Fail;
@@ -103,11 +103,27 @@ fn failed(name: &[u8]) -> Fail {
     }
 }
 
+// What is listed of the program of a text.
+fn listed(alloc: Global, text: &[u8]) -> Result<Listing, Fail> {
+    let made = compiled(alloc, text)?;
+    Ok(made.listing)
+}
+
+// The marks of the body of this name.
+fn marks_named(alloc: Global, listing: &Listing, name: &[u8]) -> Result<Vec<(u8, u32)>, Fail> {
+    let body = body_of(listing.bodies.as_slice(), name);
+    marks_of(alloc, listing.marks.as_slice(), body)
+}
+
+// The marks of the body of this name in the program of a text.
+fn marks_in(alloc: Global, text: &[u8], name: &[u8]) -> Result<Vec<(u8, u32)>, Fail> {
+    let listing = listed(alloc, text)?;
+    marks_named(alloc, &listing, name)
+}
+
 // Compiles a text: the marks of the body of this name.
 fn check_marks(alloc: Global, text: &[u8], name: &[u8], wanted: &[(u8, u32)]) -> Result<(), Fail> {
-    let made = compiled(alloc, text)?;
-    let body = body_of(made.listing.bodies.as_slice(), name);
-    let marks = marks_of(alloc, made.listing.marks.as_slice(), body)?;
+    let marks = marks_in(alloc, text, name)?;
     if marks.as_slice() != wanted {
         return Err(failed(name));
     }
@@ -120,9 +136,9 @@ const ARM: &[u8] =
 // The test of `x` lies between them.
 #[test]
 fn saves_behind_a_test(rt: HostRuntime) -> Result<(), Fail> {
-    let made = compiled(rt.alloc(), ARM)?;
-    let body = body_of(made.listing.bodies.as_slice(), b"g");
-    assert!(rt; gap(made.listing.marks.as_slice(), body) > 7);
+    let listing = listed(rt.alloc(), ARM)?;
+    let body = body_of(listing.bodies.as_slice(), b"g");
+    assert!(rt; gap(listing.marks.as_slice(), body) > 7);
     Ok(())
 }
 
@@ -211,10 +227,10 @@ fn swaps_at(cycles: &[Cycle], site: u32) -> u64 {
 // Of the second call there is one cycle.
 #[test]
 fn swaps_by_one_cycle(rt: HostRuntime) -> Result<(), Fail> {
-    let made = compiled(rt.alloc(), SWAP)?;
-    let body = body_of(made.listing.bodies.as_slice(), b"swap");
-    let site = last_tail(made.listing.marks.as_slice(), body);
-    assert!(rt; swaps_at(made.listing.cycles.as_slice(), site) == 1);
+    let listing = listed(rt.alloc(), SWAP)?;
+    let body = body_of(listing.bodies.as_slice(), b"swap");
+    let site = last_tail(listing.marks.as_slice(), body);
+    assert!(rt; swaps_at(listing.cycles.as_slice(), site) == 1);
     Ok(())
 }
 
@@ -235,27 +251,35 @@ fn spills(marks: &[(u8, u32)]) -> u64 {
 // Of seven variables that live at once six have registers.
 #[test]
 fn spills_the_seventh(rt: HostRuntime) -> Result<(), Fail> {
-    let made = compiled(rt.alloc(), SEVEN)?;
-    let body = body_of(made.listing.bodies.as_slice(), b"f");
-    let marks = marks_of(rt.alloc(), made.listing.marks.as_slice(), body)?;
+    let marks = marks_in(rt.alloc(), SEVEN, b"f")?;
     assert!(rt; spills(marks.as_slice()) == 1);
     Ok(())
 }
 
-// Runs a procedure that binds this many variables, each inside the one before it, and calls another one inside them all.
-fn check_nest(alloc: Global, count: usize, printed: &[u8]) -> Result<(), Fail> {
-    let mut source = Bytes::from_slice(alloc, b"(define (g x) x)(define (f a) ")?;
-    repeat(&mut source, b"(let ((a (+ 1 a))) ", count)?;
+// A procedure that binds this many variables, each inside the one before it, and calls another one inside them all.
+fn push_nest(source: &mut Bytes, count: usize) -> Result<(), Mem> {
+    source.extend_from_slice(b"(define (g x) x)(define (f a) ")?;
+    repeat(source, b"(let ((a (+ 1 a))) ", count)?;
     source.extend_from_slice(b"(+ (g 0) a)")?;
-    repeat(&mut source, b")", count)?;
-    source.extend_from_slice(b")(display (f 0))")?;
+    repeat(source, b")", count)?;
+    source.extend_from_slice(b")(display (f 0))")
+}
+
+// Runs such a procedure.
+fn check_nest(alloc: Global, count: usize, printed: &[u8]) -> Result<(), Fail> {
+    let mut source = Bytes::new(alloc);
+    push_nest(&mut source, count)?;
     check_well(alloc, RUN, source.as_slice(), (0, printed, b""))
 }
+
+/// How many variables are bound, and what is printed.
+const NESTS: &[(usize, &[u8])] = &[(50, b"50"), (70, b"70"), (300, b"300")];
 
 // Sets of variables have one, four and sixteen words.
 #[test]
 fn bodies_of_many_variables_run(rt: HostRuntime) -> Result<(), Fail> {
-    check_nest(rt.alloc(), 50, b"50")?;
-    check_nest(rt.alloc(), 70, b"70")?;
-    check_nest(rt.alloc(), 300, b"300")
+    for (count, printed) in NESTS {
+        check_nest(rt.alloc(), *count, printed)?;
+    }
+    Ok(())
 }

@@ -1,7 +1,7 @@
 //! Lists of operands, run over memory: behind many formals, and in calls of many operands (R5RS 4.1.4).
 
 use crate::program::{WRONG_COUNT, check_printed, check_rows, check_stops};
-use std::alloc::Global;
+use std::alloc::{AllocError, Global};
 use std::test::Fail;
 
 /// Formals before the rest variable that come in registers, and such that come in the frame.
@@ -76,40 +76,55 @@ fn behind_many_formals_and_in_calls(rt: HostRuntime) -> Result<(), Fail> {
     check_rows(rt.alloc(), FORMALS)
 }
 
-/// `(define (g) (f 0 1 ... ))`, with this many operands, each the digit of its place; what `f` makes is written.
-fn call_of(alloc: Global, operands: usize, tail: bool) -> Result<(Vec<u8>, Vec<u8>), Fail> {
-    let mut source = Vec::from_slice(alloc, b"(define (f a . l) l)(define (g) ")?;
-    source.extend_from_slice(if tail { b"(f" } else { b"(cdr (f" })?;
-    let mut printed = Vec::from_slice(alloc, b"(")?;
-    for place in 0..operands {
-        let digit = b'0' + (place % 10) as u8;
-        source.push(b' ')?;
-        source.push(digit)?;
-        let first = if tail { 1 } else { 2 };
-        if place > first {
-            printed.push(b' ')?;
-        }
-        if place >= first {
-            printed.push(digit)?;
-        }
+/// The digits of these places, each behind a space.
+fn push_digits(out: &mut Vec<u8>, first: usize, end: usize) -> Result<(), AllocError> {
+    for place in first..end {
+        out.push(b' ')?;
+        out.push(b'0' + (place % 10) as u8)?;
     }
-    source.extend_from_slice(if tail {
-        b"))(write (g))"
-    } else {
-        b")))(write (g))"
-    })?;
-    printed.push(b')')?;
-    Ok((source, printed))
+    Ok(())
+}
+
+/// `(define (g) (f 0 1 ... ))`, with this many operands, each the digit of its place, between these texts.
+fn push_call(out: &mut Vec<u8>, texts: (&[u8], &[u8]), operands: usize) -> Result<(), AllocError> {
+    out.extend_from_slice(b"(define (f a . l) l)(define (g) ")?;
+    out.extend_from_slice(texts.0)?;
+    push_digits(out, 0, operands)?;
+    out.extend_from_slice(texts.1)
+}
+
+/// What `f` makes of them, or what stands behind its first element, is written: the digits from this place on.
+fn push_list(out: &mut Vec<u8>, first: usize, operands: usize) -> Result<(), AllocError> {
+    out.push(b'(')?;
+    out.push(b'0' + (first % 10) as u8)?;
+    push_digits(out, first.saturating_add(1), operands)?;
+    out.push(b')')?;
+    Ok(())
+}
+
+/// What stands before and behind the operands of a call, and the place of the first operand that is written.
+const CALLS: &[((&[u8], &[u8]), usize)] = &[
+    ((b"(cdr (f", b")))(write (g))"), 2),
+    ((b"(f", b"))(write (g))"), 1),
+];
+
+// Calls with this many operands, and with a tail call.
+fn check_calls(alloc: Global, operands: usize) -> Result<(), Fail> {
+    for (texts, first) in CALLS {
+        let mut source = Vec::new(alloc);
+        push_call(&mut source, *texts, operands)?;
+        let mut printed = Vec::new(alloc);
+        push_list(&mut printed, *first, operands)?;
+        check_printed(alloc, source.as_slice(), printed.as_slice())?;
+    }
+    Ok(())
 }
 
 // 200 operands are the most that a call may have.
 #[test]
 fn in_calls_of_many_operands(rt: HostRuntime) -> Result<(), Fail> {
     for operands in [6, 7, 8, 199, 200] {
-        for tail in [false, true] {
-            let (source, printed) = call_of(rt.alloc(), operands, tail)?;
-            check_printed(rt.alloc(), source.as_slice(), printed.as_slice())?;
-        }
+        check_calls(rt.alloc(), operands)?;
     }
     Ok(())
 }

@@ -1,13 +1,21 @@
 //! Each kind of binding, its cells, and its closures, of programs of one form.
 
+ghost use Rattle.std.specs.Prelude.{◌+◌, ◌-◌, ◌*◌, ◌^◌, ◌<◌, ◌≤◌, length};
+ghost use Rattle.sch_lang.specs.Measures.{nodes_and_bound};
+ghost use Rattle.sch_lang.specs.ProgramView.{source};
+ghost use Rattle.sch_cells.specs.ProgramView as cells;
+ghost use Rattle.sch_cells.specs.Bodies.{bodies_of};
+
 use crate::texts::{control_of, small_program_of};
 use sch_assign::convert_assign;
-use sch_cells::{Boxed, CellProgram, Exp as Cell};
+use sch_cells::{Boxed, CellProgram, Exp as Cell, Unboxed};
 use sch_closure::close;
+use sch_control::Body as ControlBody;
 use sch_core::CoreError;
 use sch_flat::{Body, Exp as Flat, Variable};
+use sch_lang::Program;
 use sch_rename::rename;
-use sch_word::List;
+use sch_word::{List, Mem};
 use std::alloc::Global;
 use std::test::Fail;
 
@@ -20,17 +28,39 @@ struct Made {
     is_nest: bool,
 }
 
+// What closing makes of a program with cells, whose variables have this many numbers.
+fn made_of_cells(alloc: Global, variables: u32, converted: &CellProgram<Boxed>) -> Result<Made, Mem>
+    requires { length (bodies_of (cells.source converted.now)) < 2 ^ 32 - 2 ^ 10 }
+{
+    let closed = close(alloc, converted)?;
+    Ok(Made {
+        variables,
+        cells: cells_of(converted.forms.as_slice()),
+        is_nest: is_nest(closed.bodies.as_slice()),
+    })
+}
+
+// What converting and closing make of a program whose variables have numbers.
+fn made_of_numbered(alloc: Global, renamed: &CellProgram<Unboxed>) -> Result<Made, Mem>
+    requires variables { renamed.now.variables + renamed.now.variables < 2 ^ 32 - 2 ^ 10 }
+    requires bodies { length (bodies_of (cells.source renamed.now)) < 2 ^ 32 - 2 ^ 10 }
+{
+    let converted = convert_assign(alloc, renamed)?;
+    made_of_cells(alloc, renamed.variables, &converted)
+}
+
+// What the first passes make of a program.
+fn made_of_program(alloc: Global, program: &Program) -> Result<Made, Mem>
+    requires { nodes_and_bound (source program.now) ≤ 112 * 8192 }
+{
+    let renamed = rename(alloc, program)?;
+    made_of_numbered(alloc, &renamed)
+}
+
 // What they make of the program of a text.
 fn made_of(alloc: Global, text: &[u8]) -> Result<Made, CoreError> {
     let program = small_program_of(alloc, text)?;
-    let renamed = rename(alloc, &program)?;
-    let converted = convert_assign(alloc, &renamed)?;
-    let closed = close(alloc, &converted)?;
-    Ok(Made {
-        variables: renamed.variables,
-        cells: cells_of(&converted),
-        is_nest: is_nest(closed.bodies.as_slice()),
-    })
+    Ok(made_of_program(alloc, &program)?)
 }
 
 // How many new cells an expression makes at its top.
@@ -57,8 +87,8 @@ fn new_cells(e: &Cell) -> usize {
 }
 
 // How many new cells the one form of a program makes.
-fn cells_of(p: &CellProgram<Boxed>) -> usize {
-    match p.forms.as_slice() {
+fn cells_of(forms: &[Cell]) -> usize {
+    match forms {
         [form] => new_cells(form),
         _ => 100,
     }
@@ -128,14 +158,19 @@ fn a_free_variable_of_a_free_variable(rt: HostRuntime) -> Result<(), Fail> {
     Ok(())
 }
 
-// How many variables each body of a text has.
-fn variables_in(alloc: Global, text: &[u8]) -> Result<List<u32>, CoreError> {
-    let q = control_of(alloc, text)?;
+// How many variables each body has.
+fn counts_of(alloc: Global, bodies: &[ControlBody]) -> Result<List<u32>, Mem> {
     let mut all = List::new(alloc);
-    for b in q.bodies.as_slice() {
+    for b in bodies {
         all.push(b.variables)?;
     }
     Ok(all)
+}
+
+// How many variables each body of a text has.
+fn variables_in(alloc: Global, text: &[u8]) -> Result<List<u32>, CoreError> {
+    let q = control_of(alloc, text)?;
+    Ok(counts_of(alloc, q.bodies.as_slice())?)
 }
 
 // Procedures have their return address, their closure and their formals.

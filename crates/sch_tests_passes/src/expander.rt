@@ -1,6 +1,6 @@
 //! Texts that have a program, the limit of variables, and how deep data are walked.
 
-ghost use Rattle.std.specs.Prelude.{◌≡◌, ◌+◌, ◌*◌, IfOk};
+ghost use Rattle.std.specs.Prelude.{◌≡◌, ◌+◌, ◌*◌, length, IfOk};
 ghost use Rattle.sch_read.specs.Grammar.{atom, list, symbol};
 ghost use Rattle.sch_read.specs.Valid.{weight};
 ghost use Rattle.sch_read.specs.Views.{tree_of, data_of};
@@ -167,16 +167,24 @@ fn listed(at: u32, items: List<Datum>) -> Datum
     Datum { at, node }
 }
 
+// A datum behind a name of five letters, in a list.
+fn behind(alloc: Global, at: u32, name: &[u8], d: Datum) -> Result<Datum, Mem>
+    requires { length name.now ≡ 5 }
+    ensures { IfOk result (λ r. weight (tree_of r) ≡ 7 + weight (tree_of d)) }
+{
+    let mut items = List::new(alloc);
+    items.push(word(at, List::from_slice(alloc, name)?))?;
+    items.push(d)?;
+    Ok(listed(at, items))
+}
+
 // An empty list in this number of `begin`s.
 fn in_beginnings(alloc: Global, levels: u32) -> Result<Datum, Mem>
     ensures { IfOk result (λ d. weight (tree_of d) ≡ 1 + 7 * levels) }
 {
     let mut d = listed(0, List::new(alloc));
     for at in 0..levels {
-        let mut items = List::new(alloc);
-        items.push(word(at, List::from_slice(alloc, b"begin")?))?;
-        items.push(d)?;
-        d = listed(at, items);
+        d = behind(alloc, at, b"begin", d)?;
     }
     Ok(d)
 }
@@ -198,21 +206,11 @@ fn very_deep_data_are_walked(rt: HostRuntime) -> Result<(), Fail> {
     Ok(())
 }
 
-// A datum, quoted.
-fn quoted(alloc: Global, d: Datum) -> Result<Datum, Mem>
-    ensures { IfOk result (λ r. weight (tree_of r) ≡ 7 + weight (tree_of d)) }
-{
-    let mut items = List::new(alloc);
-    items.push(word(0, List::from_slice(alloc, b"quote")?))?;
-    items.push(d)?;
-    Ok(listed(0, items))
-}
-
 // Whether such data, quoted, have a program of one literal.
 fn is_one_literal(alloc: Global, levels: u32) -> Result<bool, Mem> {
     let mut items = List::new(alloc);
     let d = in_beginnings(alloc, levels.min(1_000_000))?;
-    items.push(quoted(alloc, d)?)?;
+    items.push(behind(alloc, 0, b"quote", d)?)?;
     match core(alloc, &Library::empty(alloc), items.as_slice()) {
         Ok(p) => Ok(p.literals.len() == 1),
         Err(_) => Ok(false),

@@ -24,7 +24,10 @@ fn register(place: Place) -> u8 {
     }
 }
 
-fn seen(m: &Move) -> (u8, u8, u32, bool) {
+/// A move by the registers that it goes from and to, its argument, and whether that is set aside.
+type Seen = (u8, u8, u32, bool);
+
+fn seen(m: &Move) -> Seen {
     let from = match &m.from {
         Operand::Place(p) => register(*p),
         Operand::Fixed(_) => OTHER,
@@ -34,7 +37,7 @@ fn seen(m: &Move) -> (u8, u8, u32, bool) {
     (from, register(m.to), m.argument, m.temp)
 }
 
-fn seen_list(alloc: Global, moves: &Moves) -> Result<List<(u8, u8, u32, bool)>, Mem> {
+fn seen_list(alloc: Global, moves: &Moves) -> Result<List<Seen>, Mem> {
     let mut all = List::new(alloc);
     for m in moves.list.as_slice() {
         all.push(seen(m))?;
@@ -42,14 +45,19 @@ fn seen_list(alloc: Global, moves: &Moves) -> Result<List<(u8, u8, u32, bool)>, 
     Ok(all)
 }
 
+// Whether these are the moves, with so many cycles.
+fn are_moves(alloc: Global, moves: &Moves, wanted: &[Seen], cycles: usize) -> Result<bool, Mem> {
+    let all = seen_list(alloc, moves)?;
+    Ok(all.as_slice() == wanted && moves.cycles.len() == cycles)
+}
+
 /// r8 and rbx to rbx and r8: one goes by rax.
 #[test]
 fn a_swap(rt: HostRuntime) -> Result<(), Mem> {
     let args = [Operand::Place(R8), Operand::Place(RBX)];
     let moves = shuffle(rt.alloc(), &args, &[RBX, R8], &[RAX, RCX])?;
-    let all = seen_list(rt.alloc(), &moves)?;
-    assert!(rt; all.as_slice() == [(8, 0, 0, true), (3, 8, 1, false), (0, 3, 0, false)].as_slice());
-    assert!(rt; moves.cycles.len() == 1);
+    let wanted = [(8, 0, 0, true), (3, 8, 1, false), (0, 3, 0, false)];
+    assert!(rt; are_moves(rt.alloc(), &moves, &wanted, 1)?);
     Ok(())
 }
 
@@ -58,8 +66,7 @@ fn a_swap(rt: HostRuntime) -> Result<(), Mem> {
 fn a_chain(rt: HostRuntime) -> Result<(), Mem> {
     let args = [Operand::Place(R8), Operand::Place(R9)];
     let moves = shuffle(rt.alloc(), &args, &[RBX, R8], &[RAX, RCX])?;
-    let all = seen_list(rt.alloc(), &moves)?;
-    assert!(rt; all.as_slice() == [(8, 3, 0, false), (9, 8, 1, false)].as_slice());
-    assert!(rt; moves.cycles.is_empty());
+    let wanted = [(8, 3, 0, false), (9, 8, 1, false)];
+    assert!(rt; are_moves(rt.alloc(), &moves, &wanted, 0)?);
     Ok(())
 }

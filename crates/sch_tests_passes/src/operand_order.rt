@@ -83,11 +83,15 @@ fn is_order(q: &ControlProgram) -> bool {
     }
 }
 
+// Whether the parts of a program are these, and their order is listed so.
+fn binds_whole(alloc: Global, q: &ControlProgram) -> Result<bool, Mem> {
+    let parts = parts_of(alloc, q)?;
+    Ok(parts.as_slice() == PARTS && is_order(q))
+}
+
 #[test]
 fn binds_each_operand_whole(rt: HostRuntime) -> Result<(), Fail> {
     let q = control_of(rt.alloc(), TEXT)?;
-    let parts = parts_of(rt.alloc(), &q)?;
-    assert!(rt; parts.as_slice() == PARTS);
-    assert!(rt; is_order(&q));
+    assert!(rt; binds_whole(rt.alloc(), &q)?);
     Ok(())
 }

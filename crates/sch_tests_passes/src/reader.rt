@@ -7,16 +7,23 @@ use sch_word::{List, Mem};
 use std::alloc::Global;
 use std::test::Fail;
 
-// The data of the text, each printed with a line feed after it.
-fn rewritten(alloc: Global, text: &[u8]) -> Result<List<u8>, ReadError> {
+// Each of some data, printed with a line feed after it.
+fn print_each(alloc: Global, data: &[Datum]) -> Result<List<u8>, Mem> {
     let mut out = List::new(alloc);
-    if text.len() < 4_294_967_296 {
-        for d in read_all(alloc, text)?.into_vec() {
-            out.append(print(alloc, &d)?)?;
-            out.push(b'\n')?;
-        }
+    for d in data {
+        out.append(print(alloc, d)?)?;
+        out.push(b'\n')?;
     }
     Ok(out)
+}
+
+// The same of the data of the text.
+fn rewritten(alloc: Global, text: &[u8]) -> Result<List<u8>, ReadError> {
+    if text.len() >= 4_294_967_296 {
+        return Ok(List::new(alloc));
+    }
+    let data = read_all(alloc, text)?;
+    Ok(print_each(alloc, data.as_slice())?)
 }
 
 fn truth() -> Datum {

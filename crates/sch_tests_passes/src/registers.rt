@@ -3,6 +3,8 @@
 ghost use Rattle.std.specs.Prelude.{◌≡◌, ◌∷◌, [], false, true, IfOk};
 ghost use Rattle.sch_control.specs.declared.operation.Atom.TheVariants as atom;
 ghost use Rattle.sch_control.specs.declared.operation.Operand.TheVariants as operand;
+ghost use Rattle.sch_control.specs.View.{expression_with};
+ghost use Rattle.sch_layout.specs.BodyLayout.{labels};
 ghost use Rattle.sch_word.specs.declared.constant.Const.TheVariants.{Character};
 ghost use Rattle.sch_word.specs.declared.place.Place.TheVariants.{Reg, Slot};
 ghost use Rattle.sch_writer.specs.FewOperands.{FewOperands};
@@ -156,16 +158,11 @@ fn value(o: Operand<u32>) -> Exp<List<u32>>
     Exp::Do(Operation::Operand(o))
 }
 
-// The call of a variable with another one, at a site, after which some are restored.
-fn call(
-    alloc: Global,
-    site: u32,
-    operator: u32,
-    operand: u32,
-    restored: &[u32],
-) -> Result<Exp<List<u32>>, Mem>
+// The call of a variable with another one: its site and the two variables; some are restored after it.
+fn call(alloc: Global, parts: (u32, u32, u32), restored: &[u32]) -> Result<Exp<List<u32>>, Mem>
     ensures { IfOk result (λ e. FewOperands e) }
 {
+    let (site, operator, operand) = parts;
     let mut operands = List::new(alloc);
     operands.push(variable(operand))?;
     let a = Application {
@@ -177,17 +174,19 @@ fn call(
     Ok(Exp::Call(a, numbers(alloc, restored)?))
 }
 
-fn in_turn(
+// Such a call before the rest.
+fn call_before(
     alloc: Global,
-    first: Exp<List<u32>>,
+    parts: (u32, u32, u32),
+    restored: &[u32],
     rest: Exp<List<u32>>,
 ) -> Result<Exp<List<u32>>, Mem>
-    requires first { FewOperands first }
-    requires rest { FewOperands rest }
+    requires { FewOperands rest }
     ensures { IfOk result (λ e. FewOperands e) }
 {
-    let first = Box::new(alloc, first)?;
     let rest = Box::new(alloc, rest)?;
+    let first = call(alloc, parts, restored)?;
+    let first = Box::new(alloc, first)?;
     Ok(Exp::Seq(first, rest))
 }
 
@@ -206,9 +205,8 @@ fn with_letter(alloc: Global, rest: Exp<List<u32>>) -> Result<Exp<List<u32>>, Me
 fn calls_the_argument(alloc: Global) -> Result<Exp<List<u32>>, Mem>
     ensures { IfOk result (λ e. FewOperands e) }
 {
-    let last = Exp::Return(Box::new(alloc, value(variable(3)))?);
-    let second = call(alloc, 1, 2, 3, &[3, 0])?;
-    in_turn(alloc, second, last)
+    let last = Box::new(alloc, value(variable(3)))?;
+    call_before(alloc, (1, 2, 3), &[3, 0], Exp::Return(last))
 }
 
 // Calls itself with a variable, restores 2 and 0, and goes on with variable 3.
@@ -216,8 +214,7 @@ fn calls_itself(alloc: Global) -> Result<Exp<List<u32>>, Mem>
     ensures { IfOk result (λ e. FewOperands e) }
 {
     let rest = with_letter(alloc, calls_the_argument(alloc)?)?;
-    let first = call(alloc, 0, 1, 2, &[2, 0])?;
-    in_turn(alloc, first, rest)
+    call_before(alloc, (0, 1, 2), &[2, 0], rest)
 }
 
 // All variables are in a region: 1 lives in a slot, 0 and 2 are saved at the head, and 3 where it is bound.
@@ -274,7 +271,7 @@ const R14: u32 = registers::R14 as u32;
 const SLOT: u32 = 100;
 
 // The closure is stored in its slot, and RBX has the argument already; then what stands at the head of the region is saved.
-const EXPECTED: [(u8, u32, u32); 33] = [
+const EXPECTED: &[(u8, u32, u32)] = &[
     (b'P', 1, 0),
     (b'c', SLOT + 21, R14),
     (b'S', 0, 0),
@@ -314,9 +311,19 @@ const EXPECTED: [(u8, u32, u32); 33] = [
     (b'r', 0, 0),
 ];
 
-#[test]
-fn saves_and_restores(rt: HostRuntime) -> Result<(), Fail> {
-    let alloc = rt.alloc();
+fn seen_all(alloc: Global, instructions: &[Instruction]) -> Result<List<(u8, u32, u32)>, Mem> {
+    let mut all = List::new(alloc);
+    for i in instructions {
+        all.push(seen(i))?;
+    }
+    Ok(all)
+}
+
+// Whether this is written for a body of one formal that tests nothing.
+fn is_written(alloc: Global, body: &Exp<List<u32>>) -> Result<bool, Mem>
+    requires few { FewOperands body.now }
+    requires labels { labels (expression_with (λ call. call) body.now) ≡ 0 }
+{
     let allocation = Allocation {
         places: Places,
         restores: Listed,
@@ -326,15 +333,15 @@ fn saves_and_restores(rt: HostRuntime) -> Result<(), Fail> {
         rest: false,
         fields: 0,
     };
-    let body = in_region(alloc)?;
-    if !is_straight(&body) {
-        return Err(Fail::from("a body that tests"));
-    }
-    let out = write_body(alloc, &allocation, Some(entry), &body)?;
-    let mut all = List::new(alloc);
-    for i in out.instructions.as_slice() {
-        all.push(seen(i))?;
-    }
-    assert!(rt; all.as_slice() == EXPECTED.as_slice());
+    let out = write_body(alloc, &allocation, Some(entry), body)?;
+    let all = seen_all(alloc, out.instructions.as_slice())?;
+    Ok(all.as_slice() == EXPECTED)
+}
+
+#[test]
+fn saves_and_restores(rt: HostRuntime) -> Result<(), Fail> {
+    let body = in_region(rt.alloc())?;
+    assert!(rt; is_straight(&body));
+    assert!(rt; is_written(rt.alloc(), &body)?);
     Ok(())
 }

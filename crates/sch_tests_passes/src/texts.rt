@@ -1,10 +1,12 @@
 //! Texts, and what the expander and the passes behind it make of them.
 
-ghost use Rattle.std.specs.Prelude.{◌≤◌, ◌*◌, length, IfOk, IsTrue};
+ghost use Rattle.std.specs.Prelude.{◌≤◌, ◌<◌, ◌*◌, ◌^◌, length, IfOk, IsTrue};
 ghost use Rattle.sch_lang.specs.Measures.{nodes_and_bound};
 ghost use Rattle.sch_lang.specs.ProgramView.{source};
 ghost use Rattle.sch_control.specs.Covered.{is_covered_program};
 ghost use Rattle.sch_control.specs.ProgramView as control;
+ghost use Rattle.sch_control.specs.Sizes.{tests_of};
+ghost use Rattle.sch_control.specs.SourceView.{codes_of};
 ghost use Rattle.sch_frames.specs.Covered as frames;
 ghost use Rattle.sch_frames.specs.ProgramView as view;
 
@@ -16,6 +18,7 @@ use sch_lang::Program;
 use sch_passes::control_program;
 use sch_read::read_all;
 use sch_registers::frame_program;
+use sch_word::Mem;
 use std::alloc::{AllocError, Global};
 
 /// The longest text that is read.
@@ -58,6 +61,16 @@ pub(crate) fn control_of(alloc: Global, text: &[u8]) -> Result<ControlProgram, C
     Ok(control)
 }
 
+// The frame program of a control program.
+fn frames_of_program(alloc: Global, p: &ControlProgram) -> Result<FrameProgram, Mem>
+    requires covered { IsTrue (is_covered_program (control.source p.now)) }
+    requires few { 2 * tests_of (codes_of p.now.bodies) < 2 ^ 32 }
+    ensures { IfOk result (λ f. IsTrue (frames.is_covered_program (view.source f))) }
+{
+    let made = frame_program(alloc, p)?;
+    Ok(made.frames)
+}
+
 // The frame program of a short text that is one form at most, which tests nothing.
 pub(crate) fn frames_of(alloc: Global, text: &[u8]) -> Result<FrameProgram, CoreError>
     ensures { IfOk result (λ f. IsTrue (frames.is_covered_program (view.source f))) }
@@ -66,8 +79,8 @@ pub(crate) fn frames_of(alloc: Global, text: &[u8]) -> Result<FrameProgram, Core
     if !are_straight(control.bodies.as_slice()) {
         return Err(CoreError::Memory);
     }
-    let made = frame_program(alloc, &control)?;
-    Ok(made.frames)
+    let frames = frames_of_program(alloc, &control)?;
+    Ok(frames)
 }
 
 /// A text, and how often it stands there.

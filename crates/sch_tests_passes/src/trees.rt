@@ -1,7 +1,10 @@
 //! Bodies of a text, and their trees as texts: each region with what it saves, and each call with what is said of it.
 
+ghost use Rattle.sch_control.specs.flow.Middle.{listed};
+ghost use Rattle.sch_paths.specs.EachLiveSaved.{EachLiveSaved};
+
 use crate::texts::control_of;
-use sch_control::{Body, ControlProgram, Exp, LiveBody, PlacedBody, Restoring, SavedBody};
+use sch_control::{Body, Exp, LiveBody, PlacedBody, Restoring, SavedBody};
 use sch_core::CoreError;
 use sch_live::live;
 use sch_regs::assign_places;
@@ -12,35 +15,6 @@ use sch_word::{Bytes, List, Mem, Place};
 use std::alloc::Global;
 use std::str;
 use std::test::Fail;
-
-// The body that stands last in a program.
-fn last_body(p: &ControlProgram) -> Result<&Body, Mem> {
-    match p.bodies.as_slice() {
-        [.., body] => Ok(body),
-        _ => Err(Mem),
-    }
-}
-
-// The last body of a text, with what is live after its calls.
-fn last_live<const N: usize>(alloc: Global, text: &[u8]) -> Result<LiveBody<N>, CoreError> {
-    let p = control_of(alloc, text)?;
-    let b = last_body(&p)?;
-    if b.variables as usize / 64 >= N {
-        return Err(CoreError::Memory);
-    }
-    Ok(live::<N>(alloc, b)?)
-}
-
-// The body with its regions, and then with what its calls restore and where its variables live.
-fn placed<const N: usize>(
-    alloc: Global,
-    b: &LiveBody<N>,
-) -> Result<(SavedBody<N>, PlacedBody<N>), Mem> {
-    let saved = place_saves(alloc, b)?;
-    let restored = place_restores(alloc, &saved)?;
-    let placed = assign_places(alloc, &restored)?;
-    Ok((saved, placed))
-}
 
 fn digit(x: u32) -> u8 {
     b'0' + (x % 10) as u8
@@ -144,61 +118,75 @@ fn write_line<C: Said + Drop>(name: &[u8], e: &Exp<C>, out: &mut Bytes) -> Resul
     out.push(b'\n')
 }
 
-// Four lines: what is live after the calls of a body, where it saves, what its calls restore, and the places of its variables.
-fn write_body<const N: usize>(
-    b: &LiveBody<N>,
-    saved: &SavedBody<N>,
-    placed: &PlacedBody<N>,
+// The body with what its calls restore and the places of its variables.
+fn placed<const N: usize>(alloc: Global, saved: &SavedBody<N>) -> Result<PlacedBody<N>, Mem>
+    requires { EachLiveSaved (listed saved.now.exp) }
+{
+    let restored = place_restores(alloc, saved)?;
+    assign_places(alloc, &restored)
+}
+
+// Two lines, what is live after the calls of a body and where it saves; and the body with its places.
+fn write_saves<const N: usize>(
+    alloc: Global,
+    live: &LiveBody<N>,
     out: &mut Bytes,
-) -> Result<(), Mem> {
-    write_line(b"live", &b.exp, out)?;
+) -> Result<PlacedBody<N>, Mem> {
+    write_line(b"live", &live.exp, out)?;
+    let saved = place_saves(alloc, live)?;
     write_line(b"saves", &saved.exp, out)?;
+    placed(alloc, &saved)
+}
+
+// The same of a body that is not wanted afterwards.
+fn write_live<const N: usize>(
+    alloc: Global,
+    live: LiveBody<N>,
+    out: &mut Bytes,
+) -> Result<PlacedBody<N>, Mem> {
+    write_saves(alloc, &live, out)
+}
+
+// Two lines: what the calls of a body restore, and the places of its variables.
+fn write_placed<const N: usize>(placed: &PlacedBody<N>, out: &mut Bytes) -> Result<(), Mem> {
     write_line(b"restores", &placed.exp, out)?;
     out.extend_from_slice(b"places")?;
     write_places(placed.places.as_slice(), out)?;
     out.push(b'\n')
 }
 
-// These lines of a body.
-fn shown<const N: usize>(
-    alloc: Global,
-    b: &LiveBody<N>,
-    saved: &SavedBody<N>,
-    placed: &PlacedBody<N>,
-) -> Result<Bytes, Mem> {
+// A body with what is live after its calls, in sets that have room for its variables.
+fn live_body<const N: usize>(alloc: Global, b: &Body) -> Result<LiveBody<N>, Mem> {
+    if b.variables as usize / 64 >= N {
+        return Err(Mem);
+    }
+    live::<N>(alloc, b)
+}
+
+// Four lines, in sets of so many words: what is live after the calls of a body, where it saves, what its calls restore, and
+// the places of its variables.
+fn write_by(alloc: Global, words: u32, b: &Body, out: &mut Bytes) -> Result<(), Mem> {
+    match words {
+        1 => write_placed(&write_live(alloc, live_body::<1>(alloc, b)?, out)?, out),
+        4 => write_placed(&write_live(alloc, live_body::<4>(alloc, b)?, out)?, out),
+        _ => write_placed(&write_live(alloc, live_body::<16>(alloc, b)?, out)?, out),
+    }
+}
+
+// These lines of the last of some bodies.
+fn shown_last(alloc: Global, words: u32, bodies: &[Body]) -> Result<Bytes, Mem> {
+    let [.., body] = bodies else {
+        return Err(Mem);
+    };
     let mut out = List::new(alloc);
-    write_body(b, saved, placed, &mut out)?;
+    write_by(alloc, words, body, &mut out)?;
     Ok(out)
 }
 
-// The lines of a text's last body, in sets of one word.
-fn by_one(alloc: Global, text: &[u8]) -> Result<Bytes, CoreError> {
-    let b = last_live::<1>(alloc, text)?;
-    let (saved, placed) = placed(alloc, &b)?;
-    Ok(shown(alloc, &b, &saved, &placed)?)
-}
-
-// The same in sets of four words.
-fn by_four(alloc: Global, text: &[u8]) -> Result<Bytes, CoreError> {
-    let b = last_live::<4>(alloc, text)?;
-    let (saved, placed) = placed(alloc, &b)?;
-    Ok(shown(alloc, &b, &saved, &placed)?)
-}
-
-// The same in sets of sixteen words.
-fn by_sixteen(alloc: Global, text: &[u8]) -> Result<Bytes, CoreError> {
-    let b = last_live::<16>(alloc, text)?;
-    let (saved, placed) = placed(alloc, &b)?;
-    Ok(shown(alloc, &b, &saved, &placed)?)
-}
-
-// The same in sets of so many words.
+// These lines of a text's last body.
 fn shown_by(alloc: Global, words: u32, text: &[u8]) -> Result<Bytes, CoreError> {
-    match words {
-        1 => by_one(alloc, text),
-        4 => by_four(alloc, text),
-        _ => by_sixteen(alloc, text),
-    }
+    let p = control_of(alloc, text)?;
+    Ok(shown_last(alloc, words, p.bodies.as_slice())?)
 }
 
 /// These lines are among those of a text's last body, in sets of so many words.
