@@ -1,7 +1,7 @@
 #!/usr/bin/env python3
 """Runs the gate (`rt ci`) and prints the processor seconds that it takes for each crate: its proofs, its tests and its
-must-fail edits. Words are handed on: some kits keep on a machine what a run passed, and then `bench/gate.py --anew`
-measures a gate that begins from nothing; others begin from nothing each time, and know no such word.
+must-fail edits. The kit keeps on a machine what a run passed there; `--anew` begins from nothing. With names of crates
+it is the run of these and those below them, which is not the gate.
 
 It looks at the prover's processes ten times a second: what a process took after the last look is missing
 from its crate, and stands in the line `rest` with what the gate itself took. `--watch PID` looks at a gate
@@ -153,6 +153,8 @@ def main():
     if sys.argv[1:2] == ["--watch"]:
         table(watch(int(sys.argv[2])))
         return
+    if any(word.startswith("-") and word != "--anew" for word in sys.argv[1:]):
+        sys.exit("usage: bench/gate.py [--anew] [CRATE ..] | --watch PID | --modules CRATE")
     taken, whole, clock, status = run(sys.argv[1:])
     rest = whole - table(taken)
     print(f"| rest | | | | {rest:.0f} |")
