@@ -1,5 +1,5 @@
 -- What is needed to make the bodies of a program, and the turns of the loops that make them.
-use Rattle.std.proofs.Common.{◌≡◌, ℕ, zero, suc, ◌+◌, ◌-◌, ◌<◌, ◌≤◌, ◌^◌, true, false, List, [], ◌∷◌, ◌++◌, length, map, take, drop, get_or, Option, Some, None, refl, sym, ap, ◌∙◌, subst, arith, add-one, append_assoc, append-nil, drop-drop}
+use Rattle.std.proofs.Common.{◌≡◌, ℕ, zero, suc, ◌+◌, ◌-◌, ◌<◌, ◌≤◌, ◌^◌, true, false, List, [], ◌∷◌, ◌++◌, length, map, take, drop, get_or, Option, Some, None, refl, sym, ap, ◌∙◌, subst, arith, add-one, length-drop, append_assoc, append-nil, drop-drop}
 use Rattle.std.specs.Prelude.{slice_get, nat_le, ◌&&◌, codes}
 use Rattle.std.specs.List.{list_all}
 use Rattle.std.specs.List.Sorted.{IsNonDecreasing}
@@ -7,6 +7,7 @@ use Rattle.std.proofs.lemmas.Bool.{leb-true}
 use Rattle.std.proofs.lemmas.List.{drop_all, drop-map, take-map, get_or_default}
 use Rattle.std.proofs.lemmas.List.Folds.{list_all-append}
 use Rattle.std.proofs.lemmas.Option.{slice_get_within}
+use Rattle.std.proofs.Math.Seq.{take-length}
 use Rattle.sch_word.proofs.Walking.{next_left}
 use Rattle.sch_word.proofs.facts.Lists.{next_left as next_is}
 use Rattle.sch_flat.specs.declared.tree.Exp.{Exp}
@@ -259,9 +260,16 @@ ascends_next starts before i last m h =
     let k = and_right (nat_le before place) (ascending place last (drop (suc i) starts)) h' in
     rw add-one (leb-true before place (and_left (nat_le before place) (ascending place last (drop (suc i) starts)) h'), ascending_last place last (drop (suc i) starts) k, k)
 
+-- behind the last form
+all_left : {A : Type 0} (xs : List A) (k : ℕ) → take (length xs - k) (drop k xs) ≡ drop k xs
+all_left xs k = ap (λ n. take n (drop k xs)) (sym (length-drop k xs)) ∙ take-length (drop k xs)
+
 pub forms_end : (starts : List ℕ) (bodies : List flat_body.Body) (items : List Exp) (before i : ℕ) → length items ≤ i
-    → normal_bodies starts before (map body (drop before bodies)) (left (drop i items)) (drop i starts) ≡ map (procedure_code starts) (map body (drop before bodies))
-forms_end starts bodies items before i l = ap (λ r. normal_bodies starts before (map body (drop before bodies)) (left r) (drop i starts)) (drop_all i items l)
+    → normal_bodies starts before (map body (drop before bodies)) (left (drop i items)) (drop i starts)
+    ≡ map (procedure_code starts) (map body (take (length bodies - before) (drop before bodies)))
+forms_end starts bodies items before i l =
+    ap (λ r. normal_bodies starts before (map body (drop before bodies)) (left r) (drop i starts)) (drop_all i items l)
+    ∙ ap (λ bs. map (procedure_code starts) (map body bs)) (sym (all_left bodies before))
 
 pub before_last : (starts : List ℕ) (before i last : ℕ) → ascending before last (drop i starts) ≡ true → before ≤ last
 before_last starts before i last h = ascending_last before last (drop i starts) h

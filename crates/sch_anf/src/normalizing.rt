@@ -7,6 +7,7 @@ ghost use Rattle.sch_control.specs.View.{expression};
 ghost use Rattle.sch_anf_laws.specs.LabelsFit.{LabelsFit, LabelsFitEach};
 ghost use Rattle.sch_anf_laws.specs.Normal.{binds, binds_parts, init_numbers, inits_bind, normal, normal_parts, operand_at, operand_binds, operands_at, operands_bind, with_inits, with_operands};
 ghost use Rattle.sch_anf_laws.specs.Normal as specs;
+ghost use Rattle.sch_anf.specs.Kinds.{IsIf, IsLet, IsGroup, IsCall, IsCells};
 ghost use Rattle.sch_anf.specs.ScopeTable.{scope_of};
 ghost use Rattle.sch_anf.specs.Steps.{Adds};
 ghost use Rattle.sch_anf.specs.Round.{bound_before, dropped_before, part_before};
@@ -49,70 +50,18 @@ pub fn normalize_expression(
             let value = normalize_part(alloc, starts, value, v, &mut steps)?;
             set_after(alloc, tail, steps, *g, value)
         }
-        Exp::If(test, yes, no) => {
-            let test = normalize_expression(alloc, starts, test, false, v)?;
-            let yes = normalize_expression(alloc, starts, yes, tail, v)?;
-            let no = normalize_expression(alloc, starts, no, tail, v)?;
-            branch_of(alloc, test, yes, no)
-        }
+        Exp::If(_, _, _) => normalize_if(alloc, starts, e, tail, v),
         Exp::Seq(parts) => normalize_parts(alloc, starts, parts, tail, v),
-        Exp::Let {
-            site: _,
-            first,
-            inits,
-            body,
-        } => {
-            let mut steps = Vec::with_capacity(alloc, inits.len())?;
-            let numbers = normalize_inits(alloc, starts, inits, v, &mut steps)?;
-            let depth = v.depth();
-            v.bind_each(*first, &numbers)?;
-            let body = normalize_expression(alloc, starts, body, tail, v)?;
-            v.release(depth);
-            put_after(alloc, steps, body)
-        }
+        Exp::Let { .. } => normalize_let(alloc, starts, e, tail, v),
         Exp::MakeClosure(m) => make_closure(alloc, starts, tail, m, v),
-        Exp::FixClosures {
-            first,
-            closures,
-            body,
-        } => {
-            let number = v.next;
-            let depth = v.depth();
-            v.bind_closures(*first, closures)?;
-            let members = members_of(alloc, starts, closures, number, v)?;
-            let body = normalize_expression(alloc, starts, body, tail, v)?;
-            v.release(depth);
-            group_of(alloc, members, body)
-        }
-        Exp::Call {
-            site,
-            spread,
-            operator,
-            operands,
-        } => {
-            let mut steps = Vec::new(alloc);
-            let operands = normalize_operands(alloc, starts, operands, v, &mut steps)?;
-            let operator = normalize_part(alloc, starts, operator, v, &mut steps)?;
-            let kind = Kind {
-                site: *site,
-                spread: *spread,
-                tail,
-            };
-            call_after(alloc, steps, kind, operator, operands)
-        }
+        Exp::FixClosures { .. } => normalize_group(alloc, starts, e, tail, v),
+        Exp::Call { .. } => normalize_call(alloc, starts, e, tail, v),
         Exp::Prim(site, which, operands) => {
             let mut steps = Vec::new(alloc);
             let operands = normalize_operands(alloc, starts, operands, v, &mut steps)?;
             apply_after(alloc, tail, steps, (*site, *which), operands)
         }
-        Exp::NewCells(cells, body) => {
-            let steps = make_cells(alloc, cells, v)?;
-            let depth = v.depth();
-            v.bind_cells(cells)?;
-            let body = normalize_expression(alloc, starts, body, tail, v)?;
-            v.release(depth);
-            put_after(alloc, steps, body)
-        }
+        Exp::NewCells(_, _) => normalize_cells(alloc, starts, e, tail, v),
         Exp::CellGet(x) => read_cell(alloc, tail, *x, v),
         Exp::CellSet(x, value) => {
             let cell = source_of(*x, v);
@@ -121,6 +70,166 @@ pub fn normalize_expression(
             fill_after(alloc, tail, steps, cell, value)
         }
     }
+}
+
+// The same for an If. As functions of their own, this and the next four keep the frames of the walk small.
+#[cycle(normalizing)]
+fn normalize_if(
+    alloc: Global,
+    starts: &[u32],
+    e: &Exp,
+    tail: bool,
+    v: &mut Variables,
+) -> Result<Box<control::Exp<()>>, Mem>
+    requires kind { IsIf (tree e.now) }
+    requires sorted { IsNonDecreasing starts.now }
+    requires labels { LabelsFit (length starts.now) (tree e.now) }
+    requires few { v.old.next + binds (tree e.now) < 2 ^ 32 }
+    ensures made { IfOk result (λ q. expression q.value ≡ normal starts.now tail (tree e.now) (scope_of v.old.bound.items) v.old.next) }
+    ensures next { OnOk result (v.new.next ≡ v.old.next + binds (tree e.now)) }
+    ensures scope { OnOk result (v.new.bound.items ≡ v.old.bound.items) }
+{
+    let Exp::If(test, yes, no) = e else {
+        unreachable!();
+    };
+    let test = normalize_expression(alloc, starts, test, false, v)?;
+    let yes = normalize_expression(alloc, starts, yes, tail, v)?;
+    let no = normalize_expression(alloc, starts, no, tail, v)?;
+    branch_of(alloc, test, yes, no)
+}
+
+// The same for a Let.
+#[cycle(normalizing)]
+fn normalize_let(
+    alloc: Global,
+    starts: &[u32],
+    e: &Exp,
+    tail: bool,
+    v: &mut Variables,
+) -> Result<Box<control::Exp<()>>, Mem>
+    requires kind { IsLet (tree e.now) }
+    requires sorted { IsNonDecreasing starts.now }
+    requires labels { LabelsFit (length starts.now) (tree e.now) }
+    requires few { v.old.next + binds (tree e.now) < 2 ^ 32 }
+    ensures made { IfOk result (λ q. expression q.value ≡ normal starts.now tail (tree e.now) (scope_of v.old.bound.items) v.old.next) }
+    ensures next { OnOk result (v.new.next ≡ v.old.next + binds (tree e.now)) }
+    ensures scope { OnOk result (v.new.bound.items ≡ v.old.bound.items) }
+{
+    let Exp::Let {
+        site: _,
+        first,
+        inits,
+        body,
+    } = e
+    else {
+        unreachable!();
+    };
+    let mut steps = Vec::with_capacity(alloc, inits.len())?;
+    let numbers = normalize_inits(alloc, starts, inits, v, &mut steps)?;
+    let depth = v.depth();
+    v.bind_each(*first, &numbers)?;
+    let body = normalize_expression(alloc, starts, body, tail, v)?;
+    v.release(depth);
+    put_after(alloc, steps, body)
+}
+
+// The same for a group of closures.
+#[cycle(normalizing)]
+fn normalize_group(
+    alloc: Global,
+    starts: &[u32],
+    e: &Exp,
+    tail: bool,
+    v: &mut Variables,
+) -> Result<Box<control::Exp<()>>, Mem>
+    requires kind { IsGroup (tree e.now) }
+    requires sorted { IsNonDecreasing starts.now }
+    requires labels { LabelsFit (length starts.now) (tree e.now) }
+    requires few { v.old.next + binds (tree e.now) < 2 ^ 32 }
+    ensures made { IfOk result (λ q. expression q.value ≡ normal starts.now tail (tree e.now) (scope_of v.old.bound.items) v.old.next) }
+    ensures next { OnOk result (v.new.next ≡ v.old.next + binds (tree e.now)) }
+    ensures scope { OnOk result (v.new.bound.items ≡ v.old.bound.items) }
+{
+    let Exp::FixClosures {
+        first,
+        closures,
+        body,
+    } = e
+    else {
+        unreachable!();
+    };
+    let number = v.next;
+    let depth = v.depth();
+    v.bind_closures(*first, closures)?;
+    let members = members_of(alloc, starts, closures, number, v)?;
+    let body = normalize_expression(alloc, starts, body, tail, v)?;
+    v.release(depth);
+    group_of(alloc, members, body)
+}
+
+// The same for a call, whose operator comes after its operands.
+#[cycle(normalizing)]
+fn normalize_call(
+    alloc: Global,
+    starts: &[u32],
+    e: &Exp,
+    tail: bool,
+    v: &mut Variables,
+) -> Result<Box<control::Exp<()>>, Mem>
+    requires kind { IsCall (tree e.now) }
+    requires sorted { IsNonDecreasing starts.now }
+    requires labels { LabelsFit (length starts.now) (tree e.now) }
+    requires few { v.old.next + binds (tree e.now) < 2 ^ 32 }
+    ensures made { IfOk result (λ q. expression q.value ≡ normal starts.now tail (tree e.now) (scope_of v.old.bound.items) v.old.next) }
+    ensures next { OnOk result (v.new.next ≡ v.old.next + binds (tree e.now)) }
+    ensures scope { OnOk result (v.new.bound.items ≡ v.old.bound.items) }
+{
+    let Exp::Call {
+        site,
+        spread,
+        operator,
+        operands,
+    } = e
+    else {
+        unreachable!();
+    };
+    let mut steps = Vec::new(alloc);
+    let operands = normalize_operands(alloc, starts, operands, v, &mut steps)?;
+    let operator = normalize_part(alloc, starts, operator, v, &mut steps)?;
+    let kind = Kind {
+        site: *site,
+        spread: *spread,
+        tail,
+    };
+    call_after(alloc, steps, kind, operator, operands)
+}
+
+// The same for new cells.
+#[cycle(normalizing)]
+fn normalize_cells(
+    alloc: Global,
+    starts: &[u32],
+    e: &Exp,
+    tail: bool,
+    v: &mut Variables,
+) -> Result<Box<control::Exp<()>>, Mem>
+    requires kind { IsCells (tree e.now) }
+    requires sorted { IsNonDecreasing starts.now }
+    requires labels { LabelsFit (length starts.now) (tree e.now) }
+    requires few { v.old.next + binds (tree e.now) < 2 ^ 32 }
+    ensures made { IfOk result (λ q. expression q.value ≡ normal starts.now tail (tree e.now) (scope_of v.old.bound.items) v.old.next) }
+    ensures next { OnOk result (v.new.next ≡ v.old.next + binds (tree e.now)) }
+    ensures scope { OnOk result (v.new.bound.items ≡ v.old.bound.items) }
+{
+    let Exp::NewCells(cells, body) = e else {
+        unreachable!();
+    };
+    let steps = make_cells(alloc, cells, v)?;
+    let depth = v.depth();
+    v.bind_cells(cells)?;
+    let body = normalize_expression(alloc, starts, body, tail, v)?;
+    v.release(depth);
+    put_after(alloc, steps, body)
 }
 
 // A part that is bound to a new variable.

@@ -3,3 +3,4 @@ pub mod Closed
 pub mod Fresh
 pub mod Kept
 pub mod Found
+pub mod Kinds

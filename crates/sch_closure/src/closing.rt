@@ -6,6 +6,7 @@ ghost use Rattle.sch_cells.specs.Tree as plain;
 ghost use Rattle.sch_flat.specs.View as view;
 ghost use Rattle.sch_closure.specs.Closed.{place, placed, procedures, procedures_each, procedures_lambdas, fields_of, captured, closed, closed_each, made, made_each, starts};
 ghost use Rattle.sch_closure.specs.Fresh.{Stands, EachStands, LambdasStand};
+ghost use Rattle.sch_closure.specs.Kinds.{IsIf, IsLetOrRec, IsFix, IsCall, IsNewCells};
 ghost use Rattle.sch_closure.specs.Walked.{with_bodies, with_bodies_each, with_bodies_lambdas};
 
 use sch_cells::{Exp, Lambda};
@@ -102,16 +103,77 @@ fn close_expression(
             let value = close_boxed(alloc, value, own, fields, bodies)?;
             Ok(flat::Exp::Define(*g, value))
         }
-        Exp::If(test, yes, no) => {
-            let test = close_boxed(alloc, test, own, fields, bodies)?;
-            let yes = close_boxed(alloc, yes, own, fields, bodies)?;
-            let no = close_boxed(alloc, no, own, fields, bodies)?;
-            Ok(flat::Exp::If(test, yes, no))
-        }
+        Exp::If(_, _, _) => close_if(alloc, e, own, fields, bodies),
         Exp::Seq(parts) => {
             let parts = close_each(alloc, parts, own, fields, bodies)?;
             Ok(flat::Exp::Seq(parts))
         }
+        Exp::Let { .. } | Exp::Rec { .. } => close_let(alloc, e, own, fields, bodies),
+        Exp::Fix { .. } => close_fix(alloc, e, own, fields, bodies),
+        Exp::Lambda(l) => {
+            let m = close_lambda(alloc, l, own, fields, bodies)?;
+            Ok(flat::Exp::MakeClosure(m))
+        }
+        Exp::Call { .. } => close_call(alloc, e, own, fields, bodies),
+        Exp::Prim(site, which, operands) => {
+            let operands = close_each(alloc, operands, own, fields, bodies)?;
+            Ok(flat::Exp::Prim(*site, *which, operands))
+        }
+        Exp::NewCells(_, _) => close_new_cells(alloc, e, own, fields, bodies),
+        Exp::CellGet(x) => Ok(flat::Exp::CellGet(place_variable(own, *x))),
+        Exp::CellSet(x, value) => {
+            let value = close_boxed(alloc, value, own, fields, bodies)?;
+            Ok(flat::Exp::CellSet(place_variable(own, *x), value))
+        }
+    }
+}
+
+// The same for an If. As functions of their own, this and the next four keep the frames of the walk small.
+#[cycle(closing)]
+fn close_if(
+    alloc: Global,
+    e: &Exp,
+    own: &[u32],
+    fields: &[List<u32>],
+    bodies: &mut Vec<Body>,
+) -> Result<flat::Exp, Mem>
+    requires kind { IsIf (tree e.now) }
+    requires own { length own.now < 2 ^ 32 }
+    requires short { (k : ℕ) → (xs : List ℕ) → slice_get fields.now k ≡ Some xs → length xs < 2 ^ 32 }
+    requires stand { Stands captured fields.now (tree e.now) (length bodies.old.items) }
+    requires few { length bodies.old.items + procedures (tree e.now) < 2 ^ 32 }
+    ensures made { IfOk result (λ q. view.tree q ≡ closed (tree e.now) own.now (length bodies.old.items)) }
+    ensures bodies { OnOk result (map view.body bodies.new.items ≡ with_bodies (tree e.now) (map view.body bodies.old.items)) }
+    ensures count { OnOk result (length bodies.new.items ≡ length bodies.old.items + procedures (tree e.now)) }
+{
+    let Exp::If(test, yes, no) = e else {
+        unreachable!();
+    };
+    let test = close_boxed(alloc, test, own, fields, bodies)?;
+    let yes = close_boxed(alloc, yes, own, fields, bodies)?;
+    let no = close_boxed(alloc, no, own, fields, bodies)?;
+    Ok(flat::Exp::If(test, yes, no))
+}
+
+// The same for a Let, or a Rec.
+#[cycle(closing)]
+fn close_let(
+    alloc: Global,
+    e: &Exp,
+    own: &[u32],
+    fields: &[List<u32>],
+    bodies: &mut Vec<Body>,
+) -> Result<flat::Exp, Mem>
+    requires kind { IsLetOrRec (tree e.now) }
+    requires own { length own.now < 2 ^ 32 }
+    requires short { (k : ℕ) → (xs : List ℕ) → slice_get fields.now k ≡ Some xs → length xs < 2 ^ 32 }
+    requires stand { Stands captured fields.now (tree e.now) (length bodies.old.items) }
+    requires few { length bodies.old.items + procedures (tree e.now) < 2 ^ 32 }
+    ensures made { IfOk result (λ q. view.tree q ≡ closed (tree e.now) own.now (length bodies.old.items)) }
+    ensures bodies { OnOk result (map view.body bodies.new.items ≡ with_bodies (tree e.now) (map view.body bodies.old.items)) }
+    ensures count { OnOk result (length bodies.new.items ≡ length bodies.old.items + procedures (tree e.now)) }
+{
+    match e {
         Exp::Let {
             site,
             first,
@@ -133,53 +195,106 @@ fn close_expression(
                 body,
             })
         }
-        Exp::Fix {
-            first,
-            lambdas,
-            body,
-        } => {
-            let closures = close_lambdas(alloc, lambdas, own, fields, bodies)?;
-            let body = close_boxed(alloc, body, own, fields, bodies)?;
-            Ok(flat::Exp::FixClosures {
-                first: *first,
-                closures,
-                body,
-            })
-        }
-        Exp::Lambda(l) => {
-            let m = close_lambda(alloc, l, own, fields, bodies)?;
-            Ok(flat::Exp::MakeClosure(m))
-        }
-        Exp::Call {
-            site,
-            spread,
-            operator,
-            operands,
-        } => {
-            let operator = close_boxed(alloc, operator, own, fields, bodies)?;
-            let operands = close_each(alloc, operands, own, fields, bodies)?;
-            Ok(flat::Exp::Call {
-                site: *site,
-                spread: *spread,
-                operator,
-                operands,
-            })
-        }
-        Exp::Prim(site, which, operands) => {
-            let operands = close_each(alloc, operands, own, fields, bodies)?;
-            Ok(flat::Exp::Prim(*site, *which, operands))
-        }
-        Exp::NewCells(cells, body) => {
-            let cells = place_cells(alloc, own, cells.as_slice())?;
-            let body = close_boxed(alloc, body, own, fields, bodies)?;
-            Ok(flat::Exp::NewCells(cells, body))
-        }
-        Exp::CellGet(x) => Ok(flat::Exp::CellGet(place_variable(own, *x))),
-        Exp::CellSet(x, value) => {
-            let value = close_boxed(alloc, value, own, fields, bodies)?;
-            Ok(flat::Exp::CellSet(place_variable(own, *x), value))
-        }
+        _ => unreachable!(),
     }
+}
+
+// The same for procedures that know one another.
+#[cycle(closing)]
+fn close_fix(
+    alloc: Global,
+    e: &Exp,
+    own: &[u32],
+    fields: &[List<u32>],
+    bodies: &mut Vec<Body>,
+) -> Result<flat::Exp, Mem>
+    requires kind { IsFix (tree e.now) }
+    requires own { length own.now < 2 ^ 32 }
+    requires short { (k : ℕ) → (xs : List ℕ) → slice_get fields.now k ≡ Some xs → length xs < 2 ^ 32 }
+    requires stand { Stands captured fields.now (tree e.now) (length bodies.old.items) }
+    requires few { length bodies.old.items + procedures (tree e.now) < 2 ^ 32 }
+    ensures made { IfOk result (λ q. view.tree q ≡ closed (tree e.now) own.now (length bodies.old.items)) }
+    ensures bodies { OnOk result (map view.body bodies.new.items ≡ with_bodies (tree e.now) (map view.body bodies.old.items)) }
+    ensures count { OnOk result (length bodies.new.items ≡ length bodies.old.items + procedures (tree e.now)) }
+{
+    let Exp::Fix {
+        first,
+        lambdas,
+        body,
+    } = e
+    else {
+        unreachable!();
+    };
+    let closures = close_lambdas(alloc, lambdas, own, fields, bodies)?;
+    let body = close_boxed(alloc, body, own, fields, bodies)?;
+    Ok(flat::Exp::FixClosures {
+        first: *first,
+        closures,
+        body,
+    })
+}
+
+// The same for a call.
+#[cycle(closing)]
+fn close_call(
+    alloc: Global,
+    e: &Exp,
+    own: &[u32],
+    fields: &[List<u32>],
+    bodies: &mut Vec<Body>,
+) -> Result<flat::Exp, Mem>
+    requires kind { IsCall (tree e.now) }
+    requires own { length own.now < 2 ^ 32 }
+    requires short { (k : ℕ) → (xs : List ℕ) → slice_get fields.now k ≡ Some xs → length xs < 2 ^ 32 }
+    requires stand { Stands captured fields.now (tree e.now) (length bodies.old.items) }
+    requires few { length bodies.old.items + procedures (tree e.now) < 2 ^ 32 }
+    ensures made { IfOk result (λ q. view.tree q ≡ closed (tree e.now) own.now (length bodies.old.items)) }
+    ensures bodies { OnOk result (map view.body bodies.new.items ≡ with_bodies (tree e.now) (map view.body bodies.old.items)) }
+    ensures count { OnOk result (length bodies.new.items ≡ length bodies.old.items + procedures (tree e.now)) }
+{
+    let Exp::Call {
+        site,
+        spread,
+        operator,
+        operands,
+    } = e
+    else {
+        unreachable!();
+    };
+    let operator = close_boxed(alloc, operator, own, fields, bodies)?;
+    let operands = close_each(alloc, operands, own, fields, bodies)?;
+    Ok(flat::Exp::Call {
+        site: *site,
+        spread: *spread,
+        operator,
+        operands,
+    })
+}
+
+// The same for new cells.
+#[cycle(closing)]
+fn close_new_cells(
+    alloc: Global,
+    e: &Exp,
+    own: &[u32],
+    fields: &[List<u32>],
+    bodies: &mut Vec<Body>,
+) -> Result<flat::Exp, Mem>
+    requires kind { IsNewCells (tree e.now) }
+    requires own { length own.now < 2 ^ 32 }
+    requires short { (k : ℕ) → (xs : List ℕ) → slice_get fields.now k ≡ Some xs → length xs < 2 ^ 32 }
+    requires stand { Stands captured fields.now (tree e.now) (length bodies.old.items) }
+    requires few { length bodies.old.items + procedures (tree e.now) < 2 ^ 32 }
+    ensures made { IfOk result (λ q. view.tree q ≡ closed (tree e.now) own.now (length bodies.old.items)) }
+    ensures bodies { OnOk result (map view.body bodies.new.items ≡ with_bodies (tree e.now) (map view.body bodies.old.items)) }
+    ensures count { OnOk result (length bodies.new.items ≡ length bodies.old.items + procedures (tree e.now)) }
+{
+    let Exp::NewCells(cells, body) = e else {
+        unreachable!();
+    };
+    let cells = place_cells(alloc, own, cells.as_slice())?;
+    let body = close_boxed(alloc, body, own, fields, bodies)?;
+    Ok(flat::Exp::NewCells(cells, body))
 }
 
 // The same on the heap. As a function of its own it keeps the frames of the walk small.

@@ -11,6 +11,7 @@ ghost use Rattle.sch_cells.specs.Variables.{cells_bound, without_each};
 ghost use Rattle.sch_cells.specs.View.{tree, trees_of, lambdas_of};
 ghost use Rattle.sch_closure.specs.Closed.{program_fields};
 ghost use Rattle.sch_closure.specs.Found.{found, found_cells, found_each, found_lambdas, fields_found, fields_of_each, fields_of_lambdas};
+ghost use Rattle.sch_closure.specs.Kinds.{IsIf, IsLet, IsFix, IsRec, IsCall, IsNewCells};
 
 use sch_cells::{Exp, Lambda, NewCell, count, count_lambdas};
 use sch_word::{List, Mem, insert_number, insert_numbers};
@@ -90,66 +91,166 @@ fn find(alloc: Global, e: &Exp, free: &mut Vec<u32>, fields: &mut Vec<List<u32>>
             insert_number(*x, free)
         }
         Exp::SetGlobal(_, value) | Exp::Define(_, value) => find(alloc, value, free, fields),
-        Exp::If(test, yes, no) => {
-            find(alloc, no, free, fields)?;
-            find(alloc, yes, free, fields)?;
-            find(alloc, test, free, fields)
-        }
+        Exp::If(_, _, _) => find_if(alloc, e, free, fields),
         Exp::Seq(parts) => find_each(alloc, parts, free, fields),
-        Exp::Let {
-            site: _,
-            first,
-            inits,
-            body,
-        } => {
-            let mut inside = Vec::new(alloc);
-            find(alloc, body, &mut inside, fields)?;
-            let outer = outside_group(alloc, *first, count(inits), inside.as_slice())?;
-            insert_numbers(outer.as_slice(), free)?;
-            find_each(alloc, inits, free, fields)
-        }
-        Exp::Fix {
-            first,
-            lambdas,
-            body,
-        } => {
-            let mut inside = Vec::new(alloc);
-            find(alloc, body, &mut inside, fields)?;
-            find_lambdas(alloc, lambdas, &mut inside, fields)?;
-            let outer = outside_group(alloc, *first, count_lambdas(lambdas), inside.as_slice())?;
-            insert_numbers(outer.as_slice(), free)
-        }
-        Exp::Rec {
-            site: _,
-            first,
-            inits,
-            body,
-        } => {
-            let mut inside = Vec::new(alloc);
-            find(alloc, body, &mut inside, fields)?;
-            find_each(alloc, inits, &mut inside, fields)?;
-            let outer = outside_group(alloc, *first, count(inits), inside.as_slice())?;
-            insert_numbers(outer.as_slice(), free)
-        }
+        Exp::Let { .. } => find_let(alloc, e, free, fields),
+        Exp::Fix { .. } => find_fix(alloc, e, free, fields),
+        Exp::Rec { .. } => find_rec(alloc, e, free, fields),
         Exp::Lambda(l) => find_lambda(alloc, l, free, fields),
-        Exp::Call {
-            site: _,
-            spread: _,
-            operator,
-            operands,
-        } => {
-            find_each(alloc, operands, free, fields)?;
-            find(alloc, operator, free, fields)
-        }
+        Exp::Call { .. } => find_call(alloc, e, free, fields),
         Exp::Prim(_, _, operands) => find_each(alloc, operands, free, fields),
-        Exp::NewCells(cells, body) => {
-            let mut inside = Vec::new(alloc);
-            find(alloc, body, &mut inside, fields)?;
-            let outer = outside_cells(alloc, cells.as_slice(), inside.as_slice())?;
-            insert_numbers(outer.as_slice(), free)?;
-            insert_contents(cells.as_slice(), free)
-        }
+        Exp::NewCells(_, _) => find_new_cells(alloc, e, free, fields),
     }
+}
+
+// The same for an If. As functions of their own, this and the next five keep the frames of the walk small.
+#[cycle(gathering)]
+fn find_if(
+    alloc: Global,
+    e: &Exp,
+    free: &mut Vec<u32>,
+    fields: &mut Vec<List<u32>>,
+) -> Result<(), Mem>
+    requires kind { IsIf (tree e.now) }
+    ensures free { OnOk result (reverse free.new.items ≡ found (tree e.now) (reverse free.old.items)) }
+    ensures fields { OnOk result (reverse fields.new.items ≡ fields_found (tree e.now) (reverse fields.old.items)) }
+{
+    let Exp::If(test, yes, no) = e else {
+        unreachable!();
+    };
+    find(alloc, no, free, fields)?;
+    find(alloc, yes, free, fields)?;
+    find(alloc, test, free, fields)
+}
+
+// The same for a Let, whose inits stand outside.
+#[cycle(gathering)]
+fn find_let(
+    alloc: Global,
+    e: &Exp,
+    free: &mut Vec<u32>,
+    fields: &mut Vec<List<u32>>,
+) -> Result<(), Mem>
+    requires kind { IsLet (tree e.now) }
+    ensures free { OnOk result (reverse free.new.items ≡ found (tree e.now) (reverse free.old.items)) }
+    ensures fields { OnOk result (reverse fields.new.items ≡ fields_found (tree e.now) (reverse fields.old.items)) }
+{
+    let Exp::Let {
+        site: _,
+        first,
+        inits,
+        body,
+    } = e
+    else {
+        unreachable!();
+    };
+    let mut inside = Vec::new(alloc);
+    find(alloc, body, &mut inside, fields)?;
+    let outer = outside_group(alloc, *first, count(inits), inside.as_slice())?;
+    insert_numbers(outer.as_slice(), free)?;
+    find_each(alloc, inits, free, fields)
+}
+
+// The same for procedures that know one another.
+#[cycle(gathering)]
+fn find_fix(
+    alloc: Global,
+    e: &Exp,
+    free: &mut Vec<u32>,
+    fields: &mut Vec<List<u32>>,
+) -> Result<(), Mem>
+    requires kind { IsFix (tree e.now) }
+    ensures free { OnOk result (reverse free.new.items ≡ found (tree e.now) (reverse free.old.items)) }
+    ensures fields { OnOk result (reverse fields.new.items ≡ fields_found (tree e.now) (reverse fields.old.items)) }
+{
+    let Exp::Fix {
+        first,
+        lambdas,
+        body,
+    } = e
+    else {
+        unreachable!();
+    };
+    let mut inside = Vec::new(alloc);
+    find(alloc, body, &mut inside, fields)?;
+    find_lambdas(alloc, lambdas, &mut inside, fields)?;
+    let outer = outside_group(alloc, *first, count_lambdas(lambdas), inside.as_slice())?;
+    insert_numbers(outer.as_slice(), free)
+}
+
+// The same for a Rec, whose inits stand inside.
+#[cycle(gathering)]
+fn find_rec(
+    alloc: Global,
+    e: &Exp,
+    free: &mut Vec<u32>,
+    fields: &mut Vec<List<u32>>,
+) -> Result<(), Mem>
+    requires kind { IsRec (tree e.now) }
+    ensures free { OnOk result (reverse free.new.items ≡ found (tree e.now) (reverse free.old.items)) }
+    ensures fields { OnOk result (reverse fields.new.items ≡ fields_found (tree e.now) (reverse fields.old.items)) }
+{
+    let Exp::Rec {
+        site: _,
+        first,
+        inits,
+        body,
+    } = e
+    else {
+        unreachable!();
+    };
+    let mut inside = Vec::new(alloc);
+    find(alloc, body, &mut inside, fields)?;
+    find_each(alloc, inits, &mut inside, fields)?;
+    let outer = outside_group(alloc, *first, count(inits), inside.as_slice())?;
+    insert_numbers(outer.as_slice(), free)
+}
+
+// The same for a call.
+#[cycle(gathering)]
+fn find_call(
+    alloc: Global,
+    e: &Exp,
+    free: &mut Vec<u32>,
+    fields: &mut Vec<List<u32>>,
+) -> Result<(), Mem>
+    requires kind { IsCall (tree e.now) }
+    ensures free { OnOk result (reverse free.new.items ≡ found (tree e.now) (reverse free.old.items)) }
+    ensures fields { OnOk result (reverse fields.new.items ≡ fields_found (tree e.now) (reverse fields.old.items)) }
+{
+    let Exp::Call {
+        site: _,
+        spread: _,
+        operator,
+        operands,
+    } = e
+    else {
+        unreachable!();
+    };
+    find_each(alloc, operands, free, fields)?;
+    find(alloc, operator, free, fields)
+}
+
+// The same for new cells.
+#[cycle(gathering)]
+fn find_new_cells(
+    alloc: Global,
+    e: &Exp,
+    free: &mut Vec<u32>,
+    fields: &mut Vec<List<u32>>,
+) -> Result<(), Mem>
+    requires kind { IsNewCells (tree e.now) }
+    ensures free { OnOk result (reverse free.new.items ≡ found (tree e.now) (reverse free.old.items)) }
+    ensures fields { OnOk result (reverse fields.new.items ≡ fields_found (tree e.now) (reverse fields.old.items)) }
+{
+    let Exp::NewCells(cells, body) = e else {
+        unreachable!();
+    };
+    let mut inside = Vec::new(alloc);
+    find(alloc, body, &mut inside, fields)?;
+    let outer = outside_cells(alloc, cells.as_slice(), inside.as_slice())?;
+    insert_numbers(outer.as_slice(), free)?;
+    insert_contents(cells.as_slice(), free)
 }
 
 // The same for each of some expressions, from the last to the first.

@@ -46,7 +46,10 @@ fn copy_member(alloc: Global, m: &Member<u32>) -> Result<Member<u32>, Mem>
 }
 
 /// A copy of a group.
-pub fn copy_members(alloc: Global, members: &List<Member<u32>>) -> Result<List<Member<u32>>, Mem>
+pub(crate) fn copy_members(
+    alloc: Global,
+    members: &List<Member<u32>>,
+) -> Result<List<Member<u32>>, Mem>
     ensures { IfOk result (λ made. made ≡ members.now) }
 {
     let mut all = List::from_vec(Vec::with_capacity(alloc, members.len())?);
@@ -57,7 +60,7 @@ pub fn copy_members(alloc: Global, members: &List<Member<u32>>) -> Result<List<M
 }
 
 /// A copy of an operation.
-pub fn copy_operation(alloc: Global, o: &Operation<u32>) -> Result<Operation<u32>, Mem>
+pub(crate) fn copy_operation(alloc: Global, o: &Operation<u32>) -> Result<Operation<u32>, Mem>
     ensures { IfOk result (λ made. made ≡ o.now) }
 {
     match o {

@@ -22,12 +22,12 @@ mod tree;
 
 pub use arrivals::{argument_register, argument_slot, arrival};
 pub use body::{Body, Entry};
-pub use copies::{copy_application, copy_members, copy_operation};
+pub use copies::copy_application;
 pub use known_values::{after_operation, known};
 pub use live_body::LiveBody;
 pub use nodes::{
-    boxed_bind, boxed_call, boxed_do, boxed_end, boxed_fix, boxed_if, boxed_return, boxed_save,
-    boxed_seq, boxed_tail_call, copied_do, copied_fix, copied_save, copied_tail_call,
+    boxed_bind, boxed_call, boxed_end, boxed_if, boxed_return, boxed_save, boxed_seq, copied_do,
+    copied_fix, copied_save, copied_tail_call,
 };
 pub use operation::{Application, Atom, Closure, Member, Operand, Operation, Source};
 pub use order_table::add_other;

@@ -9,9 +9,8 @@ use crate::tree::{Exp, boxed};
 use sch_word::{List, Mem};
 use std::alloc::Global;
 
-/// An operation as an expression.
-#[inline(never)]
-pub fn boxed_do<C: Drop>(alloc: Global, o: Operation<u32>) -> Result<Box<Exp<C>>, Mem>
+// An operation as an expression.
+fn boxed_do<C: Drop>(alloc: Global, o: Operation<u32>) -> Result<Box<Exp<C>>, Mem>
     ensures { IfOk result (λ made. made.value ≡ Exp.Do o) }
 {
     boxed(alloc, Exp::Do(o))
@@ -51,9 +50,8 @@ pub fn boxed_if<C: Drop>(
     boxed(alloc, Exp::If(a, b, c))
 }
 
-/// A group, and what follows.
-#[inline(never)]
-pub fn boxed_fix<C: Drop>(
+// A group, and what follows.
+fn boxed_fix<C: Drop>(
     alloc: Global,
     members: List<Member<u32>>,
     e: Box<Exp<C>>,
@@ -71,9 +69,8 @@ pub fn boxed_call<C: Drop>(alloc: Global, a: Application<u32>, said: C) -> Resul
     boxed(alloc, Exp::Call(a, said))
 }
 
-/// A call in tail position.
-#[inline(never)]
-pub fn boxed_tail_call<C: Drop>(alloc: Global, a: Application<u32>) -> Result<Box<Exp<C>>, Mem>
+// A call in tail position.
+fn boxed_tail_call<C: Drop>(alloc: Global, a: Application<u32>) -> Result<Box<Exp<C>>, Mem>
     ensures { IfOk result (λ made. made.value ≡ Exp.TailCall a) }
 {
     boxed(alloc, Exp::TailCall(a))

@@ -28,7 +28,7 @@ pub struct RestoredBody<const N: usize> {
     ghost shaped: { IsTrue (shaped_whole (code_with name entry variables (erased (restored exp)))) },
     ghost fields: { IsTrue (fields_known (code_with name entry variables (erased (restored exp)))) },
     ghost fits: { variables ≤ 64 * N },
-    // The sets are those of what is live after the calls.
+    // The sets are those of what is live after the calls, and of each set some variables are restored (`Restoring`).
     ghost live: { ∥ HasLiveSets (restored_listed exp) ∥₁ },
     ghost apart: { IsTrue (regions_apart variables (restored exp) no_region) },
     ghost saved: { IsTrue (restores_saved (restored exp) no_region) },

@@ -28,17 +28,17 @@ few_operands restores (End' p e) h = few_operands restores e h
 few_operands restores (Save' saves p e) h = few_operands restores e h
 
 module _ {N : ℕ} (b : PlacedBody N) where
-  pub body_few : FewOperands b.exp
-  body_few = few_operands (λ r. r.restores) b.exp (calls_few (bare_code b) (restored b.exp) b.places (body_placed b))
+  pub body_few : FewOperands b.body.now.exp
+  body_few = few_operands (λ r. r.restores) b.body.now.exp (calls_few (bare_code b) (restored b.body.now.exp) b.places (body_placed b))
 
   pub places_few : length b.places ≤ max_body_variables
-  places_few = let most = (numbered_is (bare_code b) b.numbered).most in let whole = b.whole in omega (arith, most, whole)
+  places_few = let most = (numbered_is (bare_code b) b.body.now.numbered).most in let whole = b.whole in omega (arith, most, whole)
 
-  pub homes_low : homes_end b.entry (restored b.exp) b.places ≤ max_words
+  pub homes_low : homes_end b.body.now.entry (restored b.body.now.exp) b.places ≤ max_words
   homes_low =
-      let before = homes_before (bare_code b) (restored b.exp) b.places (body_placed b) in
-      let fit = words_fit (bare_code b) (restored b.exp) b.places (body_placed b) in
+      let before = homes_before (bare_code b) (restored b.body.now.exp) b.places (body_placed b) in
+      let fit = words_fit (bare_code b) (restored b.body.now.exp) b.places (body_placed b) in
       omega (arith, before, fit)
 
-  pub slots_low : first_home b.entry (restored b.exp) b.places ≤ max_words
+  pub slots_low : first_home b.body.now.entry (restored b.body.now.exp) b.places ≤ max_words
   slots_low = let low = homes_low in omega (arith, low)

@@ -10,21 +10,21 @@ use Rattle.sch_homes.specs.Laws.{IsPlaced}
 use Rattle.sch_homes.specs.View.{bare_code}
 use Rattle.sch_homes.proofs.LiveRestores.{restores_live}
 
-pub body_placed : {N : ℕ} (b : PlacedBody N) → IsPlaced (bare_code b) (restored b.exp) b.places
+pub body_placed : {N : ℕ} (b : PlacedBody N) → IsPlaced (bare_code b) (restored b.body.now.exp) b.places
 body_placed b = record {
   body = refl;
-  scoped = b.scoped;
-  numbers = b.numbered;
-  shaped = b.shaped;
-  fields = b.fields;
-  saved = b.saved;
-  restores = restores_live b.exp (Unit {0}) (Unit {0}) nothing_later nothing_later (λ u. u) (λ x t l. l) (exact (restored_listed b.exp) b.live);
+  scoped = b.body.now.scoped;
+  numbers = b.body.now.numbered;
+  shaped = b.body.now.shaped;
+  fields = b.body.now.fields;
+  saved = b.body.now.saved;
+  restores = restores_live b.body.now.exp (Unit {0}) (Unit {0}) nothing_later nothing_later (λ u. u) (λ x t l. l) (exact (restored_listed b.body.now.exp) b.body.now.live);
   whole = b.whole;
   link = b.link;
   closure = b.closure;
   usual = b.usual;
   formals = b.formals;
   entered = b.entered;
-  alone = bound_alone (place_of b.places) (restored b.exp) b.alone;
-  points = points_apart (place_of b.places) (restored b.exp) b.points;
+  alone = bound_alone (place_of b.places) (restored b.body.now.exp) b.alone;
+  points = points_apart (place_of b.places) (restored b.body.now.exp) b.points;
 }

@@ -8,4 +8,4 @@ use Rattle.sch_control.specs.flow.RestoredView.{restored}
 
 -- the body without regions and restores
 abbrev pub bare_code : {N : ℕ} → PlacedBody N → Code
-bare_code b = code_with b.name b.entry b.variables (erased (restored b.exp))
+bare_code b = code_with b.body.now.name b.body.now.entry b.body.now.variables (erased (restored b.body.now.exp))

@@ -96,18 +96,19 @@ fn calls_end<const N: usize>(
 }
 
 /// The room that a body needs.
-pub(crate) fn room_for<const N: usize>(alloc: Global, b: &PlacedBody<N>) -> Result<Room, Mem>
-    ensures homes { IfOk result (λ r. r.homes.homes ≡ home_slots (first_home b.now.entry (restored b.now.exp) b.now.places)
-        (has_home b.now.entry (restored b.now.exp) b.now.places) (length b.now.places)) }
-    ensures end { IfOk result (λ r. r.homes.end ≡ homes_end b.now.entry (restored b.now.exp) b.now.places) }
-    ensures words { IfOk result (λ r. r.words ≡ homes_words b.now.entry (restored b.now.exp) b.now.places) }
+pub(crate) fn room_for<const N: usize>(alloc: Global, b: &PlacedBody<'_, N>) -> Result<Room, Mem>
+    ensures homes { IfOk result (λ r. r.homes.homes ≡ home_slots
+        (first_home b.now.body.now.entry (restored b.now.body.now.exp) b.now.places)
+        (has_home b.now.body.now.entry (restored b.now.body.now.exp) b.now.places) (length b.now.places)) }
+    ensures end { IfOk result (λ r. r.homes.end ≡ homes_end b.now.body.now.entry (restored b.now.body.now.exp) b.now.places) }
+    ensures words { IfOk result (λ r. r.words ≡ homes_words b.now.body.now.entry (restored b.now.body.now.exp) b.now.places) }
 {
     let mut saved = Set::new();
-    mark_saved(&b.exp, &mut saved);
+    mark_saved(&b.body.exp, &mut saved);
     let places = b.places.as_slice();
-    let first = slots_end(late_slots(b.entry), places);
+    let first = slots_end(late_slots(b.body.entry), places);
     let homes = give_homes(alloc, places, &saved, first)?;
     let lives = FramePlaces { places };
-    let words = calls_end(alloc, &lives, homes.end, &b.exp)?;
+    let words = calls_end(alloc, &lives, homes.end, &b.body.exp)?;
     Ok(Room { homes, words })
 }

@@ -31,8 +31,8 @@ pub fn homes_are_framed()
 {}
 
 /// The law that the type of bodies with places keeps what these laws ask for.
-pub fn bodies_are_placed<const N: usize>(b: &PlacedBody<N>)
-    ensures { IsPlaced (bare_code b.now) (restored b.now.exp) b.now.places }
+pub fn bodies_are_placed<const N: usize>(b: &PlacedBody<'_, N>)
+    ensures { IsPlaced (bare_code b.now) (restored b.now.body.now.exp) b.now.places }
 {
     let _ = &b.places;
 }

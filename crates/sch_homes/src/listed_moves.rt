@@ -127,13 +127,13 @@ fn list_calls<const N: usize>(
 /// Adds what is listed of the calls of a body, in the order of its tree.
 pub fn list_moves<const N: usize>(
     alloc: Global,
-    b: &PlacedBody<N>,
+    b: &PlacedBody<'_, N>,
     calls: &mut List<ListedCall>,
 ) -> Result<(), Mem>
-    ensures { OnOk result (calls.new ≡ calls.old ++ listed.homes_calls b.now.entry (restored b.now.exp) b.now.places) }
+    ensures { OnOk result (calls.new ≡ calls.old ++ listed.homes_calls b.now.body.now.entry (restored b.now.body.now.exp) b.now.places) }
 {
     let lives = FramePlaces {
         places: b.places.as_slice(),
     };
-    list_calls(alloc, &lives, &b.exp, calls)
+    list_calls(alloc, &lives, &b.body.exp, calls)
 }

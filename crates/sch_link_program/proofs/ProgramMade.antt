@@ -50,33 +50,50 @@ also_named a b more {n1 = n1} z p q h = both_named a b z p (q ∙ ap (firsts n1)
 both_listed : {A : Type 0} (a b : List A) {n0 n1 n2 : List A} → n0 ≡ [] → n1 ≡ n0 ++ a → n2 ≡ n1 ++ b → n2 ≡ a ++ b
 both_listed a b z p q = q ∙ ap (λ n. n ++ b) (p ∙ ap (λ n. n ++ a) z)
 
-module _ (ds : List Definition) (own held : List (List ℕ)) (forms : Drafts) (globals symbols : List (List ℕ)) where
-  module _ (g : globals ≡ firsts [] (globals_of_each ds ++ globals_in_each own forms)) (s : symbols ≡ firsts [] (symbols_of_each ds ++ symbols_in_each forms)) where
-    pub assembled : (symbol_list global_list : List (List ℕ)) (lits0 lits1 lits2 : List Lit) (sites0 sites1 sites2 : List ℕ) (starting : List (Option ℕ)) (library : List Lambda) (made : List Exp) (vs : VariableNames) →
-        symbol_list ≡ symbols → global_list ≡ globals → lits0 ≡ [] → sites0 ≡ [] → vs ≡ [] →
-        lambdas_of library ≡ procedures globals symbols ds (length sites0) (length lits0) → sites1 ≡ sites0 ++ widths_of_definitions ds → map literal lits1 ≡ map literal lits0 ++ map (literal_of symbols) (quotes_of_each ds) →
-        expressions_of made ≡ numbered_each own globals symbols vs forms (length sites1) (length lits1) → sites2 ≡ sites1 ++ widths_of_each forms →
-        map literal lits2 ≡ map literal lits1 ++ map (literal_of symbols) (quotes_in_each forms) → starting ≡ starts ds held global_list →
-        source_of symbol_list lits2 starting library made sites2 ≡ program_with ds own held forms
-    assembled symbol_list global_list lits0 lits1 lits2 sites0 sites1 sites2 starting library made vs a b z y v l w q m w' q' t =
+-- ## What has numbers: from nothing, the library first
+
+module _ (ds : List Definition) (own : List (List ℕ)) (forms : Drafts) (globals symbols : List (List ℕ)) (lits0 lits1 : List Lit) (sites0 sites1 : List ℕ) (z : lits0 ≡ []) (y : sites0 ≡ []) where
+  pub library_made : (library : List Lambda) → lambdas_of library ≡ procedures globals symbols ds (length sites0) (length lits0) → lambdas_of library ≡ procedures globals symbols ds 0 0
+  library_made library l = l ∙ rw (y, z) refl
+
+  pub sites_made : (sites2 : List ℕ) → sites1 ≡ sites0 ++ widths_of_definitions ds → sites2 ≡ sites1 ++ widths_of_each forms → sites2 ≡ widths_of_definitions ds ++ widths_of_each forms
+  sites_made sites2 w w' = both_listed (widths_of_definitions ds) (widths_of_each forms) y w w'
+
+  module _ (q : map literal lits1 ≡ map literal lits0 ++ map (literal_of symbols) (quotes_of_each ds)) where
+    pub literals_made : (lits2 : List Lit) → map literal lits2 ≡ map literal lits1 ++ map (literal_of symbols) (quotes_in_each forms) → map literal lits2 ≡ map (literal_of symbols) (quotes_of_each ds ++ quotes_in_each forms)
+    literals_made lits2 q' =
         let f = literal_of symbols in
-        let G = firsts [] (globals_of_each ds ++ globals_in_each own forms) in
-        let S = firsts [] (symbols_of_each ds ++ symbols_in_each forms) in
+        then_literals f (quotes_of_each ds) (quotes_in_each forms) (map literal lits0) q q' ∙ ap (λ n. map literal n ++ map f (quotes_of_each ds ++ quotes_in_each forms)) z
+
+    pub forms_made : (made : List Exp) (vs : VariableNames) → vs ≡ [] → sites1 ≡ sites0 ++ widths_of_definitions ds → expressions_of made ≡ numbered_each own globals symbols vs forms (length sites1) (length lits1) →
+        expressions_of made ≡ numbered_each own globals symbols [] forms (length (widths_of_definitions ds)) (length (quotes_of_each ds))
+    forms_made made vs v w m =
+        let f = literal_of symbols in
         let width : length sites1 ≡ length (widths_of_definitions ds) = ap length (w ∙ ap (λ n. n ++ widths_of_definitions ds) y) in
         let quoted : length lits1 ≡ length (quotes_of_each ds) = omega (arith, literals_more f [] lits1 (quotes_of_each ds) (q ∙ ap (λ n. map literal n ++ map f (quotes_of_each ds)) z)) in
-        let listed : map literal lits2 ≡ map f (quotes_of_each ds ++ quotes_in_each forms) =
-        then_literals f (quotes_of_each ds) (quotes_in_each forms) (map literal lits0) q q' ∙ ap (λ n. map literal n ++ map f (quotes_of_each ds ++ quotes_in_each forms)) z in
-        let lambdas : lambdas_of library ≡ procedures G S ds 0 0 = l ∙ rw (y, z, g, s) refl in
-        let trees : expressions_of made ≡ numbered_each own G S [] forms (length (widths_of_definitions ds)) (length (quotes_of_each ds)) = m ∙ rw (width, quoted, v, g, s) refl in
+        m ∙ rw (width, quoted, v) refl
+
+-- ## The program
+
+module _ (ds : List Definition) (own held : List (List ℕ)) (forms : Drafts) (globals symbols : List (List ℕ)) where
+  module _ (g : globals ≡ firsts [] (globals_of_each ds ++ globals_in_each own forms)) (s : symbols ≡ firsts [] (symbols_of_each ds ++ symbols_in_each forms)) where
+    pub assembled : (symbol_list global_list : List (List ℕ)) (lits : List Lit) (sites : List ℕ) (starting : List (Option ℕ)) (library : List Lambda) (made : List Exp) →
+        symbol_list ≡ symbols → global_list ≡ globals → lambdas_of library ≡ procedures globals symbols ds 0 0 →
+        expressions_of made ≡ numbered_each own globals symbols [] forms (length (widths_of_definitions ds)) (length (quotes_of_each ds)) →
+        sites ≡ widths_of_definitions ds ++ widths_of_each forms → map literal lits ≡ map (literal_of symbols) (quotes_of_each ds ++ quotes_in_each forms) →
+        starting ≡ starts ds held global_list → source_of symbol_list lits starting library made sites ≡ program_with ds own held forms
+    assembled symbol_list global_list lits sites starting library made a b l m w q t =
+        let lambdas : lambdas_of library ≡ procedures (firsts [] (globals_of_each ds ++ globals_in_each own forms)) (firsts [] (symbols_of_each ds ++ symbols_in_each forms)) ds 0 0 = l ∙ rw (g, s) refl in
+        let trees : expressions_of made ≡ numbered_each own (firsts [] (globals_of_each ds ++ globals_in_each own forms)) (firsts [] (symbols_of_each ds ++ symbols_in_each forms)) [] forms (length (widths_of_definitions ds)) (length (quotes_of_each ds)) = m ∙ rw (g, s) refl in
         λ i. record {
           statics = record {
             symbols = (a ∙ s) i;
-            literals = (literals_of_list lits2 ∙ ap literals listed ∙ ap (λ n. literals (map (literal_of n) (quotes_of_each ds ++ quotes_in_each forms))) s) i;
+            literals = (literals_of_list lits ∙ ap literals q ∙ ap (λ n. literals (map (literal_of n) (quotes_of_each ds ++ quotes_in_each forms))) s) i;
             globals = (t ∙ ap (starts ds held) (b ∙ g)) i;
           };
           library = lambdas i;
           forms = trees i;
-          sites = both_listed (widths_of_definitions ds) (widths_of_each forms) y w w' i;
+          sites = w i;
         }
 
 -- ## What is held and named, in any order

@@ -4,6 +4,7 @@
 
 mod definition;
 mod keeping;
+mod numbered_program;
 mod parts;
 mod program;
 mod starting;

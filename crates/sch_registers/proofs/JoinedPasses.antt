@@ -1,7 +1,9 @@
 -- The passes of one body, one after the other.
-use Rattle.std.proofs.Common.{◌≡◌, ℕ, ◌+◌, ◌*◌, ◌<◌, false, true, ap, sym, ◌∙◌, subst}
+use Rattle.std.proofs.Common.{◌≡◌, ℕ, ◌+◌, ◌*◌, ◌<◌, List, false, true, ap, sym, ◌∙◌, subst}
+use Rattle.sch_word.specs.declared.place.Place.{Place}
 use Rattle.sch_control.specs.declared.body.Body.{Body}
 use Rattle.sch_control.specs.declared.placed_body.PlacedBody.{PlacedBody}
+use Rattle.sch_control.specs.declared.restored_body.RestoredBody.{RestoredBody}
 use Rattle.sch_control.specs.declared.saved_body.SavedBody.{SavedBody}
 use Rattle.sch_control.specs.Meaning.{no_region}
 use Rattle.sch_control.specs.Sizes.{tests_in}
@@ -40,10 +42,10 @@ use Rattle.sch_registers.proofs.InOrder.{lazily_same, restored_same}
 use Rattle.sch_registers.proofs.MadeOne.{IsExact}
 
 -- what the passes say of what they made, from what is live after the calls on
-pub record IsJoined {N : ℕ} (b : Body) (live : Expression) (s : SavedBody N) (p : PlacedBody N) : Type 0 where
-  pub name : p.name ≡ b.name
-  pub entry : p.entry ≡ b.entry
-  pub variables : p.variables ≡ b.variables
+pub record IsJoined {N : ℕ} (b : Body) (live : Expression) (s : SavedBody N) (r : RestoredBody N) (ps : List Place) : Type 0 where
+  pub name : r.name ≡ b.name
+  pub entry : r.entry ≡ b.entry
+  pub variables : r.variables ≡ b.variables
   pub saved_variables : s.variables ≡ b.variables
   pub bare : unlisted live ≡ expression b.exp
   pub made_live : lists_in_order b.variables live ≡ live_listed b.variables (expression b.exp)
@@ -52,12 +54,12 @@ pub record IsJoined {N : ℕ} (b : Body) (live : Expression) (s : SavedBody N) (
   pub lazy : LazySaves (listed s.exp)
   pub stand : regions_stand true (listed s.exp) ≡ true
   pub followed : EachSaveFollowed (listed s.exp)
-  pub made_restored : restored p.exp ≡ eagerly_restored b.variables (listed s.exp)
-  pub soon : EachSoonRestored (restored p.exp)
-  pub eager : EagerRestores (restored p.exp)
-  pub made_places : p.places ≡ places b.entry b.variables (restored p.exp)
-  pub formals : (k : ℕ) → k < formals_of b.entry → place_of p.places (2 + k) ≡ arrival k
-  pub spills : SlotsWhenFull (place_of p.places) (restored p.exp)
+  pub made_restored : restored r.exp ≡ eagerly_restored b.variables (listed s.exp)
+  pub soon : EachSoonRestored (restored r.exp)
+  pub eager : EagerRestores (restored r.exp)
+  pub made_places : ps ≡ places b.entry b.variables (restored r.exp)
+  pub formals : (k : ℕ) → k < formals_of b.entry → place_of ps (2 + k) ≡ arrival k
+  pub spills : SlotsWhenFull (place_of ps) (restored r.exp)
 
 -- the passes put lists and regions into a tree, and change nothing else of it
 pub tree_kept : (n : ℕ) (live saved tree e : Expression) → unlisted live ≡ e → unsaved saved ≡ live → tree ≡ eagerly_restored n saved → erased tree ≡ e
@@ -68,9 +70,12 @@ tree_kept n live saved tree e bare without made =
 pub labels_kept : (n : ℕ) (live saved tree e : Expression) → unlisted live ≡ e → unsaved saved ≡ live → tree ≡ eagerly_restored n saved → labels tree ≡ 2 * tests_in e
 labels_kept n live saved tree e bare without made = labels_counted tree ∙ ap (λ e. 2 * tests_in e) (tree_kept n live saved tree e bare without made)
 
-module _ {N : ℕ} (b : Body) (live : Expression) (s : SavedBody N) (p : PlacedBody N) (j : IsJoined b live s p) where
+module _ {N : ℕ} (b : Body) (live : Expression) (s : SavedBody N) (p : PlacedBody N) (j : IsJoined b live s p.body.now p.places) where
   abbrev c : Code
   c = code_of b
+
+  abbrev r : RestoredBody N
+  r = p.body.now
 
   abbrev saved : Expression
   saved = listed s.exp
@@ -90,20 +95,20 @@ module _ {N : ℕ} (b : Body) (live : Expression) (s : SavedBody N) (p : PlacedB
 
   bare_is : bare_code p ≡ c
   bare_is =
-      ap (λ name. code_with name p.entry p.variables (erased (restored p.exp))) j.name
-      ∙ (ap (λ entry. code_with b.name entry p.variables (erased (restored p.exp))) j.entry
-      ∙ (ap (λ n. code_with b.name b.entry n (erased (restored p.exp))) j.variables
-      ∙ ap (code_with b.name b.entry b.variables) (tree_kept b.variables live saved (restored p.exp) (expression b.exp) j.bare j.without_regions j.made_restored)))
+      ap (λ name. code_with name r.entry r.variables (erased (restored r.exp))) j.name
+      ∙ (ap (λ entry. code_with b.name entry r.variables (erased (restored r.exp))) j.entry
+      ∙ (ap (λ n. code_with b.name b.entry n (erased (restored r.exp))) j.variables
+      ∙ ap (code_with b.name b.entry b.variables) (tree_kept b.variables live saved (restored r.exp) (expression b.exp) j.bare j.without_regions j.made_restored)))
 
   placed : IsPlaced c tree (places b.entry b.variables tree)
   placed =
       subst (λ z. IsPlaced c z (places b.entry b.variables z)) j.made_restored
-      (subst (IsPlaced c (restored p.exp)) j.made_places (subst (λ z. IsPlaced z (restored p.exp) p.places) bare_is (body_placed p)))
+      (subst (IsPlaced c (restored r.exp)) j.made_places (subst (λ z. IsPlaced z (restored r.exp) p.places) bare_is (body_placed p)))
 
   exactly : IsExact c tree (places b.entry b.variables tree)
   exactly =
       subst (λ z. IsExact c z (places b.entry b.variables z)) j.made_restored
-      (subst (IsExact c (restored p.exp)) j.made_places (record { restores = j.eager; formals = j.formals; spills = j.spills }))
+      (subst (IsExact c (restored r.exp)) j.made_places (record { restores = j.eager; formals = j.formals; spills = j.spills }))
 
   tree_is : registers_tree b.variables (expression b.exp) ≡ tree
   unfolding registers_tree
@@ -117,12 +122,12 @@ module _ {N : ℕ} (b : Body) (live : Expression) (s : SavedBody N) (p : PlacedB
   unfolding registers_code
   code_is = ap (λ z. homes_code b.entry z (places b.entry b.variables z)) tree_is
 
-  frame_is : homes_code p.entry (restored p.exp) p.places ≡ homes_code b.entry tree (places b.entry b.variables tree)
+  frame_is : homes_code r.entry (restored r.exp) p.places ≡ homes_code b.entry tree (places b.entry b.variables tree)
   frame_is =
-      ap (λ entry. homes_code entry (restored p.exp) p.places) j.entry
-      ∙ (ap (homes_code b.entry (restored p.exp)) j.made_places ∙ ap (λ z. homes_code b.entry z (places b.entry b.variables z)) j.made_restored)
+      ap (λ entry. homes_code entry (restored r.exp) p.places) j.entry
+      ∙ (ap (homes_code b.entry (restored r.exp)) j.made_places ∙ ap (λ z. homes_code b.entry z (places b.entry b.variables z)) j.made_restored)
 
-  pub joined_body : (f : frames.Code) → f ≡ homes_code p.entry (restored p.exp) p.places → IsFramedBody c f
+  pub joined_body : (f : frames.Code) → f ≡ homes_code r.entry (restored r.exp) p.places → IsFramedBody c f
   joined_body f is =
       subst (IsFramedBody c) (sym (is ∙ frame_is)) (framed_body c saved well placed (subst EachSoonRestored j.made_restored j.soon) exactly code_is)
 
@@ -130,8 +135,8 @@ module _ {N : ℕ} (b : Body) (live : Expression) (s : SavedBody N) (p : PlacedB
   unfolding registers_calls
   calls_are = ap (λ z. homes_calls b.entry z (places b.entry b.variables z)) tree_is
 
-  pub joined_calls : homes_calls p.entry (restored p.exp) p.places ≡ registers_calls c
+  pub joined_calls : homes_calls r.entry (restored r.exp) p.places ≡ registers_calls c
   joined_calls =
-      ap (λ entry. homes_calls entry (restored p.exp) p.places) j.entry
-      ∙ (ap (homes_calls b.entry (restored p.exp)) j.made_places
+      ap (λ entry. homes_calls entry (restored r.exp) p.places) j.entry
+      ∙ (ap (homes_calls b.entry (restored r.exp)) j.made_places
       ∙ (ap (λ z. homes_calls b.entry z (places b.entry b.variables z)) j.made_restored ∙ sym calls_are))

@@ -26,20 +26,21 @@ use std::alloc::Global;
 /// The frame body of a body with places. What is listed of its calls is added to `calls`.
 fn frame_listed<const N: usize>(
     alloc: Global,
-    b: &PlacedBody<N>,
+    b: &PlacedBody<'_, N>,
     calls: &mut List<ListedCall>,
 ) -> Result<FrameBody, Mem>
-    requires soon { EachSoonRestored (restored b.now.exp) }
-    requires labels { labels (restored b.now.exp) < 2 ^ 32 }
-    ensures made { IfOk result (λ f. code_of f ≡ homes_code b.now.entry (restored b.now.exp) b.now.places) }
-    ensures calls { OnOk result (calls.new ≡ calls.old ++ homes_calls b.now.entry (restored b.now.exp) b.now.places) }
+    requires soon { EachSoonRestored (restored b.now.body.now.exp) }
+    requires labels { labels (restored b.now.body.now.exp) < 2 ^ 32 }
+    ensures made { IfOk result (λ f. code_of f ≡ homes_code b.now.body.now.entry (restored b.now.body.now.exp) b.now.places) }
+    ensures calls { OnOk result (calls.new ≡ calls.old ++ homes_calls b.now.body.now.entry (restored b.now.body.now.exp) b.now.places) }
 {
     let f = frame(alloc, b)?;
     list_moves(alloc, b, calls)?;
     Ok(f)
 }
 
-/// The frame body of a body, with sets of `N` words. A tree is let go as soon as the next one stands.
+/// The frame body of a body, with sets of `N` words. A tree is let go as soon as the next one stands, the last one
+/// as soon as its frame body does, since its places refer to it.
 fn framed<const N: usize>(
     alloc: Global,
     b: &Body,
@@ -57,7 +58,6 @@ fn framed<const N: usize>(
     let restored = place_restores(alloc, &saved)?;
     drop(saved);
     let placed = assign_places(alloc, &restored)?;
-    drop(restored);
     let f = frame_listed(alloc, &placed, calls)?;
     Ok(f)
 }

@@ -1,20 +1,17 @@
 -- A body with restores, and its places.
-use Rattle.std.proofs.Common.{◌≡◌, ℕ, ◌+◌, ◌<◌, ◌≤◌, List, Bool, true, ap, sym, ◌∙◌, refl, subst, arith, ◌^◌}
+use Rattle.std.proofs.Common.{◌≡◌, ℕ, ◌+◌, ◌<◌, ◌≤◌, List, true, sym, refl, subst, arith, ◌^◌}
 use Rattle.std.specs.Prelude.{nat_le}
 use Rattle.std.proofs.lemmas.Bool.Decides.{nat_tests}
 use Rattle.sch_word.specs.declared.place.Place.{Place}
 use Rattle.sch_word.proofs.facts.Booleans.{and_left}
 use Rattle.sch_control.specs.Valid.{max_body_variables}
 use Rattle.sch_control.specs.declared.restored_body.RestoredBody.{RestoredBody}
-use Rattle.sch_control.specs.Meaning.{no_region}
-use Rattle.sch_control.specs.Tree.{Expression, Code}
+use Rattle.sch_control.specs.Tree.{Code}
 use Rattle.sch_control.specs.flow.Bare.{erased}
-use Rattle.sch_control.specs.flow.LiveSets.{HasLiveSets}
 use Rattle.sch_control.specs.flow.Middle.{code_with}
 use Rattle.sch_control.specs.flow.Places.{count_slots, formals_of}
 use Rattle.sch_control.specs.flow.Reads.{VariablesBelow}
-use Rattle.sch_control.specs.flow.Regions.{regions_apart, restores_saved}
-use Rattle.sch_control.specs.flow.RestoredView.{restored, restored_listed}
+use Rattle.sch_control.specs.flow.RestoredView.{restored}
 use Rattle.sch_control.proofs.SlotCounts.{slots_within}
 use Rattle.sch_paths.proofs.saves.VariablesBelow.{listed_below}
 use Rattle.sch_regs.specs.PlaceChoice.{places, slots, table_of}
@@ -45,24 +42,5 @@ module _ {N : ℕ} (b : RestoredBody N) where
       let few : b.variables ≤ max_body_variables = grind (arith, nat_tests, most) in
       omega (arith, same, k, long, few)
 
-  module _ (r : Expression) (tree : r ≡ restored b.exp) where
-    -- what is true of the body's tree without regions and restores is true of its copy
-    pub kept : (name : List ℕ) → name ≡ b.name → (test : Code → Bool) → test code_of ≡ true → test (code_with name b.entry b.variables (erased r)) ≡ true
-    kept name is test h =
-        subst (λ z. test (code_with z b.entry b.variables (erased r)) ≡ true) (sym is)
-        (subst (λ z. test (code_with b.name b.entry b.variables (erased z)) ≡ true) (sym tree) h)
-
-    pub apart : regions_apart b.variables r no_region ≡ true
-    apart = ap (λ z. regions_apart b.variables z no_region) tree ∙ b.apart
-
-    pub all_saved : restores_saved r no_region ≡ true
-    all_saved = ap (λ z. restores_saved z no_region) tree ∙ b.saved
-
-    pub placed : (ps : List Place) → ps ≡ places b.entry b.variables (restored b.exp) → IsPlaced b.entry b.variables r ps
-    placed ps made =
-        subst (λ e. IsPlaced b.entry b.variables e ps) (sym tree)
-        (subst (λ q. IsPlaced b.entry b.variables (restored b.exp) q) (sym made)
-        (is_placed code_of (restored b.exp) refl b.scoped b.numbered b.ended))
-
-  pub live_sets : (l : Expression) → l ≡ restored_listed b.exp → ∥ HasLiveSets l ∥₁
-  live_sets l same = subst (λ z. ∥ HasLiveSets z ∥₁) (sym same) b.live
+  pub placed : (ps : List Place) → ps ≡ places b.entry b.variables (restored b.exp) → IsPlaced b.entry b.variables (restored b.exp) ps
+  placed ps made = subst (IsPlaced b.entry b.variables (restored b.exp)) (sym made) (is_placed code_of (restored b.exp) refl b.scoped b.numbered b.ended)

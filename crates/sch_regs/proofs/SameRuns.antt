@@ -1,5 +1,5 @@
 -- A body with enough restores does the same, whatever its calls keep.
-use Rattle.std.proofs.Common.{◌≡◌, ℕ, Bool, true, false, List, refl, sym, ◌∙◌, subst}
+use Rattle.std.proofs.Common.{◌≡◌, ℕ, Bool, true, false, List, refl, sym, ◌∙◌}
 use Rattle.sch_word.specs.declared.place.Place.{Place}
 use Rattle.sch_control.specs.declared.restored_body.RestoredBody.{RestoredBody}
 use Rattle.sch_control.specs.Meaning.{World, Environment, Callee, do_body, no_region}
@@ -31,8 +31,5 @@ module _ (c : Code) (e : Expression) (is : erased e ≡ c.expression) (i : in_sc
       sym (silently (λ x. false) callee depth no_region e (whatever (λ x. false)) r (valid_fresh c e is i n) environment w)
       ∙ silently keeps callee depth no_region e (whatever keeps) (restored_kept keeps e (Unit {0}) nothing_later nothing_later r) (valid_fresh c e is i n) environment w
 
-pub keeps_runs : {N : ℕ} (b : RestoredBody N) (e : Expression) → e ≡ restored b.exp → EachSoonRestored (restored b.exp) → (places : List Place)
-    → KeepsRuns (restored b.exp) e places
-keeps_runs b e tree r places callee depth environment w =
-    subst (λ z. do_body restoring callee depth (restored b.exp) environment w ≡ do_body (silent (λ x. is_slot (place_of places x))) callee depth z environment w) (sym tree)
-    (same_runs (code_of b) (restored b.exp) refl b.scoped b.numbered b.saved r (λ x. is_slot (place_of places x)) callee depth environment w)
+pub keeps_runs : {N : ℕ} (b : RestoredBody N) → EachSoonRestored (restored b.exp) → (places : List Place) → KeepsRuns (restored b.exp) (restored b.exp) places
+keeps_runs b r places = same_runs (code_of b) (restored b.exp) refl b.scoped b.numbered b.saved r (λ x. is_slot (place_of places x))

@@ -41,7 +41,7 @@ in_order count t = map (place_in t) (numbers 0 count)
 
 -- ## The choice
 
--- a variable that is live is in that register
+-- A variable that is live is in that register, by some entry. The table of a body has one entry for each variable.
 abbrev pub held : (live : ℕ → Bool) → Table → (register : ℕ) → Bool
 held live [] r = false
 held live (w ∷ t) r = (live w.0 && same_place w.1 (Reg r)) || held live t r
@@ -68,7 +68,7 @@ around members live x = has x (named (member_atoms members)) || live x
 
 -- ## Bodies
 
--- the variables that an expression binds, in the order of the tree, by what is live directly after each binding
+-- a table with the places of the variables that an expression binds, in the order of the tree, by what is live directly after each binding
 abbrev pub assign : Expression → Behind → Table → Table
 assign (perform o) l t = t
 assign (bind y a b) l t = assign b l (choose (λ x. is_live x b (l x)) y (assign a (λ x r. not (nat_eq x y) && is_live x b (l x)) t))

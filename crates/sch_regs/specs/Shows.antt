@@ -44,7 +44,8 @@ pub record ShowsAll {N : ℕ} (count : ℕ) (p : Placing N) (t : Table) : Type 0
 pub record Shows {N : ℕ} (count : ℕ) (p : Placing N) (t : Table) : Type 0 where
   pub shown : slots t < 2 ^ 32 → ShowsAll count p t
 
--- whatever table is shown before, what becomes of it is shown after
+-- Whatever table is shown before, what becomes of it is shown after. Nothing is said of a placing whose sets, count or places are
+-- not those of a table, nor of tables with 2^32 slots: no body has so many variables.
 abbrev pub Becomes : {N : ℕ} → (before after : Placing N) → (Table → Table) → Type 0
 Becomes before after change = (count : ℕ) (t : Table) → Shows count before t → Shows count after (change t)
 

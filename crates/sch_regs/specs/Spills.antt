@@ -1,4 +1,4 @@
--- Which variables have a slot.
+-- Where a variable that is bound may have a slot.
 use Rattle.std.specs.Prelude.{◌≡◌, ◌≢◌, ℕ, true}
 use Rattle.sch_word.specs.declared.place.Place.{Place}
 use Rattle.sch_word.specs.declared.place.Place.TheVariants.{Reg}

@@ -21,7 +21,7 @@ fn is_register(register: u8, p: Place) -> bool
     }
 }
 
-// Whether no variable that is live is in a register, by the variables that are in it.
+// Whether no variable that is live is in a register, by the variables that are in it: no number is in both sets.
 fn is_free<const N: usize>(held: &Set<N>, live: &Set<N>) -> bool
     ensures { (t : table.Table) (r : ℕ) → IsHeld t r held.now → result ≡ not (table.held (set.contains live.now) t r) }
 {
@@ -29,7 +29,7 @@ fn is_free<const N: usize>(held: &Set<N>, live: &Set<N>) -> bool
 }
 
 // The first of some registers that holds nothing live, by the variables that are in each of them, or else the slot behind
-// so many.
+// so many. There is a set for each register.
 fn first_free<const N: usize>(registers: &[u8], held: &[Set<N>], live: &Set<N>, slots: u32) -> Place
     ensures { (t : table.Table) → AreHeld t registers.now held.now → slots ≡ table.slots t
         → result ≡ table.first_free (set.contains live.now) t registers.now }

@@ -3,7 +3,6 @@
 
 mod assigning;
 mod choice;
-mod copying;
 mod noting;
 mod places;
 mod placing;

@@ -30,7 +30,8 @@ fn set_first<const N: usize>(noted: &mut Vec<Set<N>>, members: &[Member<u32>], l
 }
 
 /// Puts into `before` what is live before an expression, from what is live behind it where its value counts as true and
-/// where it is `#f`, and notes under each variable that it binds what is live directly after that.
+/// where it is `#f`, and notes what is live directly after each binding: under the variable that is bound, and of a group under
+/// its first.
 pub(crate) fn note<const N: usize>(
     e: &Exp<Restoring<N>>,
     on_true: &Set<N>,

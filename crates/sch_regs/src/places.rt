@@ -2,14 +2,13 @@
 
 ghost use Rattle.std.specs.Prelude.{◌≡◌, ◌+◌, ◌<◌, ℕ, IfOk};
 ghost use Rattle.sch_control.specs.flow.Places.{arrival, formals_of, place_of};
-ghost use Rattle.sch_control.specs.flow.RestoredView.{restored, restored_listed};
+ghost use Rattle.sch_control.specs.flow.RestoredView.{restored};
 ghost use Rattle.sch_regs.specs.PlaceChoice.{places};
 ghost use Rattle.sch_paths.specs.EachSoonRestored.{EachSoonRestored};
 ghost use Rattle.sch_regs.specs.Promises.{KeepsRuns};
 ghost use Rattle.sch_regs.specs.Spills.{SlotsWhenFull};
 
 use crate::assigning::assign;
-use crate::copying::copy;
 use crate::noting::note;
 use crate::placing::Placing;
 use crate::starting::{all_arrived, empty_sets, formals};
@@ -33,31 +32,20 @@ fn places_of<const N: usize>(alloc: Global, b: &RestoredBody<N>) -> Result<List<
 }
 
 /// The body with a place for each of its variables: the return address and the closure stay where they arrive, and so do the
-/// formals; any other variable has the first of six registers that holds nothing that is live directly after it is bound, and
-/// where all of them do, a slot of its own. Each call has to restore what is live after it and wanted before the next one.
+/// formals. Any other variable that is bound has the first of six registers that holds nothing that is live directly after it
+/// is bound, and where each of them holds something live, the next slot; of a group those come first that are live. Each call
+/// has to restore what is live after it and wanted before the next one.
 pub fn assign_places<const N: usize>(
     alloc: Global,
     b: &RestoredBody<N>,
-) -> Result<PlacedBody<N>, Mem>
+) -> Result<PlacedBody<'_, N>, Mem>
     requires enough { EachSoonRestored (restored b.now.exp) }
-    ensures name { IfOk result (λ r. r.name ≡ b.now.name) }
-    ensures entry { IfOk result (λ r. r.entry ≡ b.now.entry) }
-    ensures variables { IfOk result (λ r. r.variables ≡ b.now.variables) }
-    ensures same { IfOk result (λ r. restored_listed r.exp ≡ restored_listed b.now.exp) }
-    ensures tree { IfOk result (λ r. restored r.exp ≡ restored b.now.exp) }
+    ensures body { IfOk result (λ r. r.body.now ≡ b.now) }
     ensures made { IfOk result (λ r. r.places ≡ places b.now.entry b.now.variables (restored b.now.exp)) }
-    ensures slots { IfOk result (λ r. SlotsWhenFull (place_of r.places) (restored r.exp)) }
-    ensures formals { IfOk result (λ r. (k : ℕ) → k < formals_of r.entry → place_of r.places (2 + k) ≡ arrival k) }
-    ensures meaning { IfOk result (λ r. KeepsRuns (restored b.now.exp) (restored r.exp) r.places) }
+    ensures slots { IfOk result (λ r. SlotsWhenFull (place_of r.places) (restored r.body.now.exp)) }
+    ensures formals { IfOk result (λ r. (k : ℕ) → k < formals_of r.body.now.entry → place_of r.places (2 + k) ≡ arrival k) }
+    ensures meaning { IfOk result (λ r. KeepsRuns (restored b.now.exp) (restored r.body.now.exp) r.places) }
 {
-    let name = List::from_slice(alloc, b.name.as_slice())?;
-    let exp = copy(alloc, &b.exp)?;
     let places = places_of(alloc, b)?;
-    Ok(PlacedBody {
-        name,
-        entry: b.entry,
-        variables: b.variables,
-        exp: Box::into_inner(exp),
-        places,
-    })
+    Ok(PlacedBody { body: b, places })
 }

@@ -20,11 +20,7 @@ use std::alloc::Global;
 fn unplaced(alloc: Global, variables: u32) -> Result<Vec<Place>, Mem>
     ensures { IfOk result (λ ps. ps.items ≡ replicate variables (Reg RBX)) }
 {
-    let mut places = Vec::with_capacity(alloc, variables as usize)?;
-    for done in 0..variables {
-        places.push(Place::Reg(RBX))?;
-    }
-    Ok(places)
+    Ok(vec![in alloc; Place::Reg(RBX); variables as usize]?)
 }
 
 /// An empty set for each of a number of variables or registers.

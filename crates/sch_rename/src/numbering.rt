@@ -6,6 +6,7 @@ ghost use Rattle.sch_lang.specs.Tree as source;
 ghost use Rattle.sch_lang.specs.View.{expression, expressions_of, function, lambdas_of};
 ghost use Rattle.sch_cells.specs.View as view;
 ghost use Rattle.sch_lang.specs.InScope.{InScope, EachInScope, LambdasInScope};
+ghost use Rattle.sch_rename.specs.Kinds.{IsIf, IsLet, IsFix, IsRec, IsCall};
 ghost use Rattle.sch_rename.specs.Made.{number_at, binds, binds_each, binds_lambdas, renamed, renamed_each, renamed_function, renamed_lambdas};
 
 use sch_cells as cells;
@@ -85,82 +86,182 @@ fn rename_expression(
             let value = rename_boxed(alloc, value, scope, next)?;
             Ok(cells::Exp::Define(*g, value))
         }
-        Exp::If(test, yes, no) => {
-            let test = rename_boxed(alloc, test, scope, next)?;
-            let yes = rename_boxed(alloc, yes, scope, next)?;
-            let no = rename_boxed(alloc, no, scope, next)?;
-            Ok(cells::Exp::If(test, yes, no))
-        }
+        Exp::If(_, _, _) => rename_if(alloc, e, scope, next),
         Exp::Seq(parts) => {
             let parts = rename_each(alloc, parts, scope, next)?;
             Ok(cells::Exp::Seq(parts))
         }
-        Exp::Let(site, inits, body) => {
-            let first = *next;
-            let count = count(inits);
-            *next += count;
-            let inits = rename_each(alloc, inits, scope, next)?;
-            let depth = scope.len();
-            bind_variables(first, count, scope)?;
-            let body = rename_boxed(alloc, body, scope, next)?;
-            scope.truncate(depth);
-            Ok(cells::Exp::Let {
-                site: *site,
-                first,
-                inits,
-                body,
-            })
-        }
-        Exp::Fix(lambdas, body) => {
-            let first = *next;
-            let count = count_lambdas(lambdas);
-            *next += count;
-            let depth = scope.len();
-            bind_variables(first, count, scope)?;
-            let lambdas = rename_lambdas(alloc, lambdas, scope, next)?;
-            let body = rename_boxed(alloc, body, scope, next)?;
-            scope.truncate(depth);
-            Ok(cells::Exp::Fix {
-                first,
-                lambdas,
-                body,
-            })
-        }
-        Exp::Rec(site, inits, body) => {
-            let first = *next;
-            let count = count(inits);
-            *next += count;
-            let depth = scope.len();
-            bind_variables(first, count, scope)?;
-            let inits = rename_each(alloc, inits, scope, next)?;
-            let body = rename_boxed(alloc, body, scope, next)?;
-            scope.truncate(depth);
-            Ok(cells::Exp::Rec {
-                site: *site,
-                first,
-                inits,
-                body,
-            })
-        }
+        Exp::Let(_, _, _) => rename_let(alloc, e, scope, next),
+        Exp::Fix(_, _) => rename_fix(alloc, e, scope, next),
+        Exp::Rec(_, _, _) => rename_rec(alloc, e, scope, next),
         Exp::Lambda(l) => {
             let l = Box::new(alloc, rename_lambda(alloc, l, scope, next)?)?;
             Ok(cells::Exp::Lambda(l))
         }
-        Exp::Call(site, operator, operands) => {
-            let operator = rename_boxed(alloc, operator, scope, next)?;
-            let operands = rename_each(alloc, operands, scope, next)?;
-            Ok(cells::Exp::Call {
-                site: *site,
-                spread: false,
-                operator,
-                operands,
-            })
-        }
+        Exp::Call(_, _, _) => rename_call(alloc, e, scope, next),
         Exp::Prim(site, which, operands) => {
             let operands = rename_each(alloc, operands, scope, next)?;
             Ok(cells::Exp::Prim(*site, *which, operands))
         }
     }
+}
+
+// The same for an If. As functions of their own, this and the next four keep the frames of the walk small.
+#[cycle(renaming)]
+#[inline(never)]
+fn rename_if(
+    alloc: Global,
+    e: &Exp,
+    scope: &mut Vec<u32>,
+    next: &mut u32,
+) -> Result<cells::Exp, Mem>
+    requires kind { IsIf (expression e.now) }
+    requires inside { InScope (expression e.now) (length scope.old.items) }
+    requires few { next.old + binds (expression e.now) < 2 ^ 32 }
+    ensures made { IfOk result (λ q. view.tree q ≡ renamed (expression e.now) (reverse scope.old.items) next.old) }
+    ensures next { OnOk result (next.new ≡ next.old + binds (expression e.now)) }
+    ensures scope { OnOk result (scope.new.items ≡ scope.old.items) }
+{
+    let Exp::If(test, yes, no) = e else {
+        unreachable!();
+    };
+    let test = rename_boxed(alloc, test, scope, next)?;
+    let yes = rename_boxed(alloc, yes, scope, next)?;
+    let no = rename_boxed(alloc, no, scope, next)?;
+    Ok(cells::Exp::If(test, yes, no))
+}
+
+// The same for a Let, whose inits stand outside.
+#[cycle(renaming)]
+#[inline(never)]
+fn rename_let(
+    alloc: Global,
+    e: &Exp,
+    scope: &mut Vec<u32>,
+    next: &mut u32,
+) -> Result<cells::Exp, Mem>
+    requires kind { IsLet (expression e.now) }
+    requires inside { InScope (expression e.now) (length scope.old.items) }
+    requires few { next.old + binds (expression e.now) < 2 ^ 32 }
+    ensures made { IfOk result (λ q. view.tree q ≡ renamed (expression e.now) (reverse scope.old.items) next.old) }
+    ensures next { OnOk result (next.new ≡ next.old + binds (expression e.now)) }
+    ensures scope { OnOk result (scope.new.items ≡ scope.old.items) }
+{
+    let Exp::Let(site, inits, body) = e else {
+        unreachable!();
+    };
+    let first = *next;
+    let count = count(inits);
+    *next += count;
+    let inits = rename_each(alloc, inits, scope, next)?;
+    let depth = scope.len();
+    bind_variables(first, count, scope)?;
+    let body = rename_boxed(alloc, body, scope, next)?;
+    scope.truncate(depth);
+    Ok(cells::Exp::Let {
+        site: *site,
+        first,
+        inits,
+        body,
+    })
+}
+
+// The same for procedures that know one another.
+#[cycle(renaming)]
+#[inline(never)]
+fn rename_fix(
+    alloc: Global,
+    e: &Exp,
+    scope: &mut Vec<u32>,
+    next: &mut u32,
+) -> Result<cells::Exp, Mem>
+    requires kind { IsFix (expression e.now) }
+    requires inside { InScope (expression e.now) (length scope.old.items) }
+    requires few { next.old + binds (expression e.now) < 2 ^ 32 }
+    ensures made { IfOk result (λ q. view.tree q ≡ renamed (expression e.now) (reverse scope.old.items) next.old) }
+    ensures next { OnOk result (next.new ≡ next.old + binds (expression e.now)) }
+    ensures scope { OnOk result (scope.new.items ≡ scope.old.items) }
+{
+    let Exp::Fix(lambdas, body) = e else {
+        unreachable!();
+    };
+    let first = *next;
+    let count = count_lambdas(lambdas);
+    *next += count;
+    let depth = scope.len();
+    bind_variables(first, count, scope)?;
+    let lambdas = rename_lambdas(alloc, lambdas, scope, next)?;
+    let body = rename_boxed(alloc, body, scope, next)?;
+    scope.truncate(depth);
+    Ok(cells::Exp::Fix {
+        first,
+        lambdas,
+        body,
+    })
+}
+
+// The same for a Rec, whose inits stand inside.
+#[cycle(renaming)]
+#[inline(never)]
+fn rename_rec(
+    alloc: Global,
+    e: &Exp,
+    scope: &mut Vec<u32>,
+    next: &mut u32,
+) -> Result<cells::Exp, Mem>
+    requires kind { IsRec (expression e.now) }
+    requires inside { InScope (expression e.now) (length scope.old.items) }
+    requires few { next.old + binds (expression e.now) < 2 ^ 32 }
+    ensures made { IfOk result (λ q. view.tree q ≡ renamed (expression e.now) (reverse scope.old.items) next.old) }
+    ensures next { OnOk result (next.new ≡ next.old + binds (expression e.now)) }
+    ensures scope { OnOk result (scope.new.items ≡ scope.old.items) }
+{
+    let Exp::Rec(site, inits, body) = e else {
+        unreachable!();
+    };
+    let first = *next;
+    let count = count(inits);
+    *next += count;
+    let depth = scope.len();
+    bind_variables(first, count, scope)?;
+    let inits = rename_each(alloc, inits, scope, next)?;
+    let body = rename_boxed(alloc, body, scope, next)?;
+    scope.truncate(depth);
+    Ok(cells::Exp::Rec {
+        site: *site,
+        first,
+        inits,
+        body,
+    })
+}
+
+// The same for a call.
+#[cycle(renaming)]
+#[inline(never)]
+fn rename_call(
+    alloc: Global,
+    e: &Exp,
+    scope: &mut Vec<u32>,
+    next: &mut u32,
+) -> Result<cells::Exp, Mem>
+    requires kind { IsCall (expression e.now) }
+    requires inside { InScope (expression e.now) (length scope.old.items) }
+    requires few { next.old + binds (expression e.now) < 2 ^ 32 }
+    ensures made { IfOk result (λ q. view.tree q ≡ renamed (expression e.now) (reverse scope.old.items) next.old) }
+    ensures next { OnOk result (next.new ≡ next.old + binds (expression e.now)) }
+    ensures scope { OnOk result (scope.new.items ≡ scope.old.items) }
+{
+    let Exp::Call(site, operator, operands) = e else {
+        unreachable!();
+    };
+    let operator = rename_boxed(alloc, operator, scope, next)?;
+    let operands = rename_each(alloc, operands, scope, next)?;
+    Ok(cells::Exp::Call {
+        site: *site,
+        spread: false,
+        operator,
+        operands,
+    })
 }
 
 // The same on the heap. As a function of its own it keeps the frames of the walk small.

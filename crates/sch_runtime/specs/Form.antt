@@ -19,33 +19,12 @@ use Rattle.sch_asm.specs.declared.item.Item.TheVariants.{Label, Plain, Jump, Jum
 use Rattle.sch_asm.specs.Items.{is_routine}
 use Rattle.sch_runtime.specs.Code.{statuses}
 use Rattle.sch_runtime.specs.FrameRegister.{is_itself, is_without}
+use Rattle.sch_runtime.specs.Written.{writes_where}
 
--- ## Instructions: which write memory (SDM volume 2, the page of each mnemonic)
+-- ## Instructions: which write memory, and `mov rax, 60`
 
 abbrev pub writes_memory : Insn → Bool
-writes_memory (insn.MovTo m r) = in_memory m
-writes_memory (insn.MovNumber m n) = in_memory m
-writes_memory (insn.StoreByte m r) = in_memory m
-writes_memory (insn.AddTo m r) = in_memory m
-writes_memory (insn.OrTo m r) = in_memory m
-writes_memory (insn.AndTo m r) = in_memory m
-writes_memory (insn.SubTo m r) = in_memory m
-writes_memory (insn.XorTo m r) = in_memory m
-writes_memory (insn.AddNumber m n) = in_memory m
-writes_memory (insn.OrNumber m n) = in_memory m
-writes_memory (insn.AndNumber m n) = in_memory m
-writes_memory (insn.SubNumber m n) = in_memory m
-writes_memory (insn.XorNumber m n) = in_memory m
-writes_memory (insn.AddNumber8 m n) = in_memory m
-writes_memory (insn.OrNumber8 m n) = in_memory m
-writes_memory (insn.AndNumber8 m n) = in_memory m
-writes_memory (insn.SubNumber8 m n) = in_memory m
-writes_memory (insn.XorNumber8 m n) = in_memory m
-writes_memory (insn.Neg m) = in_memory m
-writes_memory (insn.Shl m k) = in_memory m
-writes_memory (insn.Shr m k) = in_memory m
-writes_memory (insn.Sar m k) = in_memory m
-writes_memory _ = false
+writes_memory i = writes_where in_memory i
 
 abbrev pub is_exit_number : Insn → Bool
 is_exit_number (insn.MovNumber (Reg r) (pos n)) = nat_eq r RAX && nat_eq n SYS_EXIT

@@ -3,3 +3,4 @@ pub mod Form
 pub mod FrameRegister
 pub mod HandedWord
 pub mod HeapRegister
+pub mod Written

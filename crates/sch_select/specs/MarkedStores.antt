@@ -11,34 +11,13 @@ use Rattle.sch_insn.specs.declared.insn.Insn.TheVariants as insn
 use Rattle.sch_asm.specs.declared.item.Item.{Item}
 use Rattle.sch_asm.specs.declared.item.Item.TheVariants as item
 use Rattle.sch_runtime.specs.FrameRegister.{has_base}
+use Rattle.sch_runtime.specs.Written.{writes_where}
 
--- ## Instructions: which operand is in memory, and which is written (SDM, volume 2, the page of each mnemonic)
+-- ## Instructions
 
 -- whether an instruction writes memory that is named by this register
 abbrev pub writes_at : (base : ℕ) → Insn → Bool
-writes_at base (insn.MovTo m r) = has_base base m
-writes_at base (insn.MovNumber m n) = has_base base m
-writes_at base (insn.StoreByte m r) = has_base base m
-writes_at base (insn.AddTo m r) = has_base base m
-writes_at base (insn.OrTo m r) = has_base base m
-writes_at base (insn.AndTo m r) = has_base base m
-writes_at base (insn.SubTo m r) = has_base base m
-writes_at base (insn.XorTo m r) = has_base base m
-writes_at base (insn.AddNumber m n) = has_base base m
-writes_at base (insn.AddNumber8 m n) = has_base base m
-writes_at base (insn.OrNumber m n) = has_base base m
-writes_at base (insn.OrNumber8 m n) = has_base base m
-writes_at base (insn.AndNumber m n) = has_base base m
-writes_at base (insn.AndNumber8 m n) = has_base base m
-writes_at base (insn.SubNumber m n) = has_base base m
-writes_at base (insn.SubNumber8 m n) = has_base base m
-writes_at base (insn.XorNumber m n) = has_base base m
-writes_at base (insn.XorNumber8 m n) = has_base base m
-writes_at base (insn.Neg m) = has_base base m
-writes_at base (insn.Shl m k) = has_base base m
-writes_at base (insn.Shr m k) = has_base base m
-writes_at base (insn.Sar m k) = has_base base m
-writes_at base _ = false
+writes_at base i = writes_where (has_base base) i
 
 -- ## Items
 

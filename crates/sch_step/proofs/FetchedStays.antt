@@ -2,9 +2,11 @@
 use Rattle.std.proofs.Common.{◌≡◌, ℕ, zero, suc, ◌+◌, ◌-◌, ◌<◌, ◌≤◌, ◌^◌, List, [], ◌∷◌, length, drop, get_or, set, subst, Bool, true, false, cond, Option, Some, None, refl, sym, ap, ◌∙◌, arith, length-drop, ◌&&◌}
 use Rattle.std.proofs.lemmas.Bool.Decides.{nat_tests}
 use Rattle.std.proofs.lemmas.List.{map-set}
+use Rattle.std.proofs.lemmas.List.Elements.{All-set}
 use Rattle.std.specs.Prelude.{map, not, replicate, IfSome}
 use Rattle.sch_word.specs.values.Memory as words
 use Rattle.sch_insn.specs.declared.insn.Insn.{Insn}
+use Rattle.sch_insn.specs.Spelling.{IsValid}
 use Rattle.sch_insn.specs.Decode.{decode}
 use Rattle.sch_word.specs.values.Options.{when_some}
 use Rattle.std.proofs.Math.Bool.{and-false}
@@ -98,6 +100,18 @@ pub none_are : (gs : List words.Segment) (n : ℕ) → AreFetched gs (replicate 
 none_are gs zero k d l some = absurd (omega (arith, l))
 none_are gs (suc n) zero d l some = absurd (omega (arith, some))
 none_are gs (suc n) (suc k) d l some = none_are gs n k d (omega (arith, l)) some
+
+-- One more is kept in its place.
+pub one_kept : (gs : List words.Segment) (fs : List Fetched) (k : ℕ) (f : Fetched) (o : Option (Insn × ℕ)) → AreFetched gs fs → o ≡ Some (f.insn, f.size)
+    → fetch_fixed gs f.at ≡ o → IfSome o (λ p. IsValid p.0) → IfSome o (λ p. f.at + p.1 ≤ 2 ^ 47) → AreFetched gs (set fs k f)
+one_kept gs fs k f o kept is fixed valid low = All-set (λ f. 0 < f.size → IsFetched gs f) fs k f (λ some. here) kept
+  where
+    here : IsFetched gs f
+    here = record {
+      valid = subst (λ o. IfSome o (λ p. IsValid p.0)) is valid;
+      low = subst (λ o. IfSome o (λ p. f.at + p.1 ≤ 2 ^ 47)) is low;
+      fixed = fixed ∙ is;
+    }
 
 -- What is found at its place is what is fetched.
 pub found_at : (gs : List words.Segment) (fs : List Fetched) (k : ℕ) (f : Fetched) → AreFetched gs fs → k < length fs → f ≡ get_or fs k f → 0 < f.size → IsFetched gs f

@@ -13,10 +13,16 @@ use std::alloc::{AllocError, Global};
 use std::str;
 use std::test::Fail;
 
-// How many globals and sites the program of a text has, or the line of its fault.
+// How many globals and sites the program of a text has.
+fn counts_of(alloc: Global, text: &[u8]) -> Result<(usize, usize), CoreError> {
+    let p = program_of(alloc, text)?;
+    Ok((p.globals.len(), p.sites.len()))
+}
+
+// Both numbers, or the line of the text's fault.
 fn answer_of(alloc: Global, text: &str) -> Result<String, AllocError> {
-    match program_of(alloc, text.as_bytes()) {
-        Ok(p) => format!(in alloc; "globals {}, sites {}", p.globals.len(), p.sites.len()),
+    match counts_of(alloc, text.as_bytes()) {
+        Ok((globals, sites)) => format!(in alloc; "globals {globals}, sites {sites}"),
         Err(fault) => format!(in alloc; "{fault}"),
     }
 }
@@ -191,8 +197,9 @@ fn in_beginnings(alloc: Global, levels: u32) -> Result<Datum, Mem>
 
 // Whether the data are walked: an empty list in `begin`s is a bad form.
 fn is_walked(alloc: Global, levels: u32) -> Result<bool, Mem> {
+    let d = in_beginnings(alloc, levels.min(1_000_000))?;
     let mut items = List::new(alloc);
-    items.push(in_beginnings(alloc, levels.min(1_000_000))?)?;
+    items.push(d)?;
     match core(alloc, &Library::empty(alloc), items.as_slice()) {
         Err(CoreError::BadForm(0)) => Ok(true),
         _ => Ok(false),
@@ -208,9 +215,10 @@ fn very_deep_data_are_walked(rt: HostRuntime) -> Result<(), Fail> {
 
 // Whether such data, quoted, have a program of one literal.
 fn is_one_literal(alloc: Global, levels: u32) -> Result<bool, Mem> {
-    let mut items = List::new(alloc);
     let d = in_beginnings(alloc, levels.min(1_000_000))?;
-    items.push(behind(alloc, 0, b"quote", d)?)?;
+    let d = behind(alloc, 0, b"quote", d)?;
+    let mut items = List::new(alloc);
+    items.push(d)?;
     match core(alloc, &Library::empty(alloc), items.as_slice()) {
         Ok(p) => Ok(p.literals.len() == 1),
         Err(_) => Ok(false),

@@ -1,7 +1,7 @@
 //! Moves of some calls.
 
 use sch_shuffle::{Move, Moves, Operand, shuffle};
-use sch_word::{List, Mem, Place, registers};
+use sch_word::{Mem, Place, registers};
 use std::alloc::Global;
 
 const RAX: Place = Place::Reg(registers::RAX);
@@ -37,36 +37,52 @@ fn seen(m: &Move) -> Seen {
     (from, register(m.to), m.argument, m.temp)
 }
 
-fn seen_list(alloc: Global, moves: &Moves) -> Result<List<Seen>, Mem> {
-    let mut all = List::new(alloc);
-    for m in moves.list.as_slice() {
-        all.push(seen(m))?;
+// Whether these are the moves, one after the other.
+fn are_seen(moves: &[Move], wanted: &[Seen]) -> bool {
+    let mut rest = wanted;
+    for m in moves {
+        let [first, others @ ..] = rest else {
+            return false;
+        };
+        if seen(m) != *first {
+            return false;
+        }
+        rest = others;
     }
-    Ok(all)
+    rest.is_empty()
 }
 
 // Whether these are the moves, with so many cycles.
-fn are_moves(alloc: Global, moves: &Moves, wanted: &[Seen], cycles: usize) -> Result<bool, Mem> {
-    let all = seen_list(alloc, moves)?;
-    Ok(all.as_slice() == wanted && moves.cycles.len() == cycles)
+fn are_moves(moves: &Moves, wanted: &[Seen], cycles: usize) -> bool {
+    are_seen(moves.list.as_slice(), wanted) && moves.cycles.len() == cycles
+}
+
+// Whether the moves of a swap are these.
+fn swaps(alloc: Global, wanted: &[Seen]) -> Result<bool, Mem> {
+    let args = [Operand::Place(R8), Operand::Place(RBX)];
+    let moves = shuffle(alloc, &args, &[RBX, R8], &[RAX, RCX])?;
+    Ok(are_moves(&moves, wanted, 1))
 }
 
 /// r8 and rbx to rbx and r8: one goes by rax.
 #[test]
 fn a_swap(rt: HostRuntime) -> Result<(), Mem> {
-    let args = [Operand::Place(R8), Operand::Place(RBX)];
-    let moves = shuffle(rt.alloc(), &args, &[RBX, R8], &[RAX, RCX])?;
     let wanted = [(8, 0, 0, true), (3, 8, 1, false), (0, 3, 0, false)];
-    assert!(rt; are_moves(rt.alloc(), &moves, &wanted, 1)?);
+    assert!(rt; swaps(rt.alloc(), &wanted)?);
     Ok(())
+}
+
+// Whether the moves of a chain are these.
+fn chains(alloc: Global, wanted: &[Seen]) -> Result<bool, Mem> {
+    let args = [Operand::Place(R8), Operand::Place(R9)];
+    let moves = shuffle(alloc, &args, &[RBX, R8], &[RAX, RCX])?;
+    Ok(are_moves(&moves, wanted, 0))
 }
 
 /// r8 and r9 to rbx and r8: none needs a temporary.
 #[test]
 fn a_chain(rt: HostRuntime) -> Result<(), Mem> {
-    let args = [Operand::Place(R8), Operand::Place(R9)];
-    let moves = shuffle(rt.alloc(), &args, &[RBX, R8], &[RAX, RCX])?;
     let wanted = [(8, 3, 0, false), (9, 8, 1, false)];
-    assert!(rt; are_moves(rt.alloc(), &moves, &wanted, 0)?);
+    assert!(rt; chains(rt.alloc(), &wanted)?);
     Ok(())
 }

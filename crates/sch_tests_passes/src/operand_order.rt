@@ -3,6 +3,7 @@
 use crate::texts::control_of;
 use crate::trees::write_number;
 use sch_control::{Application, Atom, ControlProgram, Exp as Control, Operand, Operation};
+use sch_core::CoreError;
 use sch_word::{Bytes, List, Mem};
 use std::alloc::Global;
 use std::test::Fail;
@@ -84,14 +85,21 @@ fn is_order(q: &ControlProgram) -> bool {
 }
 
 // Whether the parts of a program are these, and their order is listed so.
-fn binds_whole(alloc: Global, q: &ControlProgram) -> Result<bool, Mem> {
+fn binds_whole(alloc: Global, q: &ControlProgram) -> Result<bool, CoreError> {
     let parts = parts_of(alloc, q)?;
     Ok(parts.as_slice() == PARTS && is_order(q))
 }
 
+// The same of the program of the text.
+fn is_bound_whole(alloc: Global) -> Result<bool, CoreError> {
+    let q = control_of(alloc, TEXT)?;
+    let bound = binds_whole(alloc, &q);
+    drop(q);
+    bound
+}
+
 #[test]
 fn binds_each_operand_whole(rt: HostRuntime) -> Result<(), Fail> {
-    let q = control_of(rt.alloc(), TEXT)?;
-    assert!(rt; binds_whole(rt.alloc(), &q)?);
+    assert!(rt; is_bound_whole(rt.alloc())?);
     Ok(())
 }

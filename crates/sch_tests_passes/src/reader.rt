@@ -8,7 +8,7 @@ use std::alloc::Global;
 use std::test::Fail;
 
 // Each of some data, printed with a line feed after it.
-fn print_each(alloc: Global, data: &[Datum]) -> Result<List<u8>, Mem> {
+fn print_each(alloc: Global, data: &[Datum]) -> Result<List<u8>, ReadError> {
     let mut out = List::new(alloc);
     for d in data {
         out.append(print(alloc, d)?)?;
@@ -23,7 +23,7 @@ fn rewritten(alloc: Global, text: &[u8]) -> Result<List<u8>, ReadError> {
         return Ok(List::new(alloc));
     }
     let data = read_all(alloc, text)?;
-    Ok(print_each(alloc, data.as_slice())?)
+    print_each(alloc, data.as_slice())
 }
 
 fn truth() -> Datum {

@@ -140,14 +140,6 @@ impl Restores<List<u32>> for Listed {
     }
 }
 
-fn numbers(alloc: Global, xs: &[u32]) -> Result<List<u32>, Mem> {
-    let mut made = List::new(alloc);
-    for x in xs {
-        made.push(*x)?;
-    }
-    Ok(made)
-}
-
 fn variable(x: u32) -> Operand<u32> {
     Operand::Atom(Atom::Variable(x))
 }
@@ -163,6 +155,7 @@ fn call(alloc: Global, parts: (u32, u32, u32), restored: &[u32]) -> Result<Exp<L
     ensures { IfOk result (λ e. FewOperands e) }
 {
     let (site, operator, operand) = parts;
+    let restored = List::from_slice(alloc, restored)?;
     let mut operands = List::new(alloc);
     operands.push(variable(operand))?;
     let a = Application {
@@ -171,7 +164,7 @@ fn call(alloc: Global, parts: (u32, u32, u32), restored: &[u32]) -> Result<Exp<L
         operator: variable(operator),
         operands,
     };
-    Ok(Exp::Call(a, numbers(alloc, restored)?))
+    Ok(Exp::Call(a, restored))
 }
 
 // Such a call before the rest.
@@ -195,9 +188,9 @@ fn with_letter(alloc: Global, rest: Exp<List<u32>>) -> Result<Exp<List<u32>>, Me
     requires { FewOperands rest }
     ensures { IfOk result (λ e. FewOperands e) }
 {
+    let rest = Box::new(alloc, rest)?;
     let letter = value(Operand::Atom(Atom::Constant(Const::Character(97))));
     let letter = Box::new(alloc, letter)?;
-    let rest = Box::new(alloc, rest)?;
     Ok(Exp::Bind(3, letter, rest))
 }
 
@@ -221,8 +214,8 @@ fn calls_itself(alloc: Global) -> Result<Exp<List<u32>>, Mem>
 fn in_region(alloc: Global) -> Result<Exp<List<u32>>, Mem>
     ensures { IfOk result (λ e. FewOperands e) }
 {
-    let saves = numbers(alloc, &[0, 3, 1, 2])?;
     let e = Box::new(alloc, calls_itself(alloc)?)?;
+    let saves = List::from_slice(alloc, &[0, 3, 1, 2])?;
     Ok(Exp::Save(saves, e))
 }
 
@@ -242,8 +235,10 @@ fn held(o: &Operand<Place>) -> u32 {
     }
 }
 
-// An instruction as a letter with numbers.
-fn seen(i: &Instruction) -> (u8, u32, u32) {
+/// An instruction as a letter with numbers.
+type Seen = (u8, u32, u32);
+
+fn seen(i: &Instruction) -> Seen {
     match i {
         Instruction::Do(Operation::Operand(o)) => (b'd', held(o), 0),
         Instruction::Store(p) => (b's', number(*p), 0),
@@ -271,7 +266,7 @@ const R14: u32 = registers::R14 as u32;
 const SLOT: u32 = 100;
 
 // The closure is stored in its slot, and RBX has the argument already; then what stands at the head of the region is saved.
-const EXPECTED: &[(u8, u32, u32)] = &[
+const EXPECTED: &[Seen] = &[
     (b'P', 1, 0),
     (b'c', SLOT + 21, R14),
     (b'S', 0, 0),
@@ -311,15 +306,22 @@ const EXPECTED: &[(u8, u32, u32)] = &[
     (b'r', 0, 0),
 ];
 
-fn seen_all(alloc: Global, instructions: &[Instruction]) -> Result<List<(u8, u32, u32)>, Mem> {
-    let mut all = List::new(alloc);
+// Whether these are the instructions, one after the other.
+fn are_seen(instructions: &[Instruction], wanted: &[Seen]) -> bool {
+    let mut rest = wanted;
     for i in instructions {
-        all.push(seen(i))?;
+        let [first, others @ ..] = rest else {
+            return false;
+        };
+        if seen(i) != *first {
+            return false;
+        }
+        rest = others;
     }
-    Ok(all)
+    rest.is_empty()
 }
 
-// Whether this is written for a body of one formal that tests nothing.
+// Whether what is expected is written for a body of one formal that tests nothing.
 fn is_written(alloc: Global, body: &Exp<List<u32>>) -> Result<bool, Mem>
     requires few { FewOperands body.now }
     requires labels { labels (expression_with (λ call. call) body.now) ≡ 0 }
@@ -334,14 +336,29 @@ fn is_written(alloc: Global, body: &Exp<List<u32>>) -> Result<bool, Mem>
         fields: 0,
     };
     let out = write_body(alloc, &allocation, Some(entry), body)?;
-    let all = seen_all(alloc, out.instructions.as_slice())?;
-    Ok(all.as_slice() == EXPECTED)
+    Ok(are_seen(out.instructions.as_slice(), EXPECTED))
+}
+
+// Whether a body tests nothing, and what is expected is written for it.
+fn is_straight_and_written(alloc: Global, body: &Exp<List<u32>>) -> Result<bool, Mem>
+    requires { FewOperands body.now }
+{
+    if !is_straight(body) {
+        return Ok(false);
+    }
+    is_written(alloc, body)
+}
+
+// The same of the body with the region.
+fn is_region_written(alloc: Global) -> Result<bool, Mem> {
+    let body = in_region(alloc)?;
+    let written = is_straight_and_written(alloc, &body);
+    drop(body);
+    written
 }
 
 #[test]
 fn saves_and_restores(rt: HostRuntime) -> Result<(), Fail> {
-    let body = in_region(rt.alloc())?;
-    assert!(rt; is_straight(&body));
-    assert!(rt; is_written(rt.alloc(), &body)?);
+    assert!(rt; is_region_written(rt.alloc())?);
     Ok(())
 }

@@ -1,12 +1,10 @@
 //! Texts, and what the expander and the passes behind it make of them.
 
-ghost use Rattle.std.specs.Prelude.{◌≤◌, ◌<◌, ◌*◌, ◌^◌, length, IfOk, IsTrue};
+ghost use Rattle.std.specs.Prelude.{◌≤◌, ◌*◌, length, IfOk, IsTrue};
 ghost use Rattle.sch_lang.specs.Measures.{nodes_and_bound};
 ghost use Rattle.sch_lang.specs.ProgramView.{source};
 ghost use Rattle.sch_control.specs.Covered.{is_covered_program};
 ghost use Rattle.sch_control.specs.ProgramView as control;
-ghost use Rattle.sch_control.specs.Sizes.{tests_of};
-ghost use Rattle.sch_control.specs.SourceView.{codes_of};
 ghost use Rattle.sch_frames.specs.Covered as frames;
 ghost use Rattle.sch_frames.specs.ProgramView as view;
 
@@ -18,7 +16,6 @@ use sch_lang::Program;
 use sch_passes::control_program;
 use sch_read::read_all;
 use sch_registers::frame_program;
-use sch_word::Mem;
 use std::alloc::{AllocError, Global};
 
 /// The longest text that is read.
@@ -52,35 +49,45 @@ pub(crate) fn small_program_of(alloc: Global, text: &[u8]) -> Result<Program, Co
     Ok(program)
 }
 
+// The control program of a program.
+fn control_of_program(alloc: Global, program: &Program) -> Result<ControlProgram, CoreError>
+    requires { nodes_and_bound (source program.now) ≤ 112 * 8192 }
+    ensures { IfOk result (λ q. IsTrue (is_covered_program (control.source q))) }
+{
+    let control = control_program(alloc, program)?;
+    Ok(control)
+}
+
 // The control program of a short text.
 pub(crate) fn control_of(alloc: Global, text: &[u8]) -> Result<ControlProgram, CoreError>
     ensures { IfOk result (λ q. IsTrue (is_covered_program (control.source q))) }
 {
     let program = small_program_of(alloc, text)?;
-    let control = control_program(alloc, &program)?;
-    Ok(control)
+    let control = control_of_program(alloc, &program);
+    drop(program);
+    control
 }
 
-// The frame program of a control program.
-fn frames_of_program(alloc: Global, p: &ControlProgram) -> Result<FrameProgram, Mem>
-    requires covered { IsTrue (is_covered_program (control.source p.now)) }
-    requires few { 2 * tests_of (codes_of p.now.bodies) < 2 ^ 32 }
+// The frame program of a control program that is one form at most, which tests nothing.
+fn frames_of_program(alloc: Global, p: &ControlProgram) -> Result<FrameProgram, CoreError>
+    requires { IsTrue (is_covered_program (control.source p.now)) }
     ensures { IfOk result (λ f. IsTrue (frames.is_covered_program (view.source f))) }
 {
+    if !are_straight(p.bodies.as_slice()) {
+        return Err(CoreError::Memory);
+    }
     let made = frame_program(alloc, p)?;
     Ok(made.frames)
 }
 
-// The frame program of a short text that is one form at most, which tests nothing.
+// The same of a short text.
 pub(crate) fn frames_of(alloc: Global, text: &[u8]) -> Result<FrameProgram, CoreError>
     ensures { IfOk result (λ f. IsTrue (frames.is_covered_program (view.source f))) }
 {
     let control = control_of(alloc, text)?;
-    if !are_straight(control.bodies.as_slice()) {
-        return Err(CoreError::Memory);
-    }
-    let frames = frames_of_program(alloc, &control)?;
-    Ok(frames)
+    let frames = frames_of_program(alloc, &control);
+    drop(control);
+    frames
 }
 
 /// A text, and how often it stands there.

@@ -1,5 +1,6 @@
 //! Bodies of a text, and their trees as texts: each region with what it saves, and each call with what is said of it.
 
+ghost use Rattle.std.specs.Prelude.{◌<◌, ◌^◌};
 ghost use Rattle.sch_control.specs.flow.Middle.{listed};
 ghost use Rattle.sch_paths.specs.EachLiveSaved.{EachLiveSaved};
 
@@ -118,41 +119,36 @@ fn write_line<C: Said + Drop>(name: &[u8], e: &Exp<C>, out: &mut Bytes) -> Resul
     out.push(b'\n')
 }
 
-// The body with what its calls restore and the places of its variables.
-fn placed<const N: usize>(alloc: Global, saved: &SavedBody<N>) -> Result<PlacedBody<N>, Mem>
-    requires { EachLiveSaved (listed saved.now.exp) }
-{
-    let restored = place_restores(alloc, saved)?;
-    assign_places(alloc, &restored)
-}
-
-// Two lines, what is live after the calls of a body and where it saves; and the body with its places.
-fn write_saves<const N: usize>(
-    alloc: Global,
-    live: &LiveBody<N>,
-    out: &mut Bytes,
-) -> Result<PlacedBody<N>, Mem> {
-    write_line(b"live", &live.exp, out)?;
-    let saved = place_saves(alloc, live)?;
-    write_line(b"saves", &saved.exp, out)?;
-    placed(alloc, &saved)
-}
-
-// The same of a body that is not wanted afterwards.
-fn write_live<const N: usize>(
-    alloc: Global,
-    live: LiveBody<N>,
-    out: &mut Bytes,
-) -> Result<PlacedBody<N>, Mem> {
-    write_saves(alloc, &live, out)
-}
-
 // Two lines: what the calls of a body restore, and the places of its variables.
-fn write_placed<const N: usize>(placed: &PlacedBody<N>, out: &mut Bytes) -> Result<(), Mem> {
-    write_line(b"restores", &placed.exp, out)?;
+fn write_placed<const N: usize>(placed: &PlacedBody<'_, N>, out: &mut Bytes) -> Result<(), Mem> {
+    write_line(b"restores", &placed.body.exp, out)?;
     out.extend_from_slice(b"places")?;
     write_places(placed.places.as_slice(), out)?;
     out.push(b'\n')
+}
+
+// The same two lines, of a body that saves.
+fn write_restored<const N: usize>(
+    alloc: Global,
+    saved: &SavedBody<N>,
+    out: &mut Bytes,
+) -> Result<(), Mem>
+    requires words { N < 2 ^ 32 }
+    requires saved { EachLiveSaved (listed saved.now.exp) }
+{
+    let restored = place_restores(alloc, saved)?;
+    let placed = assign_places(alloc, &restored)?;
+    write_placed(&placed, out)
+}
+
+// Four lines: what is live after the calls of a body, where it saves, what its calls restore, and the places of its variables.
+fn write_live<const N: usize>(alloc: Global, live: &LiveBody<N>, out: &mut Bytes) -> Result<(), Mem>
+    requires words { N < 2 ^ 32 }
+{
+    write_line(b"live", &live.exp, out)?;
+    let saved = place_saves(alloc, live)?;
+    write_line(b"saves", &saved.exp, out)?;
+    write_restored(alloc, &saved, out)
 }
 
 // A body with what is live after its calls, in sets that have room for its variables.
@@ -163,13 +159,12 @@ fn live_body<const N: usize>(alloc: Global, b: &Body) -> Result<LiveBody<N>, Mem
     live::<N>(alloc, b)
 }
 
-// Four lines, in sets of so many words: what is live after the calls of a body, where it saves, what its calls restore, and
-// the places of its variables.
+// The four lines of `write_live`, in sets of so many words.
 fn write_by(alloc: Global, words: u32, b: &Body, out: &mut Bytes) -> Result<(), Mem> {
     match words {
-        1 => write_placed(&write_live(alloc, live_body::<1>(alloc, b)?, out)?, out),
-        4 => write_placed(&write_live(alloc, live_body::<4>(alloc, b)?, out)?, out),
-        _ => write_placed(&write_live(alloc, live_body::<16>(alloc, b)?, out)?, out),
+        1 => write_live(alloc, &live_body::<1>(alloc, b)?, out),
+        4 => write_live(alloc, &live_body::<4>(alloc, b)?, out),
+        _ => write_live(alloc, &live_body::<16>(alloc, b)?, out),
     }
 }
 

@@ -3,7 +3,7 @@
 use Rattle.std.proofs.Common.{◌≡◌, ℕ, ◌+◌, ◌≤◌, List, [], ◌∷◌, ◌++◌, length, Bool, true, false, Option, Some, None}
 use Rattle.std.proofs.Common.{refl, sym, ap, ◌∙◌, subst, arith, ◌&&◌}
 use Rattle.std.specs.Prelude.{ℤ, slice_set}
-use Rattle.std.proofs.lemmas.Bool.{and_parts}
+use Rattle.std.proofs.lemmas.Bool.{and_parts, false≢true}
 use Rattle.sch_word.specs.declared.place.Place.{Place}
 use Rattle.sch_word.specs.declared.primitive.Primitive.{Primitive}
 use Rattle.sch_word.specs.declared.primitive.Primitive.TheVariants as prim
@@ -78,7 +78,7 @@ read_boolean prim.IsChar t (Some vs) v e r = of_unary (λ a. gives (boolean (is_
 read_boolean prim.IsString t (Some vs) v e r = of_unary (object_test is_string) (λ a t. (is_string (object_at a t), refl)) vs t v r
 read_boolean prim.IsVector t (Some vs) v e r = of_unary (object_test is_vector) (λ a t. (is_vector (object_at a t), refl)) vs t v r
 read_boolean prim.IsProcedure t (Some vs) v e r = of_unary (λ a. gives (boolean (is_procedure a))) (λ a t. (is_procedure a, refl)) vs t v r
-read_boolean _ t (Some vs) v e r = absurd cc
+read_boolean _ t (Some vs) v e r = absurd (false≢true e)
 
 no_index_vector : (o : Option Object) (b : Bool) (next : List Value → ℤ → Action Value) (t : Store)
     → vector_or_stop o (λ vs. as_fixnum (boolean b) (next vs)) t ≡ stops WrongType t
@@ -101,7 +101,7 @@ no_index prim.VectorSet a c b t e = no_index_vector (object_at a t) b
     (λ vs n. in_range n (length vs) (λ k. write_object a (vector (slice_set vs k c)))) t
 no_index prim.StringSet a c b t e = no_index_string (object_at a t) b
     (λ bs n. as_character c (λ byte. in_range n (length bs) (λ k. write_object a (string (slice_set bs k byte))))) t
-no_index _ a c b t e = absurd cc
+no_index _ a c b t e = absurd (false≢true e)
 
 module _ (plan : Plan) (body_steps : ℕ) (laid : Laid plan body_steps) (act : Activation plan) where
   open plan use {setting, words, literals, globals, symbols, stack}
@@ -181,7 +181,7 @@ module _ (plan : Plan) (body_steps : ℕ) (laid : Laid plan body_steps) (act : A
             (before ++ waiting) [] f w y there g marked' a b d ha hb hd st)
         by prim.StringSet e st = from_there prim.StringSet (string_set_sim plan body_steps laid act k c rest K parts
             (before ++ waiting) [] f w y there g marked' a b d ha hb hd st)
-        by _ e st = absurd cc
+        by _ e st = absurd (false≢true e)
 
     -- the index
     index_here : (which : Primitive) (o : Operand Place) (a d : Value) (z : View) (least steps : ℕ) → takes 3 which ≡ true
@@ -215,10 +215,10 @@ module _ (plan : Plan) (body_steps : ℕ) (laid : Laid plan body_steps) (act : A
           where
             of_atoms : (atoms : List (Atom Place)) → read_selected words globals (length symbols) literals r atoms ≡ true
                 → only_reads r ≡ true
-            of_atoms [] e = absurd (let bad : false ≡ true = e in cc)
+            of_atoms [] e = absurd (false≢true e)
             of_atoms (a ∷ []) e = (and_parts (only_reads r) (takes 1 r) (and_parts (only_reads r && takes 1 r) _ e).0).0
             of_atoms (a ∷ (b ∷ [])) e = (and_parts (only_reads r) (takes 2 r) (and_parts (only_reads r && takes 2 r) _ e).0).0
-            of_atoms (a ∷ (b ∷ (c ∷ atoms))) e = absurd (let bad : false ≡ true = e in cc)
+            of_atoms (a ∷ (b ∷ (c ∷ atoms))) e = absurd (false≢true e)
 
         y : View
         y = moved_to x z.registers z.flags z.place

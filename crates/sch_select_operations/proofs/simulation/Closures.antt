@@ -1,7 +1,9 @@
 -- The machine makes closures: one, and a group that know one another.
-use Rattle.std.proofs.Common.{◌≡◌, ℕ, zero, suc, ◌+◌, ◌*◌, ◌≤◌, List, [], ◌∷◌, ◌++◌, length, map, Bool}
+use Rattle.std.proofs.Common.{◌≡◌, ℕ, zero, suc, ◌+◌, ◌-◌, ◌*◌, ◌^◌, ◌<◌, ◌≤◌, List, [], ◌∷◌, ◌++◌, length, map, Bool}
 use Rattle.std.proofs.Common.{true, false, cond, Option, Some, None, refl, sym, ap, ◌∙◌, subst, arith, append-nil, append_assoc}
-use Rattle.std.proofs.Common.{inr}
+use Rattle.std.proofs.Common.{inr, add-one}
+use Rattle.std.proofs.Math.Nat.{le_refl}
+use Rattle.std.proofs.lemmas.Option.{none-some}
 use Rattle.std.specs.Prelude.{pos, nat_le, slice_get, ◌&&◌}
 use Rattle.std.specs.List.{list_all}
 use Rattle.std.proofs.lemmas.Bool.{and_parts, leb-true, le-leb}
@@ -41,6 +43,7 @@ use Rattle.sch_asm.specs.Data.{word_in}
 use Rattle.sch_asm.specs.Effects.{is_scratch}
 use Rattle.sch_asm.specs.Views.{View, Leads, full}
 use Rattle.sch_asm.proofs.EachItem.{goes}
+use Rattle.sch_select_memory.specs.Addresses.{max_heap_end}
 use Rattle.sch_select_memory.specs.Parts.{a_procedure, Part, Parts, end_of, Spot, spot, grown}
 use Rattle.sch_select_memory.specs.Encoded.{IsWord}
 use Rattle.sch_select_memory.specs.Heap.{RecordAt, AreNew}
@@ -64,6 +67,98 @@ use Rattle.sch_select_operations.proofs.simulation.Operations.{Std, FrameOf, Sto
 use Rattle.sch_select_operations.proofs.simulation.Cells.{one_scratch}
 use Rattle.sch_select_operations.proofs.simulation.SelectedPrograms.{source_selected, closure_selected, members_selected}
 use Rattle.sch_select_operations.specs.Reach.{max_record_bytes}
+
+-- ---- sums, each by itself: in the proofs below every fact in sight would be read for each of them
+
+-- a sum with nothing
+plus_none : (n : ℕ) → n ≡ n + 0
+plus_none n = omega arith
+
+no_further : (n : ℕ) → n ≤ n + 0
+no_further n = omega arith
+
+none_between : (n m : ℕ) → n + 0 + m ≤ n + m
+none_between n m = omega arith
+
+from_none : (n m high : ℕ) → n + m ≤ high → n + 0 + m ≤ high
+from_none n m high le = omega arith
+
+joined : (a b c : ℕ) → a + b + c ≡ a + (b + c)
+joined a b c = omega arith
+
+joined_within : (a b c high : ℕ) → a + b + c ≤ high → a + (b + c) ≤ high
+joined_within a b c high le = omega arith
+
+up_to : (a b c : ℕ) → a ≤ b → b ≤ c → a ≤ c
+up_to a b c le le' = omega arith
+
+equal_le : (a b : ℕ) → a ≡ b → a ≤ b
+equal_le a b e = omega arith
+
+more_entries : (a n : ℕ) → n ≤ a + n
+more_entries a n = omega arith
+
+stop_cost : (n c : ℕ) → 7 ≤ 250 + n + c
+stop_cost n c = omega arith
+
+-- where the parts are
+behind_data : (plan : Plan) (charged : ℕ) → data_address ≤ plan.heap + charged
+behind_data plan charged = let a = plan.closures_low in let b = plan.heap_low in omega (arith, a, b)
+
+stack_behind_data : (plan : Plan) (a : ℕ) → plan.stack ≤ a → data_address ≤ a
+stack_behind_data plan a le = let h = heap_above plan in let s = plan.stack_low in omega (arith, h, s, le)
+
+part_within : (heap charged sum total limit stack : ℕ) → charged + sum ≤ limit → heap + limit ≡ stack → sum ≡ total → heap + charged + total ≤ stack
+part_within heap charged sum total limit stack le e f = omega arith
+
+charged_within : (heap charged limit stack : ℕ) → heap + limit ≡ stack → heap + charged ≤ stack → charged ≤ limit
+charged_within heap charged limit stack e le = omega arith
+
+behind_first : (n o a b stack : ℕ) → n + o + (a + b) ≤ stack → n + (o + a) + b ≤ stack
+behind_first n o a b stack le = omega arith
+
+closure_low : (q : Closure Place) → length q.fields ≤ 1000 → closure_bytes q ≤ data_address
+closure_low q few = omega (arith, few)
+
+group_low : (bytes count : ℕ) → bytes ≤ max_record_bytes * count → count ≤ max_operands → bytes ≤ data_address
+group_low bytes count le few = omega arith
+
+record_within : (next total values fields units : ℕ) → values ≤ fields → 8 + 8 * fields ≤ 16 * units → total ≡ 16 * units
+    → next + 0 + 8 + 8 * values ≤ next + total
+record_within next total values fields units le fit e = omega arith
+
+one_unit : (total more : ℕ) → total ≡ 16 * suc more → 16 * (suc more + 0) ≡ total
+one_unit total more e = omega arith
+
+-- the word of a closure, by the register that has where the parts of its group begin, and where the next part begins
+named_at : (register next o unit bytes stack : ℕ) → register ≡ next → 16 * unit ≡ next + o → next + o + bytes ≤ stack → stack ≤ max_heap_end
+    → (sum_of register (o + 4)).value ≡ 16 * unit + 4
+named_at register next o unit bytes stack same at le near = omega arith
+
+named_fits : (a b : ℕ) → (sum_of a b).value < 2 ^ 64
+named_fits a b = omega arith
+
+next_free : (register heap charged total stack : ℕ) → register ≡ heap + charged → heap + charged + total ≤ stack → stack ≤ max_heap_end
+    → (sum_of register total).value ≡ heap + (charged + total)
+next_free register heap charged total stack same le near = omega arith
+
+-- steps, and what is paid for them
+closure_cost : (steps values fields c work heap charged total stack : ℕ) → steps ≤ 2 + 3 * values → values ≤ fields
+    → 4 + steps + 1 + 1 + 1 + c + (work + 8 * (stack - (heap + (charged + total)))) ≤ 250 + 3 * fields + c + (work + 8 * (stack - (heap + charged)))
+closure_cost steps values fields c work heap charged total stack few le = omega arith
+
+three_more : (n : ℕ) → 1 + 1 + 1 + 3 * n ≡ 3 * suc n
+three_more n = omega arith
+
+group_cost : (members steps most c work heap charged total stack : ℕ) → steps ≤ most
+    → 4 + members + steps + 1 + c + (work + 8 * (stack - (heap + (charged + total)))) ≤ 250 + (members + most) + c + (work + 8 * (stack - (heap + charged)))
+group_cost members steps most c work heap charged total stack few = omega arith
+
+not_none : (n : ℕ) → suc n ≡ 0 → ⊥
+not_none n e = cc
+
+same_item : {X : Type 0} (x y : X) → Some x ≡ Some y → x ≡ y
+same_item x y e = cc
 
 -- ---- charges
 
@@ -195,6 +290,21 @@ made_count at s (m ∷ members) made e =
     let h = made_count at s members b.1 b.3 in
     ap length b.4 ∙ ap suc h
 
+-- the mark before what is stored in a place
+abbrev mark_before : Place → List ℕ → List MarkKind
+mark_before (Slot j) (s ∷ spills) = Spill s ∷ []
+mark_before q spills = []
+
+marks_split : (q : Place) (spills : List ℕ) → map Spill spills ≡ mark_before q spills ++ map Spill (spills_behind q spills)
+marks_split (Slot j) (s ∷ spills) = refl
+marks_split (Slot j) [] = refl
+marks_split (Register r) spills = refl
+
+spills_left : (q : Place) (spills : List ℕ) (n : ℕ) → length spills ≡ cond (is_slot q) (suc n) n → length (spills_behind q spills) ≡ n
+spills_left (Slot j) (s ∷ spills) n e = omega (arith, e)
+spills_left (Slot j) [] n e = absurd (cc)
+spills_left (Register r) spills n e = e
+
 module _ (plan : Plan) (body_steps : ℕ) (laid : Laid plan body_steps) (act : Activation plan) where
   open plan use {setting, size, words, literals, globals, symbols, closures, heap, stack, near}
 
@@ -258,14 +368,14 @@ module _ (plan : Plan) (body_steps : ℕ) (laid : Laid plan body_steps) (act : A
         tested : Tested plan (nat_le (t.charged + total) t.constants.heap) x waiting code
         tested = subst (λ b. Tested plan b x waiting code)
             (room_tested plan parts w.state x.bytes x.output x.answers total g)
-            (room_here plan next total x waiting code p.free (let hl = plan.heap_low in let cl = plan.closures_low in omega (arith, hl, cl)) g.within
-            (let a = few in omega (arith, a)) h)
+            (room_here plan next total x waiting code p.free (behind_data plan t.charged) g.within
+            (closure_low q few) h)
 
         by_room : (vs : List Value) → source_values (held f) w.state q.fields ≡ Some vs → (b : Bool)
             → nat_le (t.charged + total) t.constants.heap ≡ b → Tested plan b x waiting
             code → Owed parts before w x (250 + 3 * length q.fields + c) (on_outcome w.marks (made b vs) After)
         by_room vs v false i s = stops_here plan body_steps laid before waiting x 4 (250 + 3 * length q.fields + c)
-            HeapLimit w s g.printed marked (omega arith)
+            HeapLimit w s g.printed marked (stop_cost (3 * length q.fields) c)
         by_room vs v true i s =
             let label = length w.state.procedures in
             let one : Procedure = record { label = q.label; fields = vs } in
@@ -273,18 +383,18 @@ module _ (plan : Plan) (body_steps : ℕ) (laid : Laid plan body_steps) (act : A
             let parts' = grown parts others in
             let at : Spot = record { unit = end_of parts; more = more_of q } in
             let there : spot parts' (a_procedure label) ≡ Some at = spot_newest parts (a_procedure label) (more_of q)
-            [] (g.new.procedure label (omega arith)) in
+            [] (g.new.procedure label (le_refl label)) in
             let enough = leb-true (t.charged + total) t.constants.heap i in
             let lim = g.limit in let ends = g.ends in let m = near in let sz = size_is in
-            let fits_in : next + total ≤ stack = omega (arith, enough, lim) in
+            let fits_in : next + total ≤ stack = part_within heap t.charged total total t.constants.heap stack enough lim refl in
             let z = moved_to x s.registers s.flags s.place in
             let pz = places_kept plan act parts t.charged f.places f.outgoing x.registers s.registers x.bytes
             (one_scratch 2 x.registers s.registers refl s.kept) p in
             let pz' = places_grown plan act parts parts' (words_stay parts others) t.charged t.charged f.places
             f.outgoing s.registers s.registers x.bytes (λ j e. refl) pz.free pz in
             let r = recorded plan act parts parts' (spot_stays parts others)
-            (omega arith) f w.state next refl 0 label q vs at z
-            last e v there (omega (arith, ends)) refl (omega (arith, fits_in)) pz' g s.ahead in
+            (le_refl parts.symbols) f w.state next refl 0 label q vs at z
+            last e v there (ends ∙ plus_none next) refl (from_none next total stack fits_in) pz' g s.ahead in
             let a = r.ahead in
             let z1 : View = record z { registers = r.registers; bytes = r.bytes; place = r.place } in
             let u1 : View = record z1 {
@@ -309,7 +419,8 @@ module _ (plan : Plan) (body_steps : ℕ) (laid : Laid plan body_steps) (act : A
             let fields : length one.fields ≤ length q.fields = fields_count vs v in
             let fit = fields_fit q in
             let wrote : Wrote next (next + total) x.bytes r.bytes = wrote_within next (next + total) (next + 0)
-            (next + 0 + 8 + 8 * length vs) x.bytes r.bytes (omega arith) (omega (arith, fields, fit, sz)) r.wrote in
+            (next + 0 + 8 + 8 * length vs) x.bytes r.bytes (no_further next)
+            (record_within next total (length vs) (length q.fields) (suc (more_of q)) fields fit sz) r.wrote in
             let w' : World = record {
               state = record {
                 cells = w.state.cells;
@@ -320,13 +431,13 @@ module _ (plan : Plan) (body_steps : ℕ) (laid : Laid plan body_steps) (act : A
               marks = w.marks;
             } in
             let g1 = store_wrote plan parts w.state x.bytes r.bytes x.output x.answers next (next + total)
-            (omega arith) fits_in wrote g in
+            (le_refl next) fits_in wrote g in
             let new = procedure_taken parts (length w.state.cells) label (more_of q) g.new in
-            let plus : suc label ≡ label + 1 = omega arith in
-            let none : length w.state.cells ≡ length w.state.cells + 0 = omega arith in
-            let g2 = store_grown plan parts others w.state r.bytes x.output x.answers total (omega (arith, sz))
-            (omega (arith, fits_in)) (one_procedure label (more_of q)) g1 [] (one ∷ [])
-            (λ j o e. absurd (let bad : None ≡ Some o = e in cc))
+            let plus : suc label ≡ label + 1 = sym (add-one label) in
+            let none : length w.state.cells ≡ length w.state.cells + 0 = plus_none (length w.state.cells) in
+            let g2 = store_grown plan parts others w.state r.bytes x.output x.answers total (one_unit total (more_of q) sz)
+            (joined_within heap t.charged total stack fits_in) (one_procedure label (more_of q)) g1 [] (one ∷ [])
+            (λ j o e. absurd (none-some o e))
             (only parts' r.bytes label one r.is) (subst (λ m. AreNew parts' (length w.state.cells + 0) m) plus
             (subst (λ m. AreNew parts' m (suc label)) none new)) in
             let g' : At parts' w' u3 = subst (λ cs. StoreAt plan parts'
@@ -336,7 +447,7 @@ module _ (plan : Plan) (body_steps : ℕ) (laid : Laid plan body_steps) (act : A
               procedures =
                   w.state.procedures ++ one ∷ [];
             }) r.bytes x.output x.answers) (append-nil w.state.cells) g2 in
-            let free : s2.value ≡ heap + (t.charged + total) = omega (arith, same, fits_in, m) in
+            let free : s2.value ≡ heap + (t.charged + total) = next_free (r.registers 12) heap t.charged total stack same fits_in m in
             let kept = kept_then is_scratch x.registers s.registers u2.registers
             (one_scratch 2 x.registers s.registers refl s.kept)
             (kept_then is_scratch s.registers r.registers u2.registers
@@ -353,38 +464,36 @@ module _ (plan : Plan) (body_steps : ℕ) (laid : Laid plan body_steps) (act : A
             let named : IsWord parts' (procedure label) (u3.registers 0) = record {
               at = at;
               there = there;
-              is = omega (arith, same, ends, fits_in, m, sz);
-              fits = omega
-                  (arith, same, fits_in, m, sz);
+              is = named_at (r.registers 12) next 0 (end_of parts) total stack same (ends ∙ plus_none next)
+                  (from_none next total stack fits_in) m;
+              fits = named_fits (r.registers 12) 4;
             } in
-            let hl = heap_above plan in let sl = plan.stack_low in let rf = r.few in
             after plan body_steps act parts parts' (words_stay parts others) before waiting t w'.state.store x u3
             (4 + r.least + 1 + 1 + 1) (4 + r.steps + 1 + 1 + 1) c (250 + 3 * length q.fields + c) _
             (leads_on setting.marks (leads_on setting.marks (leads_on setting.marks
             (leads_on setting.marks s.leads r.leads) (goes setting z1 u1 (MovTo (Reg 0) 12) a.0 [] a.1 refl))
             (goes setting u1 u2 (AddNumber (Reg 0) (pos 4)) a.2.0 [] a.2.1 refl))
             (goes setting u2 u3 (AddNumber (Reg 12) (pos total)) a.2.2.0 [] a.2.2.1 refl))
-            (λ b lo hi. other_word next (next + total) x.bytes r.bytes wrote b (omega (arith, lo, sl, hl))
-            (inr (omega (arith, lo, fits_in))))
-            (omega arith) (omega arith) (omega (arith, rf, fields))
+            (λ b lo hi. other_word next (next + total) x.bytes r.bytes wrote b (stack_behind_data plan b lo)
+            (inr (up_to (next + total) stack b fits_in lo)))
+            (more_entries (4 + r.least + 1 + 1 + 1) t.entries) (le_refl t.entries)
+            (closure_cost r.steps (length vs) (length q.fields) c (body_steps * t.entries + 10 * length t.answers) heap t.charged total stack
+            r.few fields)
             (K parts' (before ++ waiting) [] (record f { accumulator = Is (procedure label) }) w' u3 a.2.2.2 p' g'
             named (none_waits w.marks before waiting marked))
           where
             fields_count : (vs : List Value) → source_values (held f) w.state q.fields ≡ Some vs
                 → length vs ≤ length q.fields
-            fields_count vs v = let n = values_count plan act parts parts (λ o at e. e)
-                (omega arith) f w.state next refl q.fields
-                vs v in omega (arith, n)
+            fields_count vs v = equal_le (length vs) (length q.fields)
+                (values_count plan act parts parts (λ o at e. e) (le_refl parts.symbols) f w.state next refl q.fields vs v)
 
             only : (ps : Parts) (bytes : List ℕ) (label : ℕ) (one : Procedure)
                 → RecordAt (code_of plan) ps bytes label one → (j : ℕ) (o : Procedure)
                 → slice_get (one ∷ []) j ≡ Some o → RecordAt (code_of plan) ps bytes (label + j) o
             only ps bytes label one r zero o e =
-                let is : one ≡ o = cc in
-                let z : label ≡ label + 0 = omega arith in
-                subst (λ n. RecordAt (code_of plan) ps bytes n o) z
-                (subst (RecordAt (code_of plan) ps bytes label) is r)
-            only ps bytes label one r (suc j) o e = absurd (let bad : None ≡ Some o = e in cc)
+                subst (λ n. RecordAt (code_of plan) ps bytes n o) (plus_none label)
+                (subst (RecordAt (code_of plan) ps bytes label) (same_item one o e) r)
+            only ps bytes label one r (suc j) o e = absurd (none-some o e)
 
         by : (o : Option (List Value)) → source_values (held f) w.state q.fields ≡ o
             → Owed parts before w x (250 + 3 * length q.fields + c)
@@ -394,25 +503,10 @@ module _ (plan : Plan) (body_steps : ℕ) (laid : Laid plan body_steps) (act : A
             (on_outcome w.marks (on_value (with_rest w.state.cells w.state.procedures (charge (procedure_bytes n) t))
             (λ _ s. gives (procedure (length s.procedures)) (record s
             { procedures = s.procedures ++ record { label = q.label; fields = vs } ∷ [] }))) After))
-            (sym (values_count plan act parts parts (λ o at e. e) (omega arith) f w.state next refl q.fields vs v))
+            (sym (values_count plan act parts parts (λ o at e. e) (le_refl parts.symbols) f w.state next refl q.fields vs v))
             (by_room vs v (nat_le (t.charged + total) t.constants.heap) refl tested)
 
     -- ---- a group
-
-    -- the mark before what is stored in a place
-    abbrev mark_before : Place → List ℕ → List MarkKind
-    mark_before (Slot j) (s ∷ spills) = Spill s ∷ []
-    mark_before q spills = []
-
-    marks_split : (q : Place) (spills : List ℕ) → map Spill spills ≡ mark_before q spills ++ map Spill (spills_behind q spills)
-    marks_split (Slot j) (s ∷ spills) = refl
-    marks_split (Slot j) [] = refl
-    marks_split (Register r) spills = refl
-
-    spills_left : (q : Place) (spills : List ℕ) (n : ℕ) → length spills ≡ cond (is_slot q) (suc n) n → length (spills_behind q spills) ≡ n
-    spills_left (Slot j) (s ∷ spills) n e = omega (arith, e)
-    spills_left (Slot j) [] n e = absurd (cc)
-    spills_left (Register r) spills n e = e
 
     marked_store : (q : Place) (spills : List ℕ) (a : ℕ) (is : List Item) → Here [] a (spill_code q spills is) → Here (mark_before q spills) a is
     marked_store (Slot j) (s ∷ spills) a is h = h
@@ -443,7 +537,7 @@ module _ (plan : Plan) (body_steps : ℕ) (laid : Laid plan body_steps) (act : A
         → Here [] y.place (places_code o members spills following)
         → Placed parts' (with_members f0 members (procedures_from n (length members))) y (3 * length members)
         (map Spill spills) following
-    placed parts' o n [] (s ∷ spills) f0 y following some e spots le long q h = absurd (cc)
+    placed parts' o n [] (s ∷ spills) f0 y following some e spots le long q h = absurd (not_none (length spills) some)
     placed parts' o n [] [] f0 y following some e spots le long q h = record {
       z = y;
       leads = leads_here setting.marks (full setting y);
@@ -460,7 +554,6 @@ module _ (plan : Plan) (body_steps : ℕ) (laid : Laid plan body_steps) (act : A
         let shaped = and_parts (closure_selected words globals (length symbols) literals m.closure)
         (members_selected words globals (length symbols) literals members)
         checks.1 in
-        let unit = spots.0.2 in let i = near in
         let y1 : View = record y { registers = set_register y.registers 1 (y.registers 12); place = y.place + h.0 } in
         let s1 = sum_of (y.registers 12) (o + 4) in
         let y2 : View = record y1 {
@@ -472,25 +565,24 @@ module _ (plan : Plan) (body_steps : ℕ) (laid : Laid plan body_steps) (act : A
         let kept = kept_then is_scratch y.registers y1.registers y2.registers
         (kept_set is_scratch y.registers 1 (y.registers 12) refl)
         (kept_set is_scratch y1.registers 1 s1.value refl) in
-        let free = q.free in
         let named : IsWord parts' (procedure n) s1.value = record {
           at = spots.0.0;
           there = spots.0.1;
-          is = omega (arith, unit, free, le, i);
-          fits = omega
-              (arith, free, le, i);
+          is = named_at (y.registers 12) next_part o spots.0.0.unit (group_bytes (m ∷ members)) stack q.free spots.0.2 le near;
+          fits = named_fits (y.registers 12) (o + 4);
         } in
         let u = written plan act parts' w.state.store.charged f0.places f0.outgoing m.at (Is (procedure n)) 1 y2
         (mark_before m.at spills) (places_code (o + closure_bytes m.closure) members (spills_behind m.at spills) following)
         checks.0 named
         (places_kept plan act parts' w.state.store.charged f0.places f0.outgoing y.registers y2.registers y.bytes
         kept q) long (marked_store m.at spills y2.place _ h.2.2) in
-        let shift : next_part + o + closure_bytes m.closure ≡ next_part + (o + closure_bytes m.closure) = omega arith in
+        let shift = joined next_part o (closure_bytes m.closure) in
         let lengths : length u.y.bytes ≡ size = u.size ∙ long in
         let rec = placed parts' (o + closure_bytes m.closure) (suc n) members (spills_behind m.at spills)
-        (with_place f0 m.at (Is (procedure n))) u.y following (spills_left m.at spills (in_slots members) some) shaped.1 (subst (λ a. AreSpots parts' a (suc n) members) shift spots.1) (omega (arith, le))
+        (with_place f0 m.at (Is (procedure n))) u.y following (spills_left m.at spills (in_slots members) some) shaped.1 (subst (λ a. AreSpots parts' a (suc n) members) shift spots.1)
+        (behind_first next_part o (closure_bytes m.closure) (group_bytes members) stack le)
         lengths u.places_at u.ahead in
-        let three : 1 + 1 + 1 + 3 * length members ≡ 3 * length (m ∷ members) = omega arith in
+        let three : 1 + 1 + 1 + 3 * length members ≡ 3 * length (m ∷ members) = three_more (length members) in
         record {
           z = rec.z;
           leads = subst (λ events. Leads setting (3 * length (m ∷ members)) (3 * length (m ∷ members)) events y rec.z)
@@ -541,12 +633,11 @@ module _ (plan : Plan) (body_steps : ℕ) (laid : Laid plan body_steps) (act : A
         result o = on_outcome w.marks (with_rest w.state.cells w.state.procedures o) (λ _ w. then_made w)
 
         small : total ≤ data_address
-        small = let a = group_small words globals (length symbols) literals members e in
-            let b = leb-true (length members) max_operands few in omega
-            (arith, a, b)
+        small = group_low total (length members) (group_small words globals (length symbols) literals members e)
+            (leb-true (length members) max_operands few)
 
         all : Charges (member_bytes members) t
-        all = charges (member_bytes members) t (let l = g.limit in let i = g.within in omega (arith, l, i))
+        all = charges (member_bytes members) t (charged_within heap t.charged t.constants.heap stack g.limit g.within)
 
         sum_is : charged_all (member_bytes members) ≡ total
         sum_is = group_charged members
@@ -562,12 +653,12 @@ module _ (plan : Plan) (body_steps : ℕ) (laid : Laid plan body_steps) (act : A
         tested = subst (λ b. Tested plan b x waiting code)
             (room_tested plan parts w.state x.bytes x.output x.answers total g
             ∙ ap (λ n. nat_le (t.charged + n) t.constants.heap) (sym sum_is))
-            (room_here plan next_part total x waiting code p.free (let hl = plan.heap_low in let cl = plan.closures_low in omega (arith, hl, cl)) g.within small h)
+            (room_here plan next_part total x waiting code p.free (behind_data plan t.charged) g.within small h)
 
         no_room : Halts setting x waiting 4 HeapLimit → Owed parts before w x cost (result (stops HeapLimit all.ends))
         no_room s =
             let q = stops_here plan body_steps laid before waiting x 4 cost HeapLimit w s g.printed marked
-            (omega arith) in
+            (stop_cost (3 * length members + records_cost members) c) in
             let a = ap (λ n. body_steps * n) all.entries in let b = ap length all.answers in let m = all.more in
             record {
               last = q.last;
@@ -605,8 +696,8 @@ module _ (plan : Plan) (body_steps : ℕ) (laid : Laid plan body_steps) (act : A
             s = subst (λ b. Tested plan b x waiting code) i tested
 
             fits_in : next_part + total ≤ stack
-            fits_in = let a = leb-true (t.charged + charged_all (member_bytes members)) t.constants.heap i in let l =
-                g.limit in let m = sum_is in omega (arith, a, l, m)
+            fits_in = part_within heap t.charged (charged_all (member_bytes members)) total t.constants.heap stack
+                (leb-true (t.charged + charged_all (member_bytes members)) t.constants.heap i) g.limit sum_is
 
             by_made : (o : Option (List Procedure)) → members_made (held inner) charged_world.state members ≡ o
                 → Owed parts before w x cost (when_some (with_procedures charged_world.state o)
@@ -616,22 +707,22 @@ module _ (plan : Plan) (body_steps : ℕ) (laid : Laid plan body_steps) (act : A
                 let n = length w.state.procedures in
                 let others = group_parts n members in
                 let parts' = grown parts others in
-                let ends = g.ends in
-                let first : 16 * end_of parts ≡ next_part + 0 = omega (arith, ends) in
+                let first : 16 * end_of parts ≡ next_part + 0 = g.ends ∙ plus_none next_part in
                 let spots = group_spots parts (length w.state.cells) n (next_part + 0) members g.new first in
                 let y = moved_to x s.registers s.flags s.place in
                 let py = places_kept plan act parts t.charged f.places f.outgoing x.registers s.registers x.bytes
                 (one_scratch 2 x.registers s.registers refl s.kept) p in
                 let py' = places_grown plan act parts parts' (words_stay parts others) t.charged t.charged f.places
                 f.outgoing s.registers s.registers x.bytes (λ j e. refl) py.free py in
-                let pl = placed parts' 0 n members spills f y records some e spots (omega (arith, fits_in)) g.size_is py' s.ahead in
+                let low : next_part + 0 + total ≤ stack = from_none next_part total stack fits_in in
+                let pl = placed parts' 0 n members spills f y records some e spots low g.size_is py' s.ahead in
                 let made_is : members_made (held inner) w.state members ≡ Some made = sym
                 (same_members (held inner) w.state (t.charged + charged_all (member_bytes members)) members) ∙ v in
                 let gz = pl.world parts w.state g in
                 let r = records_made plan act parts parts' (spot_stays parts others)
-                (omega arith) inner w.state next_part refl 0 n
+                (le_refl parts.symbols) inner w.state next_part refl 0 n
                 members made pl.z (item.Plain (AddNumber (Reg 12) (pos total)) ∷ rest) e made_is spots
-                (omega (arith, fits_in)) pl.places_at gz pl.ahead in
+                low pl.places_at gz pl.ahead in
                 let a = r.ahead in
                 let z1 : View = record pl.z { registers = r.registers; bytes = r.bytes; place = r.place } in
                 let s2 = sum_of (r.registers 12) total in
@@ -643,16 +734,16 @@ module _ (plan : Plan) (body_steps : ℕ) (laid : Laid plan body_steps) (act : A
                 } in
                 let same : r.registers 12 ≡ next_part = r.kept 12 refl ∙ pl.places_at.free in
                 let wrote : Wrote next_part (next_part + total) pl.z.bytes r.bytes = wrote_within next_part
-                (next_part + total) (next_part + 0) (next_part + 0 + total) pl.z.bytes r.bytes (omega arith)
-                (omega arith) r.wrote in
+                (next_part + total) (next_part + 0) (next_part + 0 + total) pl.z.bytes r.bytes (no_further next_part)
+                (none_between next_part total) r.wrote in
                 let g1 = store_wrote plan parts w.state pl.z.bytes r.bytes pl.z.output pl.z.answers next_part
-                (next_part + total) (omega arith) fits_in wrote gz in
+                (next_part + total) (le_refl next_part) fits_in wrote gz in
                 let count = made_count (held inner) w.state members made made_is in
-                let none : length w.state.cells ≡ length w.state.cells + 0 = omega arith in
+                let none : length w.state.cells ≡ length w.state.cells + 0 = plus_none (length w.state.cells) in
                 let new = group_new parts (length w.state.cells) n members g.new in
                 let g2 = store_grown plan parts others w.state r.bytes pl.z.output pl.z.answers total
-                (group_units n members) (omega (arith, fits_in)) (group_no_objects n members) g1 [] made
-                (λ j o e. absurd (let bad : None ≡ Some o = e in cc)) r.each
+                (group_units n members) (joined_within heap t.charged total stack fits_in) (group_no_objects n members) g1 [] made
+                (λ j o e. absurd (none-some o e)) r.each
                 (subst (λ m. AreNew parts' (length w.state.cells + 0) (n + m)) (sym count)
                 (subst (λ m. AreNew parts' m (n + length members)) none new)) in
                 let w' : World = record {
@@ -680,9 +771,8 @@ module _ (plan : Plan) (body_steps : ℕ) (laid : Laid plan body_steps) (act : A
                   procedures =
                       w.state.procedures ++ made;
                 }) r.bytes pl.z.output pl.z.answers) (append-nil w.state.cells) g2) in
-                let i31 = near in let sm = sum_is in
-                let free : s2.value ≡ heap + (t.charged + charged_all (member_bytes members)) = omega
-                (arith, same, fits_in, i31, sm) in
+                let free : s2.value ≡ heap + (t.charged + charged_all (member_bytes members)) =
+                next_free (r.registers 12) heap t.charged total stack same fits_in near ∙ ap (λ m. heap + (t.charged + m)) (sym sum_is) in
                 let p1 = places_wrote plan act parts' t.charged inner.places inner.outgoing r.registers pl.z.bytes
                 r.bytes next_part (next_part + total) fits_in wrote
                 (places_kept plan act parts' t.charged inner.places inner.outgoing pl.z.registers r.registers
@@ -696,15 +786,16 @@ module _ (plan : Plan) (body_steps : ℕ) (laid : Laid plan body_steps) (act : A
                 (same_accumulator f members (procedures_from n (length members))))
                 (subst (Holds act.back parts' f.accumulator) (sym zero)
                 (holds_words act.back parts parts' (words_stay parts others) f.accumulator (x.registers 0) acc)) in
-                let hl = heap_above plan in let sl = plan.stack_low in let rf = r.few in
                 after plan body_steps act parts parts' (words_stay parts others) before (waiting ++ map Spill spills) t
                 w'.state.store x u (4 + 3 * length members + r.least + 1) (4 + 3 * length members + r.steps + 1) c cost _
                 (leads_on setting.marks (leads_on setting.marks (leads_then setting.marks s.leads pl.leads) r.leads)
                 (goes setting z1 u (AddNumber (Reg 12) (pos total)) a.0 [] a.1 refl))
                 (λ b lo hi. other_word next_part (next_part + total) pl.z.bytes r.bytes wrote b
-                (omega (arith, lo, sl, hl)) (inr (omega (arith, lo, fits_in)))
+                (stack_behind_data plan b lo) (inr (up_to (next_part + total) stack b fits_in lo))
                 ∙ pl.below b lo hi)
-                (omega arith) (omega arith) (omega (arith, rf))
+                (more_entries (4 + 3 * length members + r.least + 1) t.entries) (le_refl t.entries)
+                (group_cost (3 * length members) r.steps (records_cost members) c (body_steps * t.entries + 10 * length t.answers) heap t.charged
+                (charged_all (member_bytes members)) stack r.few)
                 (K parts' (before ++ (waiting ++ map Spill spills)) [] inner w' u a.2 p' g' acc'
                 (none_waits w'.marks before (waiting ++ map Spill spills)
                 (ap (λ l. l ++ map Spill spills) marked ∙ append_assoc before waiting (map Spill spills))))

@@ -1,6 +1,8 @@
 -- The machine does what a primitive does as an operation: its operands are read into RAX and RCX before.
 use Rattle.std.proofs.Common.{◌≡◌, ℕ, ◌+◌, ◌≤◌, List, [], ◌∷◌, ◌++◌, length, Bool, true, false, Option, Some, None}
-use Rattle.std.proofs.Common.{refl, sym, subst, arith}
+use Rattle.std.proofs.Common.{refl, sym, ap, subst, arith}
+use Rattle.std.specs.Prelude.{not}
+use Rattle.std.proofs.lemmas.Bool.{false≢true}
 use Rattle.sch_word.specs.declared.place.Place.{Place}
 use Rattle.sch_word.specs.declared.primitive.Primitive.{Primitive}
 use Rattle.sch_word.specs.declared.primitive.Primitive.TheVariants as prim
@@ -35,12 +37,12 @@ use Rattle.sch_select_operations.proofs.objects.Makes.{make_vector_sim, make_str
 use Rattle.sch_select_operations.proofs.objects.Vectors.{vector_length_here, vector_ref_here}
 use Rattle.sch_select_operations.proofs.objects.Strings.{string_length_here, string_ref_here}
 use Rattle.sch_select_operations.proofs.objects.Symbols.{symbol_length_here, symbol_ref_here}
-use Rattle.sch_select_operations.proofs.simulation.SelectedPrograms.{operand_selected, takes, is_computed}
+use Rattle.sch_select_operations.proofs.simulation.SelectedPrograms.{operand_selected, takes, is_computed, not_both}
 
 -- only a primitive that makes an object looks at the end of the heap
 computed_code : (heap_end n : ℕ) (which : Primitive) → is_computed which ≡ true → (rest : List Item)
     → pair_or_binary heap_end n which rest ≡ binary_code n which rest
-computed_code heap_end n prim.Cons e rest = absurd cc
+computed_code heap_end n prim.Cons e rest = absurd (false≢true e)
 computed_code heap_end n _ e rest = refl
 
 module _ (plan : Plan) (body_steps : ℕ) (laid : Laid plan body_steps) (act : Activation plan) where
@@ -131,40 +133,7 @@ module _ (plan : Plan) (body_steps : ℕ) (laid : Laid plan body_steps) (act : A
                 s.leads kept (string_length_here plan act parts w.state v y [] rest g s.value st)
             of prim.SymbolLength is i st = left_alone prim.SymbolLength (v ∷ []) y s.least s.steps 8 (omega (arith, few))
                 s.leads kept (symbol_length_here plan act parts w.state v y [] rest g s.value st)
-            of prim.Eq is i st = absurd (let bad : true ≡ false = i in cc)
-            of prim.Eqv is i st = absurd (let bad : true ≡ false = i in cc)
-            of prim.IsBoolean is i st = absurd (let bad : true ≡ false = i in cc)
-            of prim.IsPair is i st = absurd (let bad : true ≡ false = i in cc)
-            of prim.IsNull is i st = absurd (let bad : true ≡ false = i in cc)
-            of prim.IsSymbol is i st = absurd (let bad : true ≡ false = i in cc)
-            of prim.IsInteger is i st = absurd (let bad : true ≡ false = i in cc)
-            of prim.IsChar is i st = absurd (let bad : true ≡ false = i in cc)
-            of prim.IsString is i st = absurd (let bad : true ≡ false = i in cc)
-            of prim.IsVector is i st = absurd (let bad : true ≡ false = i in cc)
-            of prim.IsProcedure is i st = absurd (let bad : true ≡ false = i in cc)
-            of prim.Add is i st = absurd (let bad : true ≡ false = i in cc)
-            of prim.Subtract is i st = absurd (let bad : true ≡ false = i in cc)
-            of prim.Multiply is i st = absurd (let bad : true ≡ false = i in cc)
-            of prim.Quotient is i st = absurd (let bad : true ≡ false = i in cc)
-            of prim.Remainder is i st = absurd (let bad : true ≡ false = i in cc)
-            of prim.Modulo is i st = absurd (let bad : true ≡ false = i in cc)
-            of prim.Equal is i st = absurd (let bad : true ≡ false = i in cc)
-            of prim.Less is i st = absurd (let bad : true ≡ false = i in cc)
-            of prim.Greater is i st = absurd (let bad : true ≡ false = i in cc)
-            of prim.LessEqual is i st = absurd (let bad : true ≡ false = i in cc)
-            of prim.GreaterEqual is i st = absurd (let bad : true ≡ false = i in cc)
-            of prim.CharToInteger is i st = absurd (let bad : true ≡ false = i in cc)
-            of prim.IntegerToChar is i st = absurd (let bad : true ≡ false = i in cc)
-            of prim.Cons is i st = absurd (let bad : false ≡ true = is in cc)
-            of prim.SetCar is i st = absurd (let bad : false ≡ true = is in cc)
-            of prim.SetCdr is i st = absurd (let bad : false ≡ true = is in cc)
-            of prim.MakeString is i st = absurd (let bad : false ≡ true = is in cc)
-            of prim.StringRef is i st = absurd (let bad : false ≡ true = is in cc)
-            of prim.StringSet is i st = absurd (let bad : false ≡ true = is in cc)
-            of prim.MakeVector is i st = absurd (let bad : false ≡ true = is in cc)
-            of prim.VectorRef is i st = absurd (let bad : false ≡ true = is in cc)
-            of prim.VectorSet is i st = absurd (let bad : false ≡ true = is in cc)
-            of prim.SymbolRef is i st = absurd (let bad : false ≡ true = is in cc)
+            of other is i st = absurd (not_both (takes 1 other) (not (is_computed other)) refl is (ap not i))
 
             by_kind : (b : Bool) → is_computed which ≡ b → Done (250 + c) which (v ∷ [])
             by_kind true i = left_alone which (v ∷ []) y s.least s.steps 20 (omega (arith, few)) s.leads kept
@@ -254,7 +223,7 @@ module _ (plan : Plan) (body_steps : ℕ) (laid : Laid plan body_steps) (act : A
                 of prim.SymbolRef is i st = left_alone prim.SymbolRef (v ∷ (u ∷ [])) z (s.least + r.least)
                     (s.steps + r.steps) 17 (omega (arith, few)) leads kept
                     (symbol_ref_here plan act parts w.state v u z [] rest g first r.second st)
-                of other is i st = absurd cc
+                of other is i st = absurd (not_both (takes 2 other) (not (is_computed other)) refl is (ap not i))
 
                 by_kind : (b : Bool) → is_computed which ≡ b → Done (250 + c) which (v ∷ (u ∷ []))
                 by_kind true i = left_alone which (v ∷ (u ∷ [])) z (s.least + r.least) (s.steps + r.steps) 30

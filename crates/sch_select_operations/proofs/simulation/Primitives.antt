@@ -63,7 +63,7 @@ use Rattle.sch_select_memory.proofs.Places.{Plan, StoreAt}
 use Rattle.sch_select_memory.proofs.Straight.{is_free, kept_set, kept_then, moved_to, tagged, Comes}
 use Rattle.sch_select_memory.proofs.Straight.{comes_after, yields_after, fixnum_checked, character_checked}
 use Rattle.sch_select_memory.proofs.Straight.{booleans, tests, ends_fixnum, by_7, by_127, by_255}
-use Rattle.sch_select_operations.proofs.simulation.SelectedPrograms.{takes, is_computed}
+use Rattle.sch_select_operations.proofs.simulation.SelectedPrograms.{takes, is_computed, not_both}
 
 -- ---- fixnums' words
 
@@ -604,7 +604,7 @@ module _ (plan : Plan) (parts : Parts) where
       (Plain (CmpNumber (Reg 0) (pos 2040)) ∷ (JumpIf A (stop_label OutOfRange) ∷
       (Plain (Shl (Reg 0) 5) ∷ (Plain (AddNumber (Reg 0) (pos 46)) ∷ rest)))) rest ha h
       (λ k tag flags place hk st. ranged k (tagged setting x 0 tag flags place) s.store rest hk st))
-  unary_here n _ a x waiting s rest p plain g ha h = absurd cc
+  unary_here n which a x waiting s rest p plain g ha h = absurd (not_both (takes 1 which) (is_computed which) refl p plain)
 
   -- ---- two operands
 
@@ -684,4 +684,4 @@ module _ (plan : Plan) (parts : Parts) where
       ha hb h
   binary_here n GreaterEqual a b x waiting s rest p plain g ha hb h = compared (λ k l. int_le l k) a b n GE x waiting s.store rest
       tests_greater_equal ha hb h
-  binary_here n _ a b x waiting s rest p plain g ha hb h = absurd cc
+  binary_here n which a b x waiting s rest p plain g ha hb h = absurd (not_both (takes 2 which) (is_computed which) refl p plain)

@@ -1,7 +1,7 @@
 -- Which frame programs have their items, by tests of each part: their places, constants, literals, globals, fields
 -- and operands are in range, and what is done has its items.
 use Rattle.std.specs.Prelude.{◌≡◌, ℕ, Bool, true, false, ◌&&◌, not, nat_eq, nat_lt, nat_le, List, [], ◌∷◌, length, ◌+◌, ◌||◌, Option, Some, None}
-use Rattle.std.proofs.lemmas.Bool.{and_parts}
+use Rattle.std.proofs.lemmas.Bool.{and_parts, false≢true, true≢false}
 use Rattle.std.specs.List.{list_all}
 use Rattle.sch_word.specs.declared.place.Place.{Place}
 use Rattle.sch_word.specs.declared.primitive.Primitive.{Primitive}
@@ -69,6 +69,12 @@ is_computed _ = false
 -- whether a primitive takes this number of operands
 abbrev pub takes : ℕ → Primitive → Bool
 takes count which = nat_eq (operands_of which) count
+
+-- Two tests that do not hold together: a primitive that a match leaves over is refused by it, with nothing else in sight.
+pub not_both : (a b : Bool) → a && b ≡ false → a ≡ true → b ≡ true → ⊥
+not_both true true n p q = true≢false n
+not_both true false n p q = false≢true q
+not_both false b n p q = false≢true p
 
 -- there are this many words of a frame, globals, symbols and literals
 module _ (words globals symbols literals : ℕ) where

@@ -19,15 +19,15 @@ use Rattle.sch_homes.proofs.frame_body.frame.Goals as goal
 
 pub invariant_of-places : goal.invariant_of-places
 invariant_of-places g c =
-    let b = c.args.b.now in
-    let few = places_few b in
+    let p = c.args.b.now in
+    let few = places_few p in
     let many = ap length c.as_slice.ensures in
-    let low = homes_low b in
+    let low = homes_low p in
     let end = c.in_ok-room.ensures.end in
     record { few = omega (arith, few, many); low = omega (arith, low, end) }
 
 pub write_body-requires-clause-formals : goal.write_body-requires-clause-formals
-write_body-requires-clause-formals g c = let b = c.args.b.now in formals_few (bare_code b) (restored b.exp) b.places (body_placed b)
+write_body-requires-clause-formals g c = let p = c.args.b.now in let b = p.body.now in formals_few (bare_code p) (restored b.exp) p.places (body_placed p)
 
 pub write_body-requires-clause-few : goal.write_body-requires-clause-few
 write_body-requires-clause-few g c = body_few c.args.b.now
@@ -37,10 +37,11 @@ write_body-requires-clause-labels g c = c.requires.labels
 
 pub invariant_of-result : goal.invariant_of-result
 invariant_of-result g c =
-    let b = c.args.b.now in
+    let p = c.args.b.now in
+    let b = p.body.now in
     let room = c.in_ok-room.ensures in
-    let made = whole_frame b.entry (restored b.exp) b.places _ _ _ _ _ _ c.as_slice.ensures room.end room.words room.homes c.in_ok-out.ensures.instructions c.in_ok-out.ensures.labels in
-    let framed = homes_framed (bare_code b) (restored b.exp) b.places (body_placed b) b.ended c.requires.soon in
+    let made = whole_frame b.entry (restored b.exp) p.places _ _ _ _ _ _ c.as_slice.ensures room.end room.words room.homes c.in_ok-out.ensures.instructions c.in_ok-out.ensures.labels in
+    let framed = homes_framed (bare_code p) (restored b.exp) p.places (body_placed p) b.ended c.requires.soon in
     let parts = and_parts _ _ framed.valid in
     let more = and_parts _ _ parts.1 in
     record {
@@ -51,38 +52,45 @@ invariant_of-result g c =
 
 pub returns-clause-made : goal.returns-clause-made
 returns-clause-made g c =
-    let b = c.args.b.now in
+    let p = c.args.b.now in
+    let b = p.body.now in
     let room = c.in_ok-room.ensures in
-    whole_frame b.entry (restored b.exp) b.places _ _ _ _ _ _ c.as_slice.ensures room.end room.words room.homes c.in_ok-out.ensures.instructions c.in_ok-out.ensures.labels
+    whole_frame b.entry (restored b.exp) p.places _ _ _ _ _ _ c.as_slice.ensures room.end room.words room.homes c.in_ok-out.ensures.instructions c.in_ok-out.ensures.labels
 
 pub returns-clause-same : goal.returns-clause-same
 returns-clause-same g c =
-    let b = c.args.b.now in
-    subst (FrameOf (bare_code b)) (sym (returns-clause-made g c)) (homes_framed (bare_code b) (restored b.exp) b.places (body_placed b) b.ended c.requires.soon).does
+    let p = c.args.b.now in
+    let b = p.body.now in
+    subst (FrameOf (bare_code p)) (sym (returns-clause-made g c)) (homes_framed (bare_code p) (restored b.exp) p.places (body_placed p) b.ended c.requires.soon).does
 
 pub returns-clause-begins : goal.returns-clause-begins
 returns-clause-begins g c =
-    let b = c.args.b.now in
-    ap code_begins (returns-clause-made g c) ∙ (homes_framed (bare_code b) (restored b.exp) b.places (body_placed b) b.ended c.requires.soon).begins
+    let p = c.args.b.now in
+    let b = p.body.now in
+    ap code_begins (returns-clause-made g c) ∙ (homes_framed (bare_code p) (restored b.exp) p.places (body_placed p) b.ended c.requires.soon).begins
 
 pub returns-clause-stand : goal.returns-clause-stand
 returns-clause-stand g c =
-    let b = c.args.b.now in
-    ap code_marks_stand (returns-clause-made g c) ∙ (homes_framed (bare_code b) (restored b.exp) b.places (body_placed b) b.ended c.requires.soon).stand
+    let p = c.args.b.now in
+    let b = p.body.now in
+    ap code_marks_stand (returns-clause-made g c) ∙ (homes_framed (bare_code p) (restored b.exp) p.places (body_placed p) b.ended c.requires.soon).stand
 
 pub returns-clause-covered : goal.returns-clause-covered
 returns-clause-covered g c covered =
-    let b = c.args.b.now in
-    ap is_covered_code (returns-clause-made g c) ∙ (homes_framed (bare_code b) (restored b.exp) b.places (body_placed b) b.ended c.requires.soon).covered covered
+    let p = c.args.b.now in
+    let b = p.body.now in
+    ap is_covered_code (returns-clause-made g c) ∙ (homes_framed (bare_code p) (restored b.exp) p.places (body_placed p) b.ended c.requires.soon).covered covered
 
 pub returns-clause-words : goal.returns-clause-words
 returns-clause-words g c dense =
-    let b = c.args.b.now in
+    let p = c.args.b.now in
+    let b = p.body.now in
     subst (λ words. words ≤ max_operands + b.variables) (sym c.in_ok-room.ensures.words)
-    ((homes_framed (bare_code b) (restored b.exp) b.places (body_placed b) b.ended c.requires.soon).dense_words dense)
+    ((homes_framed (bare_code p) (restored b.exp) p.places (body_placed p) b.ended c.requires.soon).dense_words dense)
 
 pub returns-clause-fits : goal.returns-clause-fits
 returns-clause-fits g c few =
-    let b = c.args.b.now in
-    subst (λ f. 64 * code_work f + 8 * copies_of f.instructions ≤ 72 * control_work.code_work (bare_code b)) (sym (returns-clause-made g c))
-    (homes_fit (bare_code b) (restored b.exp) b.places (body_placed b) few)
+    let p = c.args.b.now in
+    let b = p.body.now in
+    subst (λ f. 64 * code_work f + 8 * copies_of f.instructions ≤ 72 * control_work.code_work (bare_code p)) (sym (returns-clause-made g c))
+    (homes_fit (bare_code p) (restored b.exp) p.places (body_placed p) few)

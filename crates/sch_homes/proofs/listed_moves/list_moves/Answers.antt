@@ -14,8 +14,9 @@ list_calls-requires g c = (first_of (search rules, grind (arith, common_steps), 
 
 pub returns : goal.returns
 returns g c =
-    let b = c.args.b.now in
-    let end = homes_end b.entry (restored b.exp) b.places in
+    let p = c.args.b.now in
+    let b = p.body.now in
+    let end = homes_end b.entry (restored b.exp) p.places in
     on_ok_weaker c.list_calls.result
     (λ h. h end ∙ ap (λ places. c.args.calls.now ++ listed_calls (listed_call end (place_in places)) (restored b.exp)) c.as_slice.ensures)
     c.list_calls.ensures

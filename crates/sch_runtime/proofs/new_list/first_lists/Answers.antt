@@ -1,6 +1,5 @@
-use Rattle.std.proofs.Common.{◌≡◌, ℕ, ◌+◌, ◌<◌, [], ◌∷◌, ◌++◌, drop, refl, ap, ◌∙◌, arith}
+use Rattle.std.proofs.Common.{◌≡◌, ◌∷◌, ◌++◌, drop, refl, ap, ◌∙◌, arith}
 use Rattle.sch_word.specs.values.Registers.{argument_registers}
-use Rattle.sch_asm.specs.declared.item.Item.{Item}
 use Rattle.sch_asm.specs.declared.item.Item.TheVariants as item
 use Rattle.sch_select_memory.specs.RestCode.{check_pairs, first_code, firsts_code, list_label}
 use Rattle.sch_runtime.proofs.EachRegister.{one_further}

@@ -1,4 +1,4 @@
-use Rattle.std.proofs.Common.{◌≡◌, ℕ, ◌+◌, ◌<◌, [], ◌∷◌, ◌++◌, drop, refl, ap, ◌∙◌, arith}
+use Rattle.std.proofs.Common.{◌≡◌, ◌++◌, drop, refl, ap, ◌∙◌, arith}
 use Rattle.sch_word.specs.values.Registers.{argument_registers}
 use Rattle.sch_select_memory.specs.RestCode.{later_registers, more_code, registers_code}
 use Rattle.sch_runtime.proofs.EachRegister.{one_further}

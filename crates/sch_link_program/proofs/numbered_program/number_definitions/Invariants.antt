@@ -9,7 +9,7 @@ use Rattle.sch_link_tables.proofs.ProcedureLists.{onto}
 use Rattle.sch_link_program.specs.Definitions.{kept_definitions}
 use Rattle.sch_link_program.specs.Ranged.{BodiesHaveConstants}
 use Rattle.sch_link_program.specs.Size.{size_of_definitions}
-use Rattle.sch_link_program.proofs.program.number_definitions.Given as goal
+use Rattle.sch_link_program.proofs.numbered_program.number_definitions.Given as goal
 
 abbrev pub invariant-loop-d : goal.invariant-loop-d
 invariant-loop-d l = record {

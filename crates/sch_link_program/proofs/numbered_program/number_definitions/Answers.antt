@@ -5,7 +5,7 @@ use Rattle.sch_sketch.specs.DraftView.{draft_of}
 use Rattle.sch_link_drafts.proofs.NumberSteps.{sites_more, literals_more}
 use Rattle.sch_link_program.proofs.DefinitionSteps.{room_here, next_room, next_widths, next_quotes, next_bodies, next_procedures, end_procedures, end_bodies}
 use Rattle.sch_link_program.proofs.FewDefinitions.{formals_at, variables_at}
-use Rattle.sch_link_program.proofs.program.number_definitions.Goals as goal
+use Rattle.sch_link_program.proofs.numbered_program.number_definitions.Goals as goal
 
 pub number_definition-requires : goal.number_definition-requires
 number_definition-requires c = record {
