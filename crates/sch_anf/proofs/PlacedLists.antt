@@ -1,7 +1,7 @@
 -- The turns of the loops that note what is bound at each site.
 use Rattle.std.proofs.Common.{◌≡◌, ℕ, zero, suc, ◌+◌, ◌-◌, ◌<◌, ◌≤◌, List, [], ◌∷◌, ◌++◌, length, map, take, drop, replicate, get_or, set, refl, sym, ap, ◌∙◌, subst, arith, add-one, append_assoc, append-nil}
 use Rattle.std.proofs.lemmas.Bool.{eq-eqb}
-use Rattle.std.proofs.lemmas.List.{drop_all}
+use Rattle.std.proofs.lemmas.List.{drop_all, replicate-append-replicate}
 use Rattle.std.proofs.Math.Seq.{take-length}
 use Rattle.sch_word.specs.trees.Bindings.{Bindings, bound_to, numbers}
 use Rattle.sch_word.specs.runs.Orders.{order_or_none}
@@ -55,6 +55,10 @@ pub set_beyond : {A : Type 0} (xs : List A) (i : ℕ) (v : A) → length xs ≤ 
 set_beyond [] i v l = refl
 set_beyond (x ∷ xs) zero v l = absurd (omega (arith, l))
 set_beyond (x ∷ xs) (suc i) v l = ap (λ r. x ∷ r) (set_beyond xs i v (omega (arith, l)))
+
+-- one more of the same
+pub replicate_turn : {A : Type 0} (x y : A) (xs xs' : List A) (n : ℕ) → y ≡ x → xs' ≡ xs ++ y ∷ [] → xs ≡ replicate n x → xs' ≡ replicate (n + 1) x
+replicate_turn x y xs xs' n e p h = p ∙ ap (λ r. xs ++ r ∷ []) e ∙ ap (λ r. r ++ x ∷ []) h ∙ replicate-append-replicate n 1 x
 
 -- ## From the last to the first
 

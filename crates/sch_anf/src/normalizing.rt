@@ -1,16 +1,14 @@
 //! Expressions in which every operand is simple: what is not is bound before.
 
-ghost use Rattle.std.specs.Prelude.{◌≡◌, ◌+◌, ◌<◌, ◌^◌, suc, cond, length, IfOk, OnOk};
+ghost use Rattle.std.specs.Prelude.{◌+◌, ◌<◌, ◌^◌, suc, cond, length, IfOk, OnOk};
 ghost use Rattle.std.specs.List.Sorted.{IsNonDecreasing};
 ghost use Rattle.sch_flat.specs.View.{tree, trees_of};
 ghost use Rattle.sch_control.specs.View.{expression};
 ghost use Rattle.sch_anf_laws.specs.LabelsFit.{LabelsFit, LabelsFitEach};
-ghost use Rattle.sch_anf_laws.specs.Normal.{binds, binds_parts, init_numbers, inits_bind, normal, normal_parts, operand_at, operand_binds, operands_at, operands_bind, with_inits, with_operands};
+ghost use Rattle.sch_anf_laws.specs.Normal.{binds, binds_parts, inits_bind, operand_binds, operands_bind};
 ghost use Rattle.sch_anf_laws.specs.Normal as specs;
 ghost use Rattle.sch_anf.specs.Kinds.{IsIf, IsLet, IsGroup, IsCall, IsCells};
-ghost use Rattle.sch_anf.specs.ScopeTable.{scope_of};
-ghost use Rattle.sch_anf.specs.Steps.{Adds};
-ghost use Rattle.sch_anf.specs.Round.{bound_before, dropped_before, part_before};
+ghost use Rattle.sch_anf.specs.Walked.{BindsPart, DropsPart, Normalizes, NormalizesInits, NormalizesOperands, NormalizesPart, NormalizesParts};
 
 use crate::after::{Kind, apply_after, branch_of, call_after, fill_after, group_of, set_after};
 use crate::operands::{members_of, simple_operand, source_of};
@@ -36,9 +34,7 @@ pub fn normalize_expression(
     requires sorted { IsNonDecreasing starts.now }
     requires labels { LabelsFit (length starts.now) (tree e.now) }
     requires few { v.old.next + binds (tree e.now) < 2 ^ 32 }
-    ensures made { IfOk result (λ q. expression q.value ≡ normal starts.now tail (tree e.now) (scope_of v.old.bound.items) v.old.next) }
-    ensures next { OnOk result (v.new.next ≡ v.old.next + binds (tree e.now)) }
-    ensures scope { OnOk result (v.new.bound.items ≡ v.old.bound.items) }
+    ensures { IfOk result (λ q. Normalizes starts.now tail (tree e.now) v.old v.new (expression q.value)) }
 {
     match e {
         Exp::Constant(c) => read_atom(alloc, tail, Atom::Constant(*c)),
@@ -85,9 +81,7 @@ fn normalize_if(
     requires sorted { IsNonDecreasing starts.now }
     requires labels { LabelsFit (length starts.now) (tree e.now) }
     requires few { v.old.next + binds (tree e.now) < 2 ^ 32 }
-    ensures made { IfOk result (λ q. expression q.value ≡ normal starts.now tail (tree e.now) (scope_of v.old.bound.items) v.old.next) }
-    ensures next { OnOk result (v.new.next ≡ v.old.next + binds (tree e.now)) }
-    ensures scope { OnOk result (v.new.bound.items ≡ v.old.bound.items) }
+    ensures { IfOk result (λ q. Normalizes starts.now tail (tree e.now) v.old v.new (expression q.value)) }
 {
     let Exp::If(test, yes, no) = e else {
         unreachable!();
@@ -111,9 +105,7 @@ fn normalize_let(
     requires sorted { IsNonDecreasing starts.now }
     requires labels { LabelsFit (length starts.now) (tree e.now) }
     requires few { v.old.next + binds (tree e.now) < 2 ^ 32 }
-    ensures made { IfOk result (λ q. expression q.value ≡ normal starts.now tail (tree e.now) (scope_of v.old.bound.items) v.old.next) }
-    ensures next { OnOk result (v.new.next ≡ v.old.next + binds (tree e.now)) }
-    ensures scope { OnOk result (v.new.bound.items ≡ v.old.bound.items) }
+    ensures { IfOk result (λ q. Normalizes starts.now tail (tree e.now) v.old v.new (expression q.value)) }
 {
     let Exp::Let {
         site: _,
@@ -146,9 +138,7 @@ fn normalize_group(
     requires sorted { IsNonDecreasing starts.now }
     requires labels { LabelsFit (length starts.now) (tree e.now) }
     requires few { v.old.next + binds (tree e.now) < 2 ^ 32 }
-    ensures made { IfOk result (λ q. expression q.value ≡ normal starts.now tail (tree e.now) (scope_of v.old.bound.items) v.old.next) }
-    ensures next { OnOk result (v.new.next ≡ v.old.next + binds (tree e.now)) }
-    ensures scope { OnOk result (v.new.bound.items ≡ v.old.bound.items) }
+    ensures { IfOk result (λ q. Normalizes starts.now tail (tree e.now) v.old v.new (expression q.value)) }
 {
     let Exp::FixClosures {
         first,
@@ -180,9 +170,7 @@ fn normalize_call(
     requires sorted { IsNonDecreasing starts.now }
     requires labels { LabelsFit (length starts.now) (tree e.now) }
     requires few { v.old.next + binds (tree e.now) < 2 ^ 32 }
-    ensures made { IfOk result (λ q. expression q.value ≡ normal starts.now tail (tree e.now) (scope_of v.old.bound.items) v.old.next) }
-    ensures next { OnOk result (v.new.next ≡ v.old.next + binds (tree e.now)) }
-    ensures scope { OnOk result (v.new.bound.items ≡ v.old.bound.items) }
+    ensures { IfOk result (λ q. Normalizes starts.now tail (tree e.now) v.old v.new (expression q.value)) }
 {
     let Exp::Call {
         site,
@@ -217,9 +205,7 @@ fn normalize_cells(
     requires sorted { IsNonDecreasing starts.now }
     requires labels { LabelsFit (length starts.now) (tree e.now) }
     requires few { v.old.next + binds (tree e.now) < 2 ^ 32 }
-    ensures made { IfOk result (λ q. expression q.value ≡ normal starts.now tail (tree e.now) (scope_of v.old.bound.items) v.old.next) }
-    ensures next { OnOk result (v.new.next ≡ v.old.next + binds (tree e.now)) }
-    ensures scope { OnOk result (v.new.bound.items ≡ v.old.bound.items) }
+    ensures { IfOk result (λ q. Normalizes starts.now tail (tree e.now) v.old v.new (expression q.value)) }
 {
     let Exp::NewCells(cells, body) = e else {
         unreachable!();
@@ -245,11 +231,7 @@ fn normalize_bound(
     requires sorted { IsNonDecreasing starts.now }
     requires labels { LabelsFit (length starts.now) (tree e.now) }
     requires few { v.old.next + suc (binds (tree e.now)) < 2 ^ 32 }
-    ensures number { IfOk result (λ x. x ≡ v.old.next) }
-    ensures steps { OnOk result (Adds steps.old.items steps.new.items
-        (bound_before starts.now (tree e.now) (scope_of v.old.bound.items) v.old.next)) }
-    ensures next { OnOk result (v.new.next ≡ v.old.next + suc (binds (tree e.now))) }
-    ensures scope { OnOk result (v.new.bound.items ≡ v.old.bound.items) }
+    ensures { IfOk result (λ x. BindsPart starts.now (tree e.now) v.old v.new steps.old.items steps.new.items x) }
 {
     let number = v.fresh();
     let value = normalize_expression(alloc, starts, e, false, v)?;
@@ -273,11 +255,7 @@ fn normalize_part(
     requires sorted { IsNonDecreasing starts.now }
     requires labels { LabelsFit (length starts.now) (tree e.now) }
     requires few { v.old.next + operand_binds (tree e.now) < 2 ^ 32 }
-    ensures operand { IfOk result (λ o. o ≡ operand_at (scope_of v.old.bound.items) (tree e.now) v.old.next) }
-    ensures steps { OnOk result (Adds steps.old.items steps.new.items
-        (part_before starts.now (tree e.now) (scope_of v.old.bound.items) v.old.next)) }
-    ensures next { OnOk result (v.new.next ≡ v.old.next + operand_binds (tree e.now)) }
-    ensures scope { OnOk result (v.new.bound.items ≡ v.old.bound.items) }
+    ensures { IfOk result (λ o. NormalizesPart starts.now (tree e.now) v.old v.new steps.old.items steps.new.items o) }
 {
     if is_simple(e) {
         return simple_operand(alloc, e, v);
@@ -299,11 +277,7 @@ fn normalize_operands(
     requires sorted { IsNonDecreasing starts.now }
     requires labels { LabelsFitEach (length starts.now) (trees_of es.now) }
     requires few { v.old.next + operands_bind (trees_of es.now) < 2 ^ 32 }
-    ensures operands { IfOk result (λ all. all ≡ operands_at (scope_of v.old.bound.items) (trees_of es.now) v.old.next) }
-    ensures steps { OnOk result (Adds steps.old.items steps.new.items
-        (with_operands starts.now (trees_of es.now) (scope_of v.old.bound.items) v.old.next)) }
-    ensures next { OnOk result (v.new.next ≡ v.old.next + operands_bind (trees_of es.now)) }
-    ensures scope { OnOk result (v.new.bound.items ≡ v.old.bound.items) }
+    ensures { IfOk result (λ all. NormalizesOperands starts.now (trees_of es.now) v.old v.new steps.old.items steps.new.items all) }
 {
     let mut all = List::from_vec(Vec::with_capacity(alloc, es.len())?);
     for e in es.as_slice() {
@@ -325,11 +299,7 @@ fn normalize_inits(
     requires sorted { IsNonDecreasing starts.now }
     requires labels { LabelsFitEach (length starts.now) (trees_of es.now) }
     requires few { v.old.next + inits_bind (trees_of es.now) < 2 ^ 32 }
-    ensures numbers { IfOk result (λ all. all ≡ init_numbers (trees_of es.now) v.old.next) }
-    ensures steps { OnOk result (Adds steps.old.items steps.new.items
-        (with_inits starts.now (trees_of es.now) (scope_of v.old.bound.items) v.old.next)) }
-    ensures next { OnOk result (v.new.next ≡ v.old.next + inits_bind (trees_of es.now)) }
-    ensures scope { OnOk result (v.new.bound.items ≡ v.old.bound.items) }
+    ensures { IfOk result (λ all. NormalizesInits starts.now (trees_of es.now) v.old v.new steps.old.items steps.new.items all) }
 {
     let mut all = List::from_vec(Vec::with_capacity(alloc, es.len())?);
     for e in es.as_slice() {
@@ -352,10 +322,7 @@ fn normalize_dropped(
     requires sorted { IsNonDecreasing starts.now }
     requires labels { LabelsFit (length starts.now) (tree e.now) }
     requires few { v.old.next + cond (specs.ends_in_call (tree e.now)) (suc (binds (tree e.now))) (binds (tree e.now)) < 2 ^ 32 }
-    ensures steps { OnOk result (Adds steps.old.items steps.new.items
-        (dropped_before starts.now (tree e.now) (scope_of v.old.bound.items) v.old.next)) }
-    ensures next { OnOk result (v.new.next ≡ v.old.next + cond (specs.ends_in_call (tree e.now)) (suc (binds (tree e.now))) (binds (tree e.now))) }
-    ensures scope { OnOk result (v.new.bound.items ≡ v.old.bound.items) }
+    ensures { OnOk result (DropsPart starts.now (tree e.now) v.old v.new steps.old.items steps.new.items) }
 {
     if matches!(e, Exp::Constant(_) | Exp::Literal(_)) {
         return Ok(());
@@ -388,9 +355,7 @@ fn normalize_parts(
     requires sorted { IsNonDecreasing starts.now }
     requires labels { LabelsFitEach (length starts.now) (trees_of es.now) }
     requires few { v.old.next + binds_parts (trees_of es.now) < 2 ^ 32 }
-    ensures made { IfOk result (λ q. expression q.value ≡ normal_parts starts.now tail (trees_of es.now) (scope_of v.old.bound.items) v.old.next) }
-    ensures next { OnOk result (v.new.next ≡ v.old.next + binds_parts (trees_of es.now)) }
-    ensures scope { OnOk result (v.new.bound.items ≡ v.old.bound.items) }
+    ensures { IfOk result (λ q. NormalizesParts starts.now tail (trees_of es.now) v.old v.new (expression q.value)) }
 {
     let items = es.as_slice();
     let count = items.len();

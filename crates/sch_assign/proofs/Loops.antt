@@ -44,10 +44,13 @@ group_step bs r x m i l h =
     let k = rw p at h in
     rw q k
 
+pub set_size : (bs : List Bool) (x : ℕ) (b : Bool) → length (slice_set bs x b) ≡ length bs
+set_size [] x b = refl
+set_size (a ∷ bs) zero b = refl
+set_size (a ∷ bs) (suc x) b = ap suc (set_size bs x b)
+
 pub marked_size : (bs : List Bool) (x : ℕ) → length (slice_set bs x true) ≡ length bs
-marked_size [] x = refl
-marked_size (b ∷ bs) zero = refl
-marked_size (b ∷ bs) (suc x) = ap suc (marked_size bs x)
+marked_size bs x = set_size bs x true
 
 -- ## Lists of trees
 

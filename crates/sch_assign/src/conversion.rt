@@ -3,9 +3,10 @@
 ghost use Rattle.std.specs.Prelude.{◌≡◌, ◌+◌, ◌<◌, ◌^◌, [], ◌++◌, None, IfOk, OnOk};
 ghost use Rattle.sch_cells.specs.Tree as plain;
 ghost use Rattle.sch_cells.specs.View.{tree, trees_of, lambdas_of};
-ghost use Rattle.sch_assign.specs.Converted.{Low, and_cell, cells_for, empty_cells, wrapped, filling, converted, converted_each, converted_lambdas};
+ghost use Rattle.sch_assign.specs.Converted.{Low, and_cell, cells_for, empty_cells, wrapped, converted, converted_each, converted_lambdas};
 ghost use Rattle.sch_assign.specs.InRange.{InRange, EachInRange, LambdasInRange};
-ghost use Rattle.sch_assign.specs.Kinds.{IsLet, IsRecursive};
+ghost use Rattle.sch_cells.specs.Kinds.{IsIf, IsLet, IsFix, IsRec, IsCall};
+ghost use Rattle.sch_assign.specs.Recursive.{Fills, filled, with_inits};
 ghost use Rattle.sch_assign.specs.Table.{table};
 
 use crate::marking::variable_at;
@@ -115,41 +116,18 @@ fn fill_one(alloc: Global, n: u32, x: u32) -> Result<Exp, Mem>
     Ok(Exp::CellSet(x + n, value))
 }
 
-// The values of a group of variables go into their cells, and then an expression.
+// The values of a group of variables go into their cells, before an expression that is still to come.
 #[inline(never)]
-fn fill(alloc: Global, n: u32, first: u32, count: usize, e: Exp) -> Result<List<Exp>, Mem>
+fn fill(alloc: Global, n: u32, first: u32, count: usize) -> Result<List<Exp>, Mem>
     requires low { Low n first count }
     requires few { n + n < 2 ^ 32 }
-    ensures { IfOk result (λ qs. trees_of qs ≡ filling n first count (tree e)) }
+    ensures { IfOk result (λ qs. Fills n first count qs) }
 {
     let mut all = List::new(alloc);
     for place in 0..count {
         all.push(fill_one(alloc, n, variable_at(first, place))?)?;
     }
-    all.push(e)?;
     Ok(all)
-}
-
-// A Rec with cells: they are new and empty, the inits have their values, and these go into the cells.
-#[inline(never)]
-fn recursive(
-    alloc: Global,
-    cs: List<NewCell>,
-    site: u32,
-    first: u32,
-    inits: List<Exp>,
-    parts: List<Exp>,
-) -> Result<Exp, Mem>
-    ensures { IfOk result (λ q. tree q ≡ plain.new_cells cs (plain.bind site first (trees_of inits) (plain.sequence (trees_of parts)))) }
-{
-    let body = Box::new(alloc, Exp::Seq(parts))?;
-    let inner = Exp::Let {
-        site,
-        first,
-        inits,
-        body,
-    };
-    Ok(Exp::NewCells(cs, Box::new(alloc, inner)?))
 }
 
 /// The expression with cells for the variables of the table.
@@ -182,34 +160,16 @@ fn convert(alloc: Global, celled: &[bool], n: u32, e: &Exp) -> Result<Exp, Mem>
             let value = convert_boxed(alloc, celled, n, value)?;
             Ok(Exp::Define(*g, value))
         }
-        Exp::If(test, yes, no) => {
-            let test = convert_boxed(alloc, celled, n, test)?;
-            let yes = convert_boxed(alloc, celled, n, yes)?;
-            let no = convert_boxed(alloc, celled, n, no)?;
-            Ok(Exp::If(test, yes, no))
-        }
+        Exp::If(_, _, _) => convert_if(alloc, celled, n, e),
         Exp::Seq(parts) => {
             let parts = convert_each(alloc, celled, n, parts)?;
             Ok(Exp::Seq(parts))
         }
         Exp::Let { .. } => convert_let(alloc, celled, n, e),
-        Exp::Fix { .. } | Exp::Rec { .. } => convert_recursive(alloc, celled, n, e),
+        Exp::Fix { .. } => convert_fix(alloc, celled, n, e),
+        Exp::Rec { .. } => convert_rec(alloc, celled, n, e),
         Exp::Lambda(l) => convert_procedure(alloc, celled, n, l),
-        Exp::Call {
-            site,
-            spread,
-            operator,
-            operands,
-        } => {
-            let operator = convert_boxed(alloc, celled, n, operator)?;
-            let operands = convert_each(alloc, celled, n, operands)?;
-            Ok(Exp::Call {
-                site: *site,
-                spread: *spread,
-                operator,
-                operands,
-            })
-        }
+        Exp::Call { .. } => convert_call(alloc, celled, n, e),
         Exp::Prim(site, which, operands) => {
             let operands = convert_each(alloc, celled, n, operands)?;
             Ok(Exp::Prim(*site, *which, operands))
@@ -218,7 +178,53 @@ fn convert(alloc: Global, celled: &[bool], n: u32, e: &Exp) -> Result<Exp, Mem>
     }
 }
 
-// The same for a Let. As functions of their own, this and the next two keep the frames of the walk small.
+// The same for an If. As functions of their own, this and those that follow keep the frames of the walk small.
+#[cycle(converting)]
+#[inline(never)]
+fn convert_if(alloc: Global, celled: &[bool], n: u32, e: &Exp) -> Result<Exp, Mem>
+    requires kind { IsIf (tree e.now) }
+    requires within { InRange n (tree e.now) }
+    requires few { n + n < 2 ^ 32 }
+    ensures { IfOk result (λ q. tree q ≡ converted (table celled.now) n (tree e.now)) }
+{
+    let Exp::If(test, yes, no) = e else {
+        unreachable!();
+    };
+    let test = convert_boxed(alloc, celled, n, test)?;
+    let yes = convert_boxed(alloc, celled, n, yes)?;
+    let no = convert_boxed(alloc, celled, n, no)?;
+    Ok(Exp::If(test, yes, no))
+}
+
+// The same for a call.
+#[cycle(converting)]
+#[inline(never)]
+fn convert_call(alloc: Global, celled: &[bool], n: u32, e: &Exp) -> Result<Exp, Mem>
+    requires kind { IsCall (tree e.now) }
+    requires within { InRange n (tree e.now) }
+    requires few { n + n < 2 ^ 32 }
+    ensures { IfOk result (λ q. tree q ≡ converted (table celled.now) n (tree e.now)) }
+{
+    let Exp::Call {
+        site,
+        spread,
+        operator,
+        operands,
+    } = e
+    else {
+        unreachable!();
+    };
+    let operator = convert_boxed(alloc, celled, n, operator)?;
+    let operands = convert_each(alloc, celled, n, operands)?;
+    Ok(Exp::Call {
+        site: *site,
+        spread: *spread,
+        operator,
+        operands,
+    })
+}
+
+// The same for a Let.
 #[cycle(converting)]
 #[inline(never)]
 fn convert_let(alloc: Global, celled: &[bool], n: u32, e: &Exp) -> Result<Exp, Mem>
@@ -248,44 +254,99 @@ fn convert_let(alloc: Global, celled: &[bool], n: u32, e: &Exp) -> Result<Exp, M
     })
 }
 
-// The same for a group of procedures and for a Rec.
+// The same for a group of procedures.
 #[cycle(converting)]
 #[inline(never)]
-fn convert_recursive(alloc: Global, celled: &[bool], n: u32, e: &Exp) -> Result<Exp, Mem>
-    requires kind { IsRecursive (tree e.now) }
+fn convert_fix(alloc: Global, celled: &[bool], n: u32, e: &Exp) -> Result<Exp, Mem>
+    requires kind { IsFix (tree e.now) }
     requires within { InRange n (tree e.now) }
     requires few { n + n < 2 ^ 32 }
     ensures { IfOk result (λ q. tree q ≡ converted (table celled.now) n (tree e.now)) }
 {
-    match e {
-        Exp::Fix {
-            first,
-            lambdas,
-            body,
-        } => {
-            let lambdas = convert_lambdas(alloc, celled, n, lambdas)?;
-            let body = convert_boxed(alloc, celled, n, body)?;
-            Ok(Exp::Fix {
-                first: *first,
-                lambdas,
-                body,
-            })
-        }
-        Exp::Rec {
-            site,
-            first,
-            inits,
-            body,
-        } => {
-            let count = count(inits);
-            let cs = no_values(alloc, n, *first, count)?;
-            let inits = convert_each(alloc, celled, n, inits)?;
-            let body = convert(alloc, celled, n, body)?;
-            let parts = fill(alloc, n, *first, count, body)?;
-            recursive(alloc, cs, *site, *first, inits, parts)
-        }
-        _ => unreachable!(),
-    }
+    let Exp::Fix {
+        first,
+        lambdas,
+        body,
+    } = e
+    else {
+        unreachable!();
+    };
+    let lambdas = convert_lambdas(alloc, celled, n, lambdas)?;
+    let body = convert_boxed(alloc, celled, n, body)?;
+    Ok(Exp::Fix {
+        first: *first,
+        lambdas,
+        body,
+    })
+}
+
+// The same for a Rec: its cells are new and empty, the inits have their values, and these go into the cells.
+#[cycle(converting)]
+#[inline(never)]
+fn convert_rec(alloc: Global, celled: &[bool], n: u32, e: &Exp) -> Result<Exp, Mem>
+    requires kind { IsRec (tree e.now) }
+    requires within { InRange n (tree e.now) }
+    requires few { n + n < 2 ^ 32 }
+    ensures { IfOk result (λ q. tree q ≡ converted (table celled.now) n (tree e.now)) }
+{
+    let Exp::Rec { first, inits, .. } = e else {
+        unreachable!();
+    };
+    let cs = no_values(alloc, n, *first, count(inits))?;
+    let inner = convert_inits(alloc, celled, n, e)?;
+    Ok(Exp::NewCells(cs, inner))
+}
+
+// A Rec without its cells.
+#[cycle(converting)]
+#[inline(never)]
+fn convert_inits(alloc: Global, celled: &[bool], n: u32, e: &Exp) -> Result<Box<Exp>, Mem>
+    requires kind { IsRec (tree e.now) }
+    requires within { InRange n (tree e.now) }
+    requires few { n + n < 2 ^ 32 }
+    ensures { IfOk result (λ q. tree q.value ≡ with_inits (table celled.now) n (tree e.now)) }
+{
+    let Exp::Rec {
+        site,
+        first,
+        inits,
+        ..
+    } = e
+    else {
+        unreachable!();
+    };
+    let inits = convert_each(alloc, celled, n, inits)?;
+    let body = convert_filled(alloc, celled, n, e)?;
+    let inner = Exp::Let {
+        site: *site,
+        first: *first,
+        inits,
+        body,
+    };
+    Ok(Box::new(alloc, inner)?)
+}
+
+// The body of a Rec, after the values of its variables have gone into their cells.
+#[cycle(converting)]
+#[inline(never)]
+fn convert_filled(alloc: Global, celled: &[bool], n: u32, e: &Exp) -> Result<Box<Exp>, Mem>
+    requires kind { IsRec (tree e.now) }
+    requires within { InRange n (tree e.now) }
+    requires few { n + n < 2 ^ 32 }
+    ensures { IfOk result (λ q. tree q.value ≡ filled (table celled.now) n (tree e.now)) }
+{
+    let Exp::Rec {
+        first,
+        inits,
+        body,
+        ..
+    } = e
+    else {
+        unreachable!();
+    };
+    let mut parts = fill(alloc, n, *first, count(inits))?;
+    parts.push(convert(alloc, celled, n, body)?)?;
+    Ok(Box::new(alloc, Exp::Seq(parts))?)
 }
 
 // A procedure on the heap.
@@ -343,10 +404,8 @@ fn convert_lambda(alloc: Global, celled: &[bool], n: u32, l: &Lambda) -> Result<
     ensures { IfOk result (λ q. plain.lambda q.name q.first q.formals q.rest (tree q.body) ≡
         converted (table celled.now) n (plain.lambda l.now.name l.now.first l.now.formals l.now.rest (tree l.now.body))) }
 {
-    let cs = cells(alloc, celled, n, l.first, l.formals as usize)?;
-    let body = convert(alloc, celled, n, &l.body)?;
-    let body = wrap_body(alloc, cs, body)?;
     let name = List::from_slice(alloc, l.name.as_slice())?;
+    let body = convert_body(alloc, celled, n, l)?;
     Ok(Lambda {
         name,
         first: l.first,
@@ -354,6 +413,21 @@ fn convert_lambda(alloc: Global, celled: &[bool], n: u32, l: &Lambda) -> Result<
         rest: l.rest,
         body,
     })
+}
+
+// The body of a procedure under the cells of its formals.
+#[cycle(converting)]
+#[inline(never)]
+fn convert_body(alloc: Global, celled: &[bool], n: u32, l: &Lambda) -> Result<Exp, Mem>
+    requires low { Low n l.now.first l.now.formals }
+    requires within { InRange n (tree l.now.body) }
+    requires few { n + n < 2 ^ 32 }
+    ensures { IfOk result (λ q. tree q ≡
+        wrapped (cells_for (table celled.now) n l.now.first l.now.formals) (converted (table celled.now) n (tree l.now.body))) }
+{
+    let cs = cells(alloc, celled, n, l.first, l.formals as usize)?;
+    let body = convert(alloc, celled, n, &l.body)?;
+    wrap_body(alloc, cs, body)
 }
 
 /// The same for each of some lambdas.

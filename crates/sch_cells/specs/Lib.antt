@@ -3,6 +3,7 @@ pub mod BoxedMeaning
 pub mod Clear
 pub mod Covered
 pub mod Examples
+pub mod Kinds
 pub mod Measures
 pub mod Procedures
 pub mod ProgramView

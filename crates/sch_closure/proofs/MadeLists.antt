@@ -1,7 +1,7 @@
 -- The turns of the loops that make flat trees.
-use Rattle.std.proofs.Common.{◌≡◌, ℕ, zero, suc, ◌+◌, ◌<◌, ◌≤◌, Bool, List, [], ◌∷◌, ◌++◌, length, map, drop, get_or, refl, sym, ap, ◌∙◌, subst, arith, add-one, append_assoc, append-nil}
+use Rattle.std.proofs.Common.{◌≡◌, ℕ, zero, suc, ◌+◌, ◌<◌, ◌≤◌, Bool, List, [], ◌∷◌, ◌++◌, length, map, drop, get_or, refl, sym, ap, ◌∙◌, subst, arith, add-one, append_assoc, append-nil, length-append}
 use Rattle.std.specs.Prelude.{cond, nat_eq, slice_get, slice_set, Some}
-use Rattle.std.proofs.lemmas.List.{drop_all, get_or_default, map-append}
+use Rattle.std.proofs.lemmas.List.{drop_all, get_or_default, map-append, length-set}
 use Rattle.std.proofs.lemmas.Bool.{eq-eqb}
 use Rattle.sch_word.specs.trees.Walk.{onto}
 use Rattle.sch_word.proofs.Walking.{next_made, next_count, next_left, end_made}
@@ -22,7 +22,7 @@ use Rattle.sch_flat.proofs.Rows as rows
 use Rattle.sch_closure.specs.Closed as closing
 use Rattle.sch_closure.specs.Closed.{place_from, fields_of, procedures, procedures_each, procedures_lambdas, captured, closed, closed_each, made, made_each, starts}
 use Rattle.sch_closure.specs.Fresh.{EachStands, LambdasStand}
-use Rattle.sch_closure.specs.Walked.{with_bodies, with_bodies_each, with_bodies_lambdas}
+use Rattle.sch_closure.specs.Walked.{with_bodies, with_bodies_each, with_bodies_lambdas, Closes, ClosesEach, ClosesLambda, ClosesLambdas}
 use Rattle.sch_closure.proofs.Walks.{body_set}
 use Rattle.sch_word.proofs.facts.NumberTests.{differ}
 use Rattle.sch_word.proofs.facts.Lists.{map_length, some_same}
@@ -131,6 +131,34 @@ pub lambdas_end : (items ls : List Lambda) (i : ℕ) (own : List ℕ) (n start :
 lambdas_end items ls i own n start all h l k =
     made_onto all ∙ end_made items i and_then_made (λ ls x. made_each (left_lambdas ls) own x) all n _ [] l refl k ∙ ap (λ l. made_each (from.lambdas_of l) own start) h
 
+pub each_closes : (items es : List Exp) (i : ℕ) (own : List ℕ) (before now : List to_body.Body) (all : List to.Exp) → items ≡ es → length items ≤ i
+    → onto and_then all (closed_each (left (drop i items)) own (length now)) ≡ closed_each (from.trees_of items) own (length before)
+    → with_bodies_each (left (drop i items)) (map view.body now) ≡ with_bodies_each (from.trees_of items) (map view.body before)
+    → length now + procedures_each (left (drop i items)) ≡ length before + procedures_each (from.trees_of items)
+    → ClosesEach (from.trees_of es) own before now (view.trees_of all)
+each_closes items es i own before now all h l m b c =
+    let d = rw (drop_all i items l) at b in
+    let k = rw (drop_all i items l) at c in
+    record {
+      made = each_end items es i own (length now) (length before) all h l m;
+      bodies = d ∙ ap (λ l. with_bodies_each (from.trees_of l) (map view.body before)) h;
+      count = omega (arith, k, ap (λ l. procedures_each (from.trees_of l)) h);
+    }
+
+pub lambdas_close : (items ls : List Lambda) (i : ℕ) (own : List ℕ) (before now : List to_body.Body) (all : List to_made.Made) → items ≡ ls → length items ≤ i
+    → onto and_then_made all (made_each (left_lambdas (drop i items)) own (length now)) ≡ made_each (from.lambdas_of items) own (length before)
+    → with_bodies_lambdas (left_lambdas (drop i items)) (map view.body now) ≡ with_bodies_lambdas (from.lambdas_of items) (map view.body before)
+    → length now + procedures_lambdas (left_lambdas (drop i items)) ≡ length before + procedures_lambdas (from.lambdas_of items)
+    → ClosesLambdas (from.lambdas_of ls) own before now (map view.made all)
+lambdas_close items ls i own before now all h l m b c =
+    let d = rw (drop_all i items l) at b in
+    let k = rw (drop_all i items l) at c in
+    record {
+      made = lambdas_end items ls i own (length now) (length before) all h l m;
+      bodies = d ∙ ap (λ l. with_bodies_lambdas (from.lambdas_of l) (map view.body before)) h;
+      count = omega (arith, k, ap (λ l. procedures_lambdas (from.lambdas_of l)) h);
+    }
+
 -- ## A procedure's body
 
 map_set : {A B : Type 0} (f : A → B) (xs : List A) (i : ℕ) (v : A) → map f (slice_set xs i v) ≡ slice_set (map f xs) i (f v)
@@ -143,10 +171,6 @@ here_is [] i x v h e = absurd (cc)
 here_is (y ∷ xs) zero x v h e = e ∙ some_same h
 here_is (y ∷ xs) (suc i) x v h e = here_is xs i x v h e
 
-pub made_body : (name name' : List ℕ) (x m : ℕ) (r : Bool) (e : Tree) (n k : ℕ) (inside : List ℕ) (code : flat.Tree) → name' ≡ name → inside ≡ fields_of x m e → k ≡ suc n → code ≡ closed e inside k
-    → record { name = name'; first = x; formals = m; rest = r; fields = length inside; code = code } ≡ closing.body_of name x m r e n
-made_body name name' x m r e n k inside code p i q c = rw (p, c) (rw (i, q) refl)
-
 -- the body is put where another stood while what is inside it was made
 pub body_made : (e : Tree) (old pushed new : List to_body.Body) (label : ℕ) (blank b : to_body.Body) (whole : ℕ → flat.Body) → pushed ≡ old ++ blank ∷ []
     → map view.body new ≡ with_bodies e (map view.body pushed) → label ≡ length old → view.body b ≡ whole label
@@ -158,6 +182,20 @@ body_made e old pushed new label blank b whole p q l h =
     ∙ ap (λ k. slice_set (with_bodies e (map view.body old ++ view.body blank ∷ [])) k (view.body b)) n
     ∙ body_set e (map view.body old) (view.body blank) (view.body b)
     ∙ ap (λ c. with_bodies e (map view.body old ++ c ∷ [])) (h ∙ ap whole n)
+
+pub lambda_closes : (name : List ℕ) (x m : ℕ) (r : Bool) (e : Tree) (own inside : List ℕ) (old pushed new set : List to_body.Body) (n : ℕ) (blank b : to_body.Body) (code : flat.Tree) (taken : List flat.Variable)
+    → n ≡ length old → inside ≡ fields_of x m e → pushed ≡ old ++ blank ∷ [] → Closes e inside pushed new code
+    → view.body b ≡ record { name = name; first = x; formals = m; rest = r; fields = length inside; code = code }
+    → set ≡ slice_set new n b → taken ≡ map (closing.place own) inside
+    → ClosesLambda name x m r e own old set (record { label = n; fields = taken })
+lambda_closes name x m r e own inside old pushed new set n blank b code taken l i p w v s f =
+    let k : length pushed ≡ suc n = ap length p ∙ omega (arith, length-append old (blank ∷ []), l) in
+    let h : view.body b ≡ closing.body_of name x m r e n = v ∙ rw (w.made) (rw (i, k) refl) in
+    record {
+      made = rw (f, i, l) refl;
+      bodies = ap (map view.body) s ∙ body_made e old pushed new n blank b (λ k. closing.body_of name x m r e k) p w.bodies l h;
+      count = omega (arith, ap length s, length-set new n b, w.count, k, l);
+    }
 
 -- ## Labels
 

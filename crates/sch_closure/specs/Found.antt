@@ -1,6 +1,6 @@
 -- What the walk over a tree adds to what it has found before. The free variables are found from the end of the
 -- text to its beginning.
-use Rattle.std.specs.Prelude.{ℕ, List, [], ◌∷◌}
+use Rattle.std.specs.Prelude.{◌≡◌, ℕ, List, [], ◌∷◌, reverse}
 use Rattle.sch_word.specs.trees.NumberSets.{insert, union}
 use Rattle.sch_word.specs.trees.Bindings.{without}
 use Rattle.sch_cells.specs.declared.tree.NewCell.{NewCell}
@@ -72,3 +72,28 @@ abbrev mutual
   fields_of_lambdas no_lambdas all = all
   fields_of_lambdas (and_lambda name first formals rest e ls) all =
       without first formals (found e []) ∷ fields_found e (fields_of_lambdas ls all)
+
+-- What a walk has found in a tree: the free variables and the fields before it and after it, each from the last to the first.
+abbrev pub Finds : Tree → (free free' : List ℕ) → (fields fields' : List (List ℕ)) → Type 0
+Finds e free free' fields fields' = record {
+  free : reverse free' ≡ found e (reverse free);
+  fields : reverse fields' ≡ fields_found e (reverse fields);
+}
+
+abbrev pub FindsEach : Trees → (free free' : List ℕ) → (fields fields' : List (List ℕ)) → Type 0
+FindsEach es free free' fields fields' = record {
+  free : reverse free' ≡ found_each es (reverse free);
+  fields : reverse fields' ≡ fields_of_each es (reverse fields);
+}
+
+abbrev pub FindsLambda : (first formals : ℕ) → Tree → (free free' : List ℕ) → (fields fields' : List (List ℕ)) → Type 0
+FindsLambda first formals e free free' fields fields' = record {
+  free : reverse free' ≡ union (without first formals (found e [])) (reverse free);
+  fields : reverse fields' ≡ without first formals (found e []) ∷ fields_found e (reverse fields);
+}
+
+abbrev pub FindsLambdas : Lambdas → (free free' : List ℕ) → (fields fields' : List (List ℕ)) → Type 0
+FindsLambdas ls free free' fields fields' = record {
+  free : reverse free' ≡ found_lambdas ls (reverse free);
+  fields : reverse fields' ≡ fields_of_lambdas ls (reverse fields);
+}

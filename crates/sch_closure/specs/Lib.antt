@@ -3,4 +3,3 @@ pub mod Closed
 pub mod Fresh
 pub mod Kept
 pub mod Found
-pub mod Kinds

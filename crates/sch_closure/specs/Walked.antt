@@ -1,8 +1,11 @@
 -- What the walk over a tree adds to the bodies that it has made before, from the beginning of the text on.
-use Rattle.std.specs.Prelude.{List, [], ◌∷◌, ◌++◌, length}
+use Rattle.std.specs.Prelude.{◌≡◌, ℕ, suc, ◌+◌, Bool, List, [], ◌∷◌, ◌++◌, length, map}
 use Rattle.sch_cells.specs.Tree.{Tree, Trees, Lambdas, constant, literal, variable, global, set_variable, set_global, define, branch, sequence, bind, fix, letrec, lambda, call, operation, new_cells, cell_get, cell_set, no_trees, and_tree, no_lambdas, and_lambda}
+use Rattle.sch_flat.specs.declared.tree.Body as coded
+use Rattle.sch_flat.specs.Tree as to
 use Rattle.sch_flat.specs.Tree.{Body}
-use Rattle.sch_closure.specs.Closed.{body_of}
+use Rattle.sch_flat.specs.View.{body}
+use Rattle.sch_closure.specs.Closed.{body_of, procedures, procedures_each, procedures_lambdas, closed, closed_each, made, made_each}
 
 -- the bodies of the procedures in a tree, after those made, of which there are as many as the first label
 abbrev mutual
@@ -34,3 +37,32 @@ abbrev mutual
   with_bodies_lambdas no_lambdas all = all
   with_bodies_lambdas (and_lambda name first formals rest e ls) all =
       with_bodies_lambdas ls (with_bodies e (all ++ body_of name first formals rest e (length all) ∷ []))
+
+-- What a walk has made of a tree in a body whose record has the fields `own`, and the bodies before and after it.
+abbrev pub Closes : Tree → (own : List ℕ) → (before after : List coded.Body) → to.Tree → Type 0
+Closes e own before after q = record {
+  made : q ≡ closed e own (length before);
+  bodies : map body after ≡ with_bodies e (map body before);
+  count : length after ≡ length before + procedures e;
+}
+
+abbrev pub ClosesEach : Trees → (own : List ℕ) → (before after : List coded.Body) → to.Trees → Type 0
+ClosesEach es own before after qs = record {
+  made : qs ≡ closed_each es own (length before);
+  bodies : map body after ≡ with_bodies_each es (map body before);
+  count : length after ≡ length before + procedures_each es;
+}
+
+abbrev pub ClosesLambda : (name : List ℕ) → (first formals : ℕ) → (rest : Bool) → Tree → (own : List ℕ) → (before after : List coded.Body) → to.Made → Type 0
+ClosesLambda name first formals rest e own before after m = record {
+  made : m ≡ made first formals e own (length before);
+  bodies : map body after ≡ with_bodies (lambda name first formals rest e) (map body before);
+  count : length after ≡ length before + suc (procedures e);
+}
+
+abbrev pub ClosesLambdas : Lambdas → (own : List ℕ) → (before after : List coded.Body) → List to.Made → Type 0
+ClosesLambdas ls own before after ms = record {
+  made : ms ≡ made_each ls own (length before);
+  bodies : map body after ≡ with_bodies_lambdas ls (map body before);
+  count : length after ≡ length before + procedures_lambdas ls;
+}

@@ -1,13 +1,12 @@
 //! Trees without free variables, and the bodies of procedures by their labels.
 
-ghost use Rattle.std.specs.Prelude.{◌≡◌, ◌+◌, ◌<◌, ◌^◌, ℕ, List, suc, ◌∷◌, [], length, map, slice_get, Some, IfOk, OnOk};
+ghost use Rattle.std.specs.Prelude.{◌≡◌, ◌+◌, ◌<◌, ◌^◌, ℕ, List, suc, ◌∷◌, [], length, map, slice_get, slice_set, Some, IfOk, OnOk};
 ghost use Rattle.sch_cells.specs.View.{tree, trees_of, lambdas_of};
-ghost use Rattle.sch_cells.specs.Tree as plain;
 ghost use Rattle.sch_flat.specs.View as view;
-ghost use Rattle.sch_closure.specs.Closed.{place, placed, procedures, procedures_each, procedures_lambdas, fields_of, captured, closed, closed_each, made, made_each, starts};
+ghost use Rattle.sch_closure.specs.Closed.{place, placed, procedures, procedures_each, procedures_lambdas, fields_of, captured, starts};
 ghost use Rattle.sch_closure.specs.Fresh.{Stands, EachStands, LambdasStand};
-ghost use Rattle.sch_closure.specs.Kinds.{IsIf, IsLetOrRec, IsFix, IsCall, IsNewCells};
-ghost use Rattle.sch_closure.specs.Walked.{with_bodies, with_bodies_each, with_bodies_lambdas};
+ghost use Rattle.sch_cells.specs.Kinds.{IsIf, IsLetOrRec, IsFix, IsCall, IsNewCells};
+ghost use Rattle.sch_closure.specs.Walked.{Closes, ClosesEach, ClosesLambda, ClosesLambdas};
 
 use sch_cells::{Exp, Lambda};
 use sch_flat as flat;
@@ -85,9 +84,7 @@ fn close_expression(
     requires short { (k : ℕ) → (xs : List ℕ) → slice_get fields.now k ≡ Some xs → length xs < 2 ^ 32 }
     requires stand { Stands captured fields.now (tree e.now) (length bodies.old.items) }
     requires few { length bodies.old.items + procedures (tree e.now) < 2 ^ 32 }
-    ensures made { IfOk result (λ q. view.tree q ≡ closed (tree e.now) own.now (length bodies.old.items)) }
-    ensures bodies { OnOk result (map view.body bodies.new.items ≡ with_bodies (tree e.now) (map view.body bodies.old.items)) }
-    ensures count { OnOk result (length bodies.new.items ≡ length bodies.old.items + procedures (tree e.now)) }
+    ensures { IfOk result (λ q. Closes (tree e.now) own.now bodies.old.items bodies.new.items (view.tree q)) }
 {
     match e {
         Exp::Constant(c) => Ok(flat::Exp::Constant(*c)),
@@ -142,9 +139,7 @@ fn close_if(
     requires short { (k : ℕ) → (xs : List ℕ) → slice_get fields.now k ≡ Some xs → length xs < 2 ^ 32 }
     requires stand { Stands captured fields.now (tree e.now) (length bodies.old.items) }
     requires few { length bodies.old.items + procedures (tree e.now) < 2 ^ 32 }
-    ensures made { IfOk result (λ q. view.tree q ≡ closed (tree e.now) own.now (length bodies.old.items)) }
-    ensures bodies { OnOk result (map view.body bodies.new.items ≡ with_bodies (tree e.now) (map view.body bodies.old.items)) }
-    ensures count { OnOk result (length bodies.new.items ≡ length bodies.old.items + procedures (tree e.now)) }
+    ensures { IfOk result (λ q. Closes (tree e.now) own.now bodies.old.items bodies.new.items (view.tree q)) }
 {
     let Exp::If(test, yes, no) = e else {
         unreachable!();
@@ -169,9 +164,7 @@ fn close_let(
     requires short { (k : ℕ) → (xs : List ℕ) → slice_get fields.now k ≡ Some xs → length xs < 2 ^ 32 }
     requires stand { Stands captured fields.now (tree e.now) (length bodies.old.items) }
     requires few { length bodies.old.items + procedures (tree e.now) < 2 ^ 32 }
-    ensures made { IfOk result (λ q. view.tree q ≡ closed (tree e.now) own.now (length bodies.old.items)) }
-    ensures bodies { OnOk result (map view.body bodies.new.items ≡ with_bodies (tree e.now) (map view.body bodies.old.items)) }
-    ensures count { OnOk result (length bodies.new.items ≡ length bodies.old.items + procedures (tree e.now)) }
+    ensures { IfOk result (λ q. Closes (tree e.now) own.now bodies.old.items bodies.new.items (view.tree q)) }
 {
     match e {
         Exp::Let {
@@ -213,9 +206,7 @@ fn close_fix(
     requires short { (k : ℕ) → (xs : List ℕ) → slice_get fields.now k ≡ Some xs → length xs < 2 ^ 32 }
     requires stand { Stands captured fields.now (tree e.now) (length bodies.old.items) }
     requires few { length bodies.old.items + procedures (tree e.now) < 2 ^ 32 }
-    ensures made { IfOk result (λ q. view.tree q ≡ closed (tree e.now) own.now (length bodies.old.items)) }
-    ensures bodies { OnOk result (map view.body bodies.new.items ≡ with_bodies (tree e.now) (map view.body bodies.old.items)) }
-    ensures count { OnOk result (length bodies.new.items ≡ length bodies.old.items + procedures (tree e.now)) }
+    ensures { IfOk result (λ q. Closes (tree e.now) own.now bodies.old.items bodies.new.items (view.tree q)) }
 {
     let Exp::Fix {
         first,
@@ -248,9 +239,7 @@ fn close_call(
     requires short { (k : ℕ) → (xs : List ℕ) → slice_get fields.now k ≡ Some xs → length xs < 2 ^ 32 }
     requires stand { Stands captured fields.now (tree e.now) (length bodies.old.items) }
     requires few { length bodies.old.items + procedures (tree e.now) < 2 ^ 32 }
-    ensures made { IfOk result (λ q. view.tree q ≡ closed (tree e.now) own.now (length bodies.old.items)) }
-    ensures bodies { OnOk result (map view.body bodies.new.items ≡ with_bodies (tree e.now) (map view.body bodies.old.items)) }
-    ensures count { OnOk result (length bodies.new.items ≡ length bodies.old.items + procedures (tree e.now)) }
+    ensures { IfOk result (λ q. Closes (tree e.now) own.now bodies.old.items bodies.new.items (view.tree q)) }
 {
     let Exp::Call {
         site,
@@ -285,9 +274,7 @@ fn close_new_cells(
     requires short { (k : ℕ) → (xs : List ℕ) → slice_get fields.now k ≡ Some xs → length xs < 2 ^ 32 }
     requires stand { Stands captured fields.now (tree e.now) (length bodies.old.items) }
     requires few { length bodies.old.items + procedures (tree e.now) < 2 ^ 32 }
-    ensures made { IfOk result (λ q. view.tree q ≡ closed (tree e.now) own.now (length bodies.old.items)) }
-    ensures bodies { OnOk result (map view.body bodies.new.items ≡ with_bodies (tree e.now) (map view.body bodies.old.items)) }
-    ensures count { OnOk result (length bodies.new.items ≡ length bodies.old.items + procedures (tree e.now)) }
+    ensures { IfOk result (λ q. Closes (tree e.now) own.now bodies.old.items bodies.new.items (view.tree q)) }
 {
     let Exp::NewCells(cells, body) = e else {
         unreachable!();
@@ -311,9 +298,7 @@ fn close_boxed(
     requires short { (k : ℕ) → (xs : List ℕ) → slice_get fields.now k ≡ Some xs → length xs < 2 ^ 32 }
     requires stand { Stands captured fields.now (tree e.now.value) (length bodies.old.items) }
     requires few { length bodies.old.items + procedures (tree e.now.value) < 2 ^ 32 }
-    ensures made { IfOk result (λ q. view.tree q.value ≡ closed (tree e.now.value) own.now (length bodies.old.items)) }
-    ensures bodies { OnOk result (map view.body bodies.new.items ≡ with_bodies (tree e.now.value) (map view.body bodies.old.items)) }
-    ensures count { OnOk result (length bodies.new.items ≡ length bodies.old.items + procedures (tree e.now.value)) }
+    ensures { IfOk result (λ q. Closes (tree e.now.value) own.now bodies.old.items bodies.new.items (view.tree q.value)) }
 {
     let e = close_expression(alloc, e, own, fields, bodies)?;
     Ok(Box::new(alloc, e)?)
@@ -333,9 +318,7 @@ fn close_each(
     requires short { (k : ℕ) → (xs : List ℕ) → slice_get fields.now k ≡ Some xs → length xs < 2 ^ 32 }
     requires stand { EachStands captured fields.now (trees_of es.now) (length bodies.old.items) }
     requires few { length bodies.old.items + procedures_each (trees_of es.now) < 2 ^ 32 }
-    ensures made { IfOk result (λ qs. view.trees_of qs ≡ closed_each (trees_of es.now) own.now (length bodies.old.items)) }
-    ensures bodies { OnOk result (map view.body bodies.new.items ≡ with_bodies_each (trees_of es.now) (map view.body bodies.old.items)) }
-    ensures count { OnOk result (length bodies.new.items ≡ length bodies.old.items + procedures_each (trees_of es.now)) }
+    ensures { IfOk result (λ qs. ClosesEach (trees_of es.now) own.now bodies.old.items bodies.new.items (view.trees_of qs)) }
 {
     let mut all = List::from_vec(Vec::with_capacity(alloc, es.len())?);
     for e in es.as_slice() {
@@ -359,28 +342,42 @@ fn close_lambda(
     requires here { slice_get fields.now (length bodies.old.items) ≡ Some (fields_of l.now.first l.now.formals (tree l.now.body)) }
     requires stand { Stands captured fields.now (tree l.now.body) (suc (length bodies.old.items)) }
     requires few { length bodies.old.items + suc (procedures (tree l.now.body)) < 2 ^ 32 }
-    ensures made { IfOk result (λ m. view.made m ≡ made l.now.first l.now.formals (tree l.now.body) own.now (length bodies.old.items)) }
-    ensures bodies { OnOk result (map view.body bodies.new.items ≡ with_bodies (plain.lambda l.now.name l.now.first l.now.formals l.now.rest (tree l.now.body)) (map view.body bodies.old.items)) }
-    ensures count { OnOk result (length bodies.new.items ≡ length bodies.old.items + suc (procedures (tree l.now.body))) }
+    ensures { IfOk result (λ m. ClosesLambda l.now.name l.now.first l.now.formals l.now.rest (tree l.now.body) own.now bodies.old.items bodies.new.items (view.made m)) }
 {
     let label = bodies.len();
     let inside = fields[label].as_slice();
-    let captured = place_each(alloc, own, inside)?;
-    let name = List::from_slice(alloc, l.name.as_slice())?;
     bodies.push(unmade_body(alloc))?;
     let code = close_expression(alloc, &l.body, inside, fields, bodies)?;
-    bodies[label] = Body {
-        name,
+    let body = made_body(alloc, l, inside.len() as u32, code)?;
+    put_body(bodies, label, body);
+    Ok(Made {
+        label: label as u32,
+        fields: place_each(alloc, own, inside)?,
+    })
+}
+
+// The body of a procedure whose record has this many fields.
+#[inline(never)]
+fn made_body(alloc: Global, l: &Lambda, fields: u32, code: flat::Exp) -> Result<Body, Mem>
+    ensures { IfOk result (λ b. view.body b ≡ record { name = l.now.name; first = l.now.first; formals = l.now.formals; rest = l.now.rest; fields = fields; code = view.tree code }) }
+{
+    Ok(Body {
+        name: List::from_slice(alloc, l.name.as_slice())?,
         first: l.first,
         formals: l.formals,
         rest: l.rest,
-        fields: inside.len() as u32,
+        fields,
         code,
-    };
-    Ok(Made {
-        label: label as u32,
-        fields: captured,
     })
+}
+
+// Puts a body in the place of another.
+#[inline(never)]
+fn put_body(bodies: &mut Vec<Body>, label: usize, body: Body)
+    requires { label < length bodies.old.items }
+    ensures { bodies.new.items ≡ slice_set bodies.old.items label body }
+{
+    bodies[label] = body;
 }
 
 // What stands in the place of a body until its code is made.
@@ -410,9 +407,7 @@ pub(crate) fn close_lambdas(
     requires short { (k : ℕ) → (xs : List ℕ) → slice_get fields.now k ≡ Some xs → length xs < 2 ^ 32 }
     requires stand { LambdasStand captured fields.now (lambdas_of ls.now) (length bodies.old.items) }
     requires few { length bodies.old.items + procedures_lambdas (lambdas_of ls.now) < 2 ^ 32 }
-    ensures made { IfOk result (λ ms. map view.made ms ≡ made_each (lambdas_of ls.now) own.now (length bodies.old.items)) }
-    ensures bodies { OnOk result (map view.body bodies.new.items ≡ with_bodies_lambdas (lambdas_of ls.now) (map view.body bodies.old.items)) }
-    ensures count { OnOk result (length bodies.new.items ≡ length bodies.old.items + procedures_lambdas (lambdas_of ls.now)) }
+    ensures { IfOk result (λ ms. ClosesLambdas (lambdas_of ls.now) own.now bodies.old.items bodies.new.items (map view.made ms)) }
 {
     let mut all = List::from_vec(Vec::with_capacity(alloc, ls.len())?);
     for l in ls.as_slice() {
@@ -433,8 +428,7 @@ pub(crate) fn close_forms(
     requires stand { EachStands captured fields.now (trees_of es.now) (length bodies.old.items) }
     requires few { length bodies.old.items + procedures_each (trees_of es.now) < 2 ^ 32 }
     requires none { before.old ≡ [] }
-    ensures made { IfOk result (λ qs. view.trees_of qs ≡ closed_each (trees_of es.now) [] (length bodies.old.items)) }
-    ensures bodies { OnOk result (map view.body bodies.new.items ≡ with_bodies_each (trees_of es.now) (map view.body bodies.old.items)) }
+    ensures closes { IfOk result (λ qs. ClosesEach (trees_of es.now) [] bodies.old.items bodies.new.items (view.trees_of qs)) }
     ensures starts { OnOk result (before.new ≡ starts (trees_of es.now) (length bodies.old.items)) }
 {
     let mut all = List::from_vec(Vec::with_capacity(alloc, es.len())?);

@@ -4,14 +4,14 @@
 //! push, and the text is walked from its end. A list holds each variable once and is as long as a procedure has
 //! free variables or a body variables, at most; each variable that is used is looked for in one list.
 
-ghost use Rattle.std.specs.Prelude.{◌≡◌, [], ◌∷◌, reverse, IfOk, OnOk};
+ghost use Rattle.std.specs.Prelude.{◌≡◌, reverse, IfOk, OnOk};
 ghost use Rattle.sch_word.specs.trees.Bindings.{numbers, without};
-ghost use Rattle.sch_word.specs.trees.NumberSets.{has, union};
+ghost use Rattle.sch_word.specs.trees.NumberSets.{has};
 ghost use Rattle.sch_cells.specs.Variables.{cells_bound, without_each};
 ghost use Rattle.sch_cells.specs.View.{tree, trees_of, lambdas_of};
 ghost use Rattle.sch_closure.specs.Closed.{program_fields};
-ghost use Rattle.sch_closure.specs.Found.{found, found_cells, found_each, found_lambdas, fields_found, fields_of_each, fields_of_lambdas};
-ghost use Rattle.sch_closure.specs.Kinds.{IsIf, IsLet, IsFix, IsRec, IsCall, IsNewCells};
+ghost use Rattle.sch_closure.specs.Found.{found_cells, Finds, FindsEach, FindsLambda, FindsLambdas};
+ghost use Rattle.sch_cells.specs.Kinds.{IsIf, IsLet, IsFix, IsRec, IsCall, IsNewCells};
 
 use sch_cells::{Exp, Lambda, NewCell, count, count_lambdas};
 use sch_word::{List, Mem, insert_number, insert_numbers};
@@ -80,8 +80,7 @@ fn insert_contents(cs: &[NewCell], xs: &mut Vec<u32>) -> Result<(), Mem>
 // the procedures after it.
 #[cycle(gathering)]
 fn find(alloc: Global, e: &Exp, free: &mut Vec<u32>, fields: &mut Vec<List<u32>>) -> Result<(), Mem>
-    ensures free { OnOk result (reverse free.new.items ≡ found (tree e.now) (reverse free.old.items)) }
-    ensures fields { OnOk result (reverse fields.new.items ≡ fields_found (tree e.now) (reverse fields.old.items)) }
+    ensures { OnOk result (Finds (tree e.now) free.old.items free.new.items fields.old.items fields.new.items) }
 {
     match e {
         Exp::Constant(_) | Exp::Literal(_) | Exp::Global(_) => Ok(()),
@@ -112,8 +111,7 @@ fn find_if(
     fields: &mut Vec<List<u32>>,
 ) -> Result<(), Mem>
     requires kind { IsIf (tree e.now) }
-    ensures free { OnOk result (reverse free.new.items ≡ found (tree e.now) (reverse free.old.items)) }
-    ensures fields { OnOk result (reverse fields.new.items ≡ fields_found (tree e.now) (reverse fields.old.items)) }
+    ensures { OnOk result (Finds (tree e.now) free.old.items free.new.items fields.old.items fields.new.items) }
 {
     let Exp::If(test, yes, no) = e else {
         unreachable!();
@@ -132,8 +130,7 @@ fn find_let(
     fields: &mut Vec<List<u32>>,
 ) -> Result<(), Mem>
     requires kind { IsLet (tree e.now) }
-    ensures free { OnOk result (reverse free.new.items ≡ found (tree e.now) (reverse free.old.items)) }
-    ensures fields { OnOk result (reverse fields.new.items ≡ fields_found (tree e.now) (reverse fields.old.items)) }
+    ensures { OnOk result (Finds (tree e.now) free.old.items free.new.items fields.old.items fields.new.items) }
 {
     let Exp::Let {
         site: _,
@@ -160,8 +157,7 @@ fn find_fix(
     fields: &mut Vec<List<u32>>,
 ) -> Result<(), Mem>
     requires kind { IsFix (tree e.now) }
-    ensures free { OnOk result (reverse free.new.items ≡ found (tree e.now) (reverse free.old.items)) }
-    ensures fields { OnOk result (reverse fields.new.items ≡ fields_found (tree e.now) (reverse fields.old.items)) }
+    ensures { OnOk result (Finds (tree e.now) free.old.items free.new.items fields.old.items fields.new.items) }
 {
     let Exp::Fix {
         first,
@@ -187,8 +183,7 @@ fn find_rec(
     fields: &mut Vec<List<u32>>,
 ) -> Result<(), Mem>
     requires kind { IsRec (tree e.now) }
-    ensures free { OnOk result (reverse free.new.items ≡ found (tree e.now) (reverse free.old.items)) }
-    ensures fields { OnOk result (reverse fields.new.items ≡ fields_found (tree e.now) (reverse fields.old.items)) }
+    ensures { OnOk result (Finds (tree e.now) free.old.items free.new.items fields.old.items fields.new.items) }
 {
     let Exp::Rec {
         site: _,
@@ -215,8 +210,7 @@ fn find_call(
     fields: &mut Vec<List<u32>>,
 ) -> Result<(), Mem>
     requires kind { IsCall (tree e.now) }
-    ensures free { OnOk result (reverse free.new.items ≡ found (tree e.now) (reverse free.old.items)) }
-    ensures fields { OnOk result (reverse fields.new.items ≡ fields_found (tree e.now) (reverse fields.old.items)) }
+    ensures { OnOk result (Finds (tree e.now) free.old.items free.new.items fields.old.items fields.new.items) }
 {
     let Exp::Call {
         site: _,
@@ -240,8 +234,7 @@ fn find_new_cells(
     fields: &mut Vec<List<u32>>,
 ) -> Result<(), Mem>
     requires kind { IsNewCells (tree e.now) }
-    ensures free { OnOk result (reverse free.new.items ≡ found (tree e.now) (reverse free.old.items)) }
-    ensures fields { OnOk result (reverse fields.new.items ≡ fields_found (tree e.now) (reverse fields.old.items)) }
+    ensures { OnOk result (Finds (tree e.now) free.old.items free.new.items fields.old.items fields.new.items) }
 {
     let Exp::NewCells(cells, body) = e else {
         unreachable!();
@@ -261,8 +254,7 @@ fn find_each(
     free: &mut Vec<u32>,
     fields: &mut Vec<List<u32>>,
 ) -> Result<(), Mem>
-    ensures free { OnOk result (reverse free.new.items ≡ found_each (trees_of es.now) (reverse free.old.items)) }
-    ensures fields { OnOk result (reverse fields.new.items ≡ fields_of_each (trees_of es.now) (reverse fields.old.items)) }
+    ensures { OnOk result (FindsEach (trees_of es.now) free.old.items free.new.items fields.old.items fields.new.items) }
 {
     let items = es.as_slice();
     let mut left = items.len();
@@ -280,8 +272,7 @@ fn find_lambda(
     free: &mut Vec<u32>,
     fields: &mut Vec<List<u32>>,
 ) -> Result<(), Mem>
-    ensures free { OnOk result (reverse free.new.items ≡ union (without l.now.first l.now.formals (found (tree l.now.body) [])) (reverse free.old.items)) }
-    ensures fields { OnOk result (reverse fields.new.items ≡ without l.now.first l.now.formals (found (tree l.now.body) []) ∷ fields_found (tree l.now.body) (reverse fields.old.items)) }
+    ensures { OnOk result (FindsLambda l.now.first l.now.formals (tree l.now.body) free.old.items free.new.items fields.old.items fields.new.items) }
 {
     let mut inside = Vec::new(alloc);
     find(alloc, &l.body, &mut inside, fields)?;
@@ -300,8 +291,7 @@ fn find_lambdas(
     free: &mut Vec<u32>,
     fields: &mut Vec<List<u32>>,
 ) -> Result<(), Mem>
-    ensures free { OnOk result (reverse free.new.items ≡ found_lambdas (lambdas_of ls.now) (reverse free.old.items)) }
-    ensures fields { OnOk result (reverse fields.new.items ≡ fields_of_lambdas (lambdas_of ls.now) (reverse fields.old.items)) }
+    ensures { OnOk result (FindsLambdas (lambdas_of ls.now) free.old.items free.new.items fields.old.items fields.new.items) }
 {
     let items = ls.as_slice();
     let mut left = items.len();

@@ -3,7 +3,9 @@
 ghost use Rattle.std.specs.Prelude.{◌≡◌, ◌≢◌, ◌+◌, ◌++◌, ◌<◌, ◌≤◌, ℕ, List, length, take, drop, IfSome, Some, None};
 ghost use Rattle.sch_insn.specs.declared.insn.Insn.{Insn};
 ghost use Rattle.sch_insn.specs.Spelling.{in_memory as in_memory_of, spelling, IsValid};
-ghost use Rattle.sch_insn.specs.Decode.{number_of_1, number_of_4, number_of_8, count_of, sib_size, arg_of, operand_of, wide_of, narrow_of, long_of, whole_word_of, rexed_of};
+ghost use Rattle.sch_insn.specs.Decode.{number_of_1, number_of_4, number_of_8, count_of, sib_size, arg_of, operand_of, wide_of, narrow_of, long_of, whole_word_of, full_of, rexed_of};
+ghost use Rattle.sch_code.specs.Forms.{is_rex as is_rex_of, jump_of, without_operand_of, far_of, near_of, at_next_of, at_base_of};
+ghost use Rattle.sch_code.specs.Forms.{number_form_of, with_number_of, number_8_form_of, with_number_of_1_of, shift_form_of, shift_of, mov_number_of, plain_form_of};
 ghost use Rattle.sch_insn.specs.Decode.{escaped_of, is_jump_if as is_jump_if_of, decode as decode_of};
 
 use sch_insn::{Arg, Insn};
@@ -47,16 +49,32 @@ fn read(bytes: &[u8]) -> Option<(Insn, usize)>
         return None;
     }
     let first = bytes[0];
-    if first / 16 == 4 && first / 2 % 2 == 0 {
+    if is_rex(first) {
         return rexed(first / 8 % 2, first / 4 % 2, first % 2, &bytes[1..]);
     }
     if first == 0x0F {
         return escaped(&bytes[1..]);
     }
-    rows! { first, &bytes[1..], 1; {
+    jump(first, &bytes[1..])
+}
+
+/// Whether a byte is REX with the bit X 0.
+#[inline(always)]
+fn is_rex(first: u8) -> bool
+    ensures { result ≡ is_rex_of first }
+{
+    first / 16 == 4 && first / 2 % 2 == 0
+}
+
+/// A jump, whose opcode is the first byte.
+#[inline(always)]
+fn jump(op: u8, bytes: &[u8]) -> Option<(Insn, usize)>
+    ensures { result ≡ jump_of op bytes.now }
+{
+    rows! { op, bytes, 1; {
         0xE9 => Insn::Jump(d), d = number + 4;
         0xEB => Insn::Jump8(d), d = number_of_1 + 1;
-        _ if is_jump_if(7, first) => Insn::JumpIf8(first % 16, d), d = number_of_1 + 1;
+        _ if is_jump_if(7, op) => Insn::JumpIf8(op % 16, d), d = number_of_1 + 1;
     } }
 }
 
@@ -95,23 +113,43 @@ fn rexed(w: u8, r: u8, b: u8, bytes: &[u8]) -> Option<(Insn, usize)>
     if bytes.is_empty() {
         return None;
     }
-    let op = bytes[0];
     if w == 0 {
-        return narrow(op, r, b, &bytes[1..]);
+        return narrow(bytes[0], r, b, &bytes[1..]);
     }
+    full(r, b, bytes)
+}
+
+/// What stands after REX with W.
+#[inline(always)]
+fn full(r: u8, b: u8, bytes: &[u8]) -> Option<(Insn, usize)>
+    requires some { 0 < length bytes.now }
+    requires r { r < 2 }
+    requires b { b < 2 }
+    ensures { result ≡ full_of r b bytes.now }
+{
+    let op = bytes[0];
     if op / 8 == 0xB8 / 8 {
         return whole_word(r, 8 * b + op % 8, &bytes[1..]);
     }
     if op == 0x99 {
-        return rows! { op, bytes, 2; {
-            0x99 if r == 0 && b == 0 => Insn::Cqo;
-        } };
+        return without_operand(r, b);
     }
     if op == 0x0F {
         return long(r, b, &bytes[1..]);
     }
     let (reg, m, size) = operand(r, b, &bytes[1..])?;
     wide(op, reg, m, size, bytes)
+}
+
+/// The one form with W that has no operand.
+fn without_operand(r: u8, b: u8) -> Option<(Insn, usize)>
+    ensures { result ≡ without_operand_of r b }
+{
+    if r == 0 && b == 0 {
+        Some((Insn::Cqo, 2))
+    } else {
+        None
+    }
 }
 
 fn whole_word(r: u8, register: u8, bytes: &[u8]) -> Option<(Insn, usize)>
@@ -154,55 +192,97 @@ fn long(r: u8, b: u8, bytes: &[u8]) -> Option<(Insn, usize)>
 }
 
 /// The forms with W and the opcode 81: a number of four bytes stands behind the operand, which takes `size` bytes.
-#[tactic(auto, unfolding(sch_insn::specs::Decode::wide_of))]
 #[inline(always)]
 fn with_number(r: u8, m: Arg, size: usize, bytes: &[u8]) -> Option<(Insn, usize)>
     requires { size + 1 ≤ length bytes.now }
-    ensures { result ≡ wide_of 0x81 r m (size + 2) (drop (size + 1) bytes.now) }
+    ensures { result ≡ with_number_of r m (size + 2) (drop (size + 1) bytes.now) }
 {
-    rows! { r, &bytes[size + 1..], size + 2; {
-        0 => Insn::AddNumber(m, n), n = number + 4;
-        1 => Insn::OrNumber(m, n), n = number + 4;
-        4 => Insn::AndNumber(m, n), n = number + 4;
-        5 => Insn::SubNumber(m, n), n = number + 4;
-        6 => Insn::XorNumber(m, n), n = number + 4;
-        7 => Insn::CmpNumber(m, n), n = number + 4;
-    } }
+    let n = number(&bytes[size + 1..])?;
+    let i = number_form(r, m, n)?;
+    Some((i, size + 6))
 }
 
-/// Those with the opcode 83: a number of one byte stands there.
-#[tactic(auto, unfolding(sch_insn::specs::Decode::wide_of))]
+/// The form with a number of four bytes that the register field of ModRM says.
+#[inline(always)]
+fn number_form(r: u8, m: Arg, n: i32) -> Option<Insn>
+    ensures { result ≡ number_form_of r m n }
+{
+    match r {
+        0 => Some(Insn::AddNumber(m, n)),
+        1 => Some(Insn::OrNumber(m, n)),
+        4 => Some(Insn::AndNumber(m, n)),
+        5 => Some(Insn::SubNumber(m, n)),
+        6 => Some(Insn::XorNumber(m, n)),
+        7 => Some(Insn::CmpNumber(m, n)),
+        _ => None,
+    }
+}
+
+/// The forms with W and the opcode 83: a number of one byte stands behind the operand, which takes `size` bytes.
 #[inline(always)]
 fn with_number_of_1(r: u8, m: Arg, size: usize, bytes: &[u8]) -> Option<(Insn, usize)>
     requires { size + 1 ≤ length bytes.now }
-    ensures { result ≡ wide_of 0x83 r m (size + 2) (drop (size + 1) bytes.now) }
+    ensures { result ≡ with_number_of_1_of r m (size + 2) (drop (size + 1) bytes.now) }
 {
-    rows! { r, &bytes[size + 1..], size + 2; {
-        0 => Insn::AddNumber8(m, n), n = number_of_1 + 1;
-        1 => Insn::OrNumber8(m, n), n = number_of_1 + 1;
-        4 => Insn::AndNumber8(m, n), n = number_of_1 + 1;
-        5 => Insn::SubNumber8(m, n), n = number_of_1 + 1;
-        6 => Insn::XorNumber8(m, n), n = number_of_1 + 1;
-        7 => Insn::CmpNumber8(m, n), n = number_of_1 + 1;
-    } }
+    let n = number_of_1(&bytes[size + 1..])?;
+    let i = number_8_form(r, m, n)?;
+    Some((i, size + 3))
 }
 
-/// Shifts, those with the opcode C1: a count stands there.
-#[tactic(auto, unfolding(sch_insn::specs::Decode::wide_of))]
+/// The form with a number of one byte that the register field of ModRM says.
+#[inline(always)]
+fn number_8_form(r: u8, m: Arg, n: i8) -> Option<Insn>
+    ensures { result ≡ number_8_form_of r m n }
+{
+    match r {
+        0 => Some(Insn::AddNumber8(m, n)),
+        1 => Some(Insn::OrNumber8(m, n)),
+        4 => Some(Insn::AndNumber8(m, n)),
+        5 => Some(Insn::SubNumber8(m, n)),
+        6 => Some(Insn::XorNumber8(m, n)),
+        7 => Some(Insn::CmpNumber8(m, n)),
+        _ => None,
+    }
+}
+
+/// Shifts, the forms with W and the opcode C1: a count stands behind the operand, which takes `size` bytes.
 #[inline(always)]
 fn shift(r: u8, m: Arg, size: usize, bytes: &[u8]) -> Option<(Insn, usize)>
     requires { size + 1 ≤ length bytes.now }
-    ensures { result ≡ wide_of 0xC1 r m (size + 2) (drop (size + 1) bytes.now) }
+    ensures { result ≡ shift_of r m (size + 2) (drop (size + 1) bytes.now) }
 {
-    rows! { r, &bytes[size + 1..], size + 2; {
-        4 => Insn::Shl(m, k), k = count + 1;
-        5 => Insn::Shr(m, k), k = count + 1;
-        7 => Insn::Sar(m, k), k = count + 1;
-    } }
+    let k = count(&bytes[size + 1..])?;
+    let i = shift_form(r, m, k)?;
+    Some((i, size + 3))
+}
+
+/// The shift that the register field of ModRM says.
+#[inline(always)]
+fn shift_form(r: u8, m: Arg, k: u8) -> Option<Insn>
+    ensures { result ≡ shift_form_of r m k }
+{
+    match r {
+        4 => Some(Insn::Shl(m, k)),
+        5 => Some(Insn::Shr(m, k)),
+        7 => Some(Insn::Sar(m, k)),
+        _ => None,
+    }
+}
+
+/// The form with W and the opcode C7: a number of four bytes stands behind the operand, which takes `size` bytes.
+#[inline(always)]
+fn mov_number(r: u8, m: Arg, size: usize, bytes: &[u8]) -> Option<(Insn, usize)>
+    requires { size + 1 ≤ length bytes.now }
+    ensures { result ≡ mov_number_of r m (size + 2) (drop (size + 1) bytes.now) }
+{
+    if r != 0 {
+        return None;
+    }
+    let n = number(&bytes[size + 1..])?;
+    Some((Insn::MovNumber(m, n), size + 6))
 }
 
 /// The forms with W and an opcode of one byte, behind which the operand takes `size` bytes.
-#[tactic(auto, unfolding(sch_insn::specs::Decode::wide_of))]
 #[inline(always)]
 fn wide(op: u8, r: u8, m: Arg, size: usize, bytes: &[u8]) -> Option<(Insn, usize)>
     requires { size + 1 ≤ length bytes.now }
@@ -212,39 +292,40 @@ fn wide(op: u8, r: u8, m: Arg, size: usize, bytes: &[u8]) -> Option<(Insn, usize
         0x81 => with_number(r, m, size, bytes),
         0x83 => with_number_of_1(r, m, size, bytes),
         0xC1 => shift(r, m, size, bytes),
-        _ => other_wide(op, r, m, size, bytes),
+        0xC7 => mov_number(r, m, size, bytes),
+        _ => {
+            let i = plain_form(op, r, m)?;
+            Some((i, size + 2))
+        }
     }
 }
 
-/// Those with another opcode.
-#[tactic(auto, unfolding(sch_insn::specs::Decode::wide_of))]
+/// The form with W and an opcode of one byte, where no number stands behind the operand.
 #[inline(always)]
-fn other_wide(op: u8, r: u8, m: Arg, size: usize, bytes: &[u8]) -> Option<(Insn, usize)>
-    requires within { size + 1 ≤ length bytes.now }
-    requires other { (op ≢ 0x81) × (op ≢ 0x83) × (op ≢ 0xC1) }
-    ensures { result ≡ wide_of op r m (size + 2) (drop (size + 1) bytes.now) }
+fn plain_form(op: u8, r: u8, m: Arg) -> Option<Insn>
+    ensures { result ≡ plain_form_of op r m }
 {
-    rows! { op, &bytes[size + 1..], size + 2; {
-        0x01 => Insn::AddTo(m, r);
-        0x03 => Insn::AddFrom(r, m);
-        0x09 => Insn::OrTo(m, r);
-        0x0B => Insn::OrFrom(r, m);
-        0x21 => Insn::AndTo(m, r);
-        0x23 => Insn::AndFrom(r, m);
-        0x29 => Insn::SubTo(m, r);
-        0x2B => Insn::SubFrom(r, m);
-        0x31 => Insn::XorTo(m, r);
-        0x33 => Insn::XorFrom(r, m);
-        0x39 => Insn::CmpTo(m, r);
-        0x3B => Insn::CmpFrom(r, m);
-        0x85 => Insn::TestTo(m, r);
-        0x89 => Insn::MovTo(m, r);
-        0x8B => Insn::MovFrom(r, m);
-        0x8D if in_memory(m) => Insn::Lea(r, m);
-        0xC7 if r == 0 => Insn::MovNumber(m, n), n = number + 4;
-        0xF7 if r == 3 => Insn::Neg(m);
-        0xF7 if r == 7 => Insn::Idiv(m);
-    } }
+    match op {
+        0x01 => Some(Insn::AddTo(m, r)),
+        0x03 => Some(Insn::AddFrom(r, m)),
+        0x09 => Some(Insn::OrTo(m, r)),
+        0x0B => Some(Insn::OrFrom(r, m)),
+        0x21 => Some(Insn::AndTo(m, r)),
+        0x23 => Some(Insn::AndFrom(r, m)),
+        0x29 => Some(Insn::SubTo(m, r)),
+        0x2B => Some(Insn::SubFrom(r, m)),
+        0x31 => Some(Insn::XorTo(m, r)),
+        0x33 => Some(Insn::XorFrom(r, m)),
+        0x39 => Some(Insn::CmpTo(m, r)),
+        0x3B => Some(Insn::CmpFrom(r, m)),
+        0x85 => Some(Insn::TestTo(m, r)),
+        0x89 => Some(Insn::MovTo(m, r)),
+        0x8B => Some(Insn::MovFrom(r, m)),
+        0x8D if in_memory(m) => Some(Insn::Lea(r, m)),
+        0xF7 if r == 3 => Some(Insn::Neg(m)),
+        0xF7 if r == 7 => Some(Insn::Idiv(m)),
+        _ => None,
+    }
 }
 
 fn in_memory(m: Arg) -> bool
@@ -279,26 +360,56 @@ fn arg(mode: u8, high: u8, low: u8, bytes: &[u8]) -> Option<(Arg, usize)>
     ensures value { result ≡ arg_of mode high low bytes.now }
 {
     let register = 8 * high + low;
-    if mode == 3 {
-        return Some((Arg::Reg(register), 0));
+    match mode {
+        3 => Some((Arg::Reg(register), 0)),
+        2 => far(register, low, bytes),
+        1 => near(register, low, bytes),
+        _ if low == 5 => at_next(high, bytes),
+        _ => at_base(register, low, bytes),
     }
-    if mode == 2 {
-        let size = sib(low, bytes)?;
-        let displacement = number(&bytes[size..])?;
-        return Some((Arg::Base32(register, displacement), size + 4));
+}
+
+/// A register and a displacement of four bytes.
+#[inline(always)]
+fn far(register: u8, low: u8, bytes: &[u8]) -> Option<(Arg, usize)>
+    ensures within { IfSome result (λ p. (p.1 ≤ length bytes.now) × (p.1 < 7)) }
+    ensures value { result ≡ far_of register low bytes.now }
+{
+    let size = sib(low, bytes)?;
+    let displacement = number(&bytes[size..])?;
+    Some((Arg::Base32(register, displacement), size + 4))
+}
+
+/// A register and a displacement of one byte.
+#[inline(always)]
+fn near(register: u8, low: u8, bytes: &[u8]) -> Option<(Arg, usize)>
+    ensures within { IfSome result (λ p. (p.1 ≤ length bytes.now) × (p.1 < 7)) }
+    ensures value { result ≡ near_of register low bytes.now }
+{
+    let size = sib(low, bytes)?;
+    let displacement = number_of_1(&bytes[size..])?;
+    Some((Arg::Base8(register, displacement), size + 1))
+}
+
+/// A displacement from the next instruction, whose bit B is 0.
+#[inline(always)]
+fn at_next(high: u8, bytes: &[u8]) -> Option<(Arg, usize)>
+    ensures within { IfSome result (λ p. (p.1 ≤ length bytes.now) × (p.1 < 7)) }
+    ensures value { result ≡ at_next_of high bytes.now }
+{
+    if high != 0 {
+        return None;
     }
-    if mode == 1 {
-        let size = sib(low, bytes)?;
-        let displacement = number_of_1(&bytes[size..])?;
-        return Some((Arg::Base8(register, displacement), size + 1));
-    }
-    if low == 5 {
-        if high != 0 {
-            return None;
-        }
-        let displacement = number(bytes)?;
-        return Some((Arg::Rip(displacement), 4));
-    }
+    let displacement = number(bytes)?;
+    Some((Arg::Rip(displacement), 4))
+}
+
+/// A register alone.
+#[inline(always)]
+fn at_base(register: u8, low: u8, bytes: &[u8]) -> Option<(Arg, usize)>
+    ensures within { IfSome result (λ p. (p.1 ≤ length bytes.now) × (p.1 < 7)) }
+    ensures value { result ≡ at_base_of register low bytes.now }
+{
     let size = sib(low, bytes)?;
     Some((Arg::Base(register), size))
 }

@@ -1,12 +1,13 @@
 //! Reads the words of a command.
 
-ghost use Rattle.std.specs.Prelude.{◌≡◌, List, ℕ, IfOk, map, Some, None, IfSome, is_some, string_bytes, if◌then◌else◌};
+ghost use Rattle.std.specs.Prelude.{◌≡◌, List, ℕ, codes, false, IfOk, map, Some, None, IfSome, is_some, string_bytes, if◌then◌else◌};
 ghost use Rattle.std.specs.Char.{is_ascii_digit};
 ghost use Rattle.std.specs.List.{list_all};
 ghost use Rattle.std.specs.Option.{option_map};
+ghost use Rattle.std.specs.Str.{bytes_eq};
 ghost use Rattle.std.specs.Str.Parse.{digits_value};
 ghost use Rattle.sch_words.specs.View.{texts_of};
-ghost use Rattle.sch_commands.specs.Command.{admitted, both_names, command, default_depth, default_heap, is_listing, is_number, number_or, only_name, program_number};
+ghost use Rattle.sch_commands.specs.Command.{admitted, both_names, command, default_depth, default_heap, is_listing, is_number, number_or, only_name, program_number, verb_of};
 ghost use Rattle.sch_commands.specs.Command.{compile_of, count_of, gen_of, limits_of, list_of, run_of, step_of, steps_of};
 ghost use Rattle.sch_commands.specs.CommandView.{command_of};
 
@@ -73,19 +74,27 @@ pub fn read_command<'a>(alloc: Global, words: &'a [String]) -> Result<Option<Com
     ensures { IfOk result (λ read. command (map string_bytes words.now) ≡ option_map command_of read) }
 {
     match read_words(alloc, words)? {
-        Some(given) => Ok(admit(given)),
+        Some(given) => Ok(admit(&given)),
         None => Ok(None),
     }
 }
 
 // The command of these texts. `compile` alone takes a listing.
-fn admit<'a>(given: Words<'a>) -> Option<Command<'a>>
-    ensures { admitted (texts_of given.entry) ≡ option_map command_of result }
+fn admit<'a>(given: &Words<'a>) -> Option<Command<'a>>
+    ensures { admitted (texts_of given.now) ≡ option_map command_of result }
 {
     let verb = given.verb?;
     if verb == "compile" {
         return admit_compile(given);
     }
+    admit_unlisted(verb, given)
+}
+
+// The command of these texts where the verb is another.
+fn admit_unlisted<'a>(verb: &str, given: &Words<'a>) -> Option<Command<'a>>
+    requires { bytes_eq verb.now (codes "compile") ≡ false }
+    ensures { verb_of verb.now (texts_of given.now) ≡ option_map command_of result }
+{
     if given.listing.is_some() {
         return None;
     }
@@ -107,8 +116,8 @@ fn admit<'a>(given: Words<'a>) -> Option<Command<'a>>
     None
 }
 
-fn admit_compile<'a>(given: Words<'a>) -> Option<Command<'a>>
-    ensures { compile_of (texts_of given.entry) ≡ option_map command_of result }
+fn admit_compile<'a>(given: &Words<'a>) -> Option<Command<'a>>
+    ensures { compile_of (texts_of given.now) ≡ option_map command_of result }
 {
     if given.steps.is_some() {
         return None;
@@ -126,8 +135,8 @@ fn admit_compile<'a>(given: Words<'a>) -> Option<Command<'a>>
     }))
 }
 
-fn admit_run<'a>(given: Words<'a>) -> Option<Command<'a>>
-    ensures { run_of (texts_of given.entry) ≡ option_map command_of result }
+fn admit_run<'a>(given: &Words<'a>) -> Option<Command<'a>>
+    ensures { run_of (texts_of given.now) ≡ option_map command_of result }
 {
     let source = only_name(given)?;
     let steps = steps_of(given)?;
@@ -139,8 +148,8 @@ fn admit_run<'a>(given: Words<'a>) -> Option<Command<'a>>
     }))
 }
 
-fn admit_step<'a>(given: Words<'a>) -> Option<Command<'a>>
-    ensures { step_of (texts_of given.entry) ≡ option_map command_of result }
+fn admit_step<'a>(given: &Words<'a>) -> Option<Command<'a>>
+    ensures { step_of (texts_of given.now) ≡ option_map command_of result }
 {
     if given.heap.is_some() || given.depth.is_some() {
         return None;
@@ -150,8 +159,8 @@ fn admit_step<'a>(given: Words<'a>) -> Option<Command<'a>>
     Some(Command::Step { image, steps })
 }
 
-fn admit_gen<'a>(given: Words<'a>) -> Option<Command<'a>>
-    ensures { gen_of (texts_of given.entry) ≡ option_map command_of result }
+fn admit_gen<'a>(given: &Words<'a>) -> Option<Command<'a>>
+    ensures { gen_of (texts_of given.now) ≡ option_map command_of result }
 {
     if given.heap.is_some() || given.depth.is_some() {
         return None;
@@ -162,8 +171,8 @@ fn admit_gen<'a>(given: Words<'a>) -> Option<Command<'a>>
     Some(Command::Generate { number, steps })
 }
 
-fn admit_list<'a>(given: Words<'a>) -> Option<Command<'a>>
-    ensures { list_of (texts_of given.entry) ≡ option_map command_of result }
+fn admit_list<'a>(given: &Words<'a>) -> Option<Command<'a>>
+    ensures { list_of (texts_of given.now) ≡ option_map command_of result }
 {
     if given.steps.is_some() {
         return None;
@@ -173,8 +182,8 @@ fn admit_list<'a>(given: Words<'a>) -> Option<Command<'a>>
     Some(Command::List { source, limits })
 }
 
-fn admit_count<'a>(given: Words<'a>) -> Option<Command<'a>>
-    ensures { count_of (texts_of given.entry) ≡ option_map command_of result }
+fn admit_count<'a>(given: &Words<'a>) -> Option<Command<'a>>
+    ensures { count_of (texts_of given.now) ≡ option_map command_of result }
 {
     let source = only_name(given)?;
     let steps = steps_of(given)?;
@@ -199,8 +208,8 @@ fn program_number(digits: &str) -> Option<u32>
 }
 
 // The name, where there is no second one.
-fn only_name<'a>(given: Words<'a>) -> Option<&'a str>
-    ensures { only_name (texts_of given.entry) ≡ option_map (λ name. name.now) result }
+fn only_name<'a>(given: &Words<'a>) -> Option<&'a str>
+    ensures { only_name (texts_of given.now) ≡ option_map (λ name. name.now) result }
 {
     if given.second.is_some() {
         return None;
@@ -210,8 +219,8 @@ fn only_name<'a>(given: Words<'a>) -> Option<&'a str>
 }
 
 // Both names, where they differ.
-fn both_names<'a>(given: Words<'a>) -> Option<(&'a str, &'a str)>
-    ensures { both_names (texts_of given.entry) ≡ option_map (λ names. (names.0.now, names.1.now)) result }
+fn both_names<'a>(given: &Words<'a>) -> Option<(&'a str, &'a str)>
+    ensures { both_names (texts_of given.now) ≡ option_map (λ names. (names.0.now, names.1.now)) result }
 {
     let name = given.name?;
     let second = given.second?;
@@ -232,8 +241,8 @@ fn is_listing(name: &str, second: &str, given: Option<&str>) -> bool
 }
 
 // The limits of a program, if they are admitted.
-fn limits_of(given: Words) -> Option<Limits>
-    ensures { limits_of (texts_of given.entry) ≡ option_map (λ limits. (limits.heap, limits.depth)) result }
+fn limits_of(given: &Words) -> Option<Limits>
+    ensures { limits_of (texts_of given.now) ≡ option_map (λ limits. (limits.heap, limits.depth)) result }
 {
     let heap = number_or(DEFAULT_HEAP, given.heap)?;
     let depth = number_or(DEFAULT_DEPTH, given.depth)?;
@@ -241,8 +250,8 @@ fn limits_of(given: Words) -> Option<Limits>
 }
 
 // The steps, if there are not too many.
-fn steps_of(given: Words) -> Option<u64>
-    ensures { steps_of (texts_of given.entry) ≡ result }
+fn steps_of(given: &Words) -> Option<u64>
+    ensures { steps_of (texts_of given.now) ≡ result }
 {
     let steps = number_or(DEFAULT_STEPS, given.steps)?;
     if steps <= MAX_STEPS {

@@ -8,7 +8,7 @@ use Rattle.sch_names.specs.ScopeView.{given_names}
 use Rattle.sch_sketch.specs.declared.sketch.Sketch as code
 use Rattle.sch_names.specs.Scope.{VariableNames}
 use Rattle.sch_sketch.specs.Draft.{local}
-use Rattle.sch_sketch.specs.Sketch.{Kind, Sketches, text, leaf, node, calling}
+use Rattle.sch_sketch.specs.Sketch.{Kind, Sketches, and_sketch, no_sketch, text, leaf, node, calling}
 use Rattle.sch_sketch.specs.SketchView.{sketch_of, sketches_of, ahead}
 use Rattle.sch_sketch.proofs.PartLists.{ahead_more, made_after}
 use Rattle.sch_form_bindings.specs.Loops.{is_step_end, are_steps, stepped, starts, step, steps, again, rounds, are_rounds, do_form}
@@ -77,6 +77,7 @@ pub again_made : (at n : ℕ) (bs : Data) (ks ks' ks0 : List code.Sketch) (k : c
     sketch_of k ≡ leaf at (local n) → n ≡ how_many bs → kind ≡ calling [] → node kind at (sketches_of ks') ≡ again at bs
 again_made at n bs ks ks' ks0 k {kind} z e h v m w = let x = made_after ks ks' ks0 k (steps at bs) z e h in rw (x, v, m, w) refl
 
-pub do_made : (at : ℕ) (bs : Data) (a : Datum) (rs es : Data) (ks ks' ks0 : List code.Sketch) (k : code.Sketch) {vs ws : VariableNames} → are_rounds bs ≡ true → ks0 ≡ [] → ks ≡ ks0 ++ k ∷ [] →
-    ((more : Sketches) → ahead ks' more ≡ ahead ks (starts bs more)) → sketch_of k ≡ rounds at bs a rs es → vs ≡ stepped bs → ws ≡ vs → node (calling ws) at (sketches_of ks') ≡ do_form at bs a rs es
-do_made at bs a rs es ks ks' ks0 k t z e h v n w = let x = made_after ks ks' ks0 k (starts bs) z e h in rw (t, x, v, w, n) refl
+pub do_made : (at : ℕ) (bs : Data) (a : Datum) (rs es : Data) (ks : List code.Sketch) (k : code.Sketch) {vs ws : VariableNames} → are_rounds bs ≡ true
+    → sketches_of ks ≡ and_sketch (sketch_of k) (starts bs no_sketch) → sketch_of k ≡ rounds at bs a rs es → vs ≡ stepped bs → ws ≡ vs
+    → node (calling ws) at (sketches_of ks) ≡ do_form at bs a rs es
+do_made at bs a rs es ks k t e v n w = rw (t, e, v, w, n) refl

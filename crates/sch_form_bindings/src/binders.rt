@@ -5,7 +5,7 @@ ghost use Rattle.sch_read.specs.Grammar.{none, cons};
 ghost use Rattle.sch_read.specs.Views.{tree_of, data_of};
 ghost use Rattle.sch_names.specs.ScopeView.{given_names};
 ghost use Rattle.sch_sketch.specs.Sketch as words;
-ghost use Rattle.sch_sketch.specs.SketchView.{sketch_of, kind_of};
+ghost use Rattle.sch_sketch.specs.SketchView.{sketch_of, sketches_of, kind_of};
 ghost use Rattle.sch_sketch.specs.Small as small;
 ghost use Rattle.sch_sketch.specs.Optional.{AreGiven};
 ghost use Rattle.sch_form_bindings.specs.Bindings.{bound, inits};
@@ -75,16 +75,45 @@ fn looping<'a>(
 ) -> Result<Sketch<'a>, Mem>
     ensures { IfOk result (λ k. sketch_of k ≡ table.looping at f.now (given_names names.entry) (data_of body.now)) }
 {
-    let mut own = List::new(alloc);
-    own.push(Some(f))?;
     let inner = one(
         alloc,
         Kind::Lambda(names, false),
         at,
         alone(Row::Body, at, body),
     )?;
+    let mut own = List::new(alloc);
+    own.push(Some(f))?;
     let made = two(alloc, Kind::Letrec(own, true), at, inner, local(at, 0))?;
     Ok(made)
+}
+
+/// One part, and the inits of bindings.
+fn then_inits<'a>(
+    alloc: Global,
+    first: Sketch<'a>,
+    items: &'a [Datum],
+) -> Result<List<Sketch<'a>>, Mem>
+    ensures { IfOk result (λ parts. sketches_of parts
+        ≡ words.and_sketch (sketch_of first.entry) (inits (data_of items.now) words.no_sketch)) }
+{
+    let mut parts = List::new(alloc);
+    parts.push(first)?;
+    add_inits(&mut parts, items)?;
+    Ok(parts)
+}
+
+/// The inits of bindings, and one part more.
+fn inits_then<'a>(
+    alloc: Global,
+    items: &'a [Datum],
+    last: Sketch<'a>,
+) -> Result<List<Sketch<'a>>, Mem>
+    ensures { IfOk result (λ parts. sketches_of parts ≡ inits (data_of items.now) (small.one (sketch_of last.entry))) }
+{
+    let mut parts = List::new(alloc);
+    add_inits(&mut parts, items)?;
+    parts.push(last)?;
+    Ok(parts)
 }
 
 /// A node over one part, and the inits of bindings.
@@ -98,11 +127,8 @@ fn and_inits<'a>(
     ensures { IfOk result (λ k. sketch_of k
         ≡ words.node (kind_of kind.entry) at (words.and_sketch (sketch_of first.entry) (inits (data_of items.now) words.no_sketch))) }
 {
-    let mut parts = List::new(alloc);
-    parts.push(first)?;
-    add_inits(&mut parts, items)?;
-    let made = node(kind, at, parts);
-    Ok(made)
+    let parts = then_inits(alloc, first, items)?;
+    Ok(node(kind, at, parts))
 }
 
 /// A node over the inits of bindings, and one part more.
@@ -116,11 +142,8 @@ fn inits_and<'a>(
     ensures { IfOk result (λ k. sketch_of k
         ≡ words.node (kind_of kind.entry) at (inits (data_of items.now) (small.one (sketch_of last.entry)))) }
 {
-    let mut parts = List::new(alloc);
-    add_inits(&mut parts, items)?;
-    parts.push(last)?;
-    let made = node(kind, at, parts);
-    Ok(made)
+    let parts = inits_then(alloc, items, last)?;
+    Ok(node(kind, at, parts))
 }
 
 /// A `let` with a name: `(let f ((v i) ..) e ..)` -> `((letrec ((f (lambda (v ..) e ..))) f) i ..)`, where each `i` is

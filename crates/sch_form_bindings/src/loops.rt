@@ -6,7 +6,7 @@ ghost use Rattle.sch_read.specs.Parts.{how_many, offset};
 ghost use Rattle.sch_read.specs.Views.{tree_of, data_of};
 ghost use Rattle.sch_names.specs.ScopeView.{given_names};
 ghost use Rattle.sch_sketch.specs.Sketch as words;
-ghost use Rattle.sch_sketch.specs.SketchView.{sketch_of, ahead};
+ghost use Rattle.sch_sketch.specs.SketchView.{sketch_of, sketches_of, ahead};
 ghost use Rattle.sch_sketch.specs.Optional.{AreGiven};
 ghost use Rattle.sch_form_bindings.specs.Bindings.{first};
 ghost use Rattle.sch_form_bindings.specs.Loops as table;
@@ -164,6 +164,16 @@ struct Parts<'a> {
     body: &'a [Datum],
 }
 
+/// The body of the procedure of a `do`: its test, its results, and the next round.
+fn round<'a>(alloc: Global, at: u32, parts: &Parts<'a>) -> Result<Sketch<'a>, Mem>
+    ensures { IfOk result (λ k. sketch_of k ≡ table.round at (data_of parts.now.bindings.now) (tree_of parts.now.test.now)
+        (data_of parts.now.results.now) (data_of parts.now.body.now)) }
+{
+    let next = next_round(alloc, at, parts.bindings, parts.body)?;
+    let made = choice(alloc, at, text(parts.test), result(at, parts.results), next)?;
+    Ok(made)
+}
+
 /// The procedure.
 fn rounds<'a>(
     alloc: Global,
@@ -175,13 +185,27 @@ fn rounds<'a>(
     ensures { IfOk result (λ k. sketch_of k ≡ table.rounds at (data_of parts.now.bindings.now) (tree_of parts.now.test.now)
         (data_of parts.now.results.now) (data_of parts.now.body.now)) }
 {
-    let next = next_round(alloc, at, parts.bindings, parts.body)?;
-    let round = choice(alloc, at, text(parts.test), result(at, parts.results), next)?;
-    let procedure = one(alloc, Kind::Lambda(names, false), at, round)?;
+    let inner = round(alloc, at, parts)?;
+    let procedure = one(alloc, Kind::Lambda(names, false), at, inner)?;
     let mut own = List::new(alloc);
     own.push(None)?;
     let made = two(alloc, Kind::Letrec(own, true), at, procedure, local(at, 0))?;
     Ok(made)
+}
+
+/// One part, and the inits of the variables of a `do`.
+fn then_starts<'a>(
+    alloc: Global,
+    first: Sketch<'a>,
+    items: &'a [Datum],
+) -> Result<List<Sketch<'a>>, Mem>
+    ensures { IfOk result (λ parts. sketches_of parts
+        ≡ words.and_sketch (sketch_of first.entry) (table.starts (data_of items.now) words.no_sketch)) }
+{
+    let mut parts = List::new(alloc);
+    parts.push(first)?;
+    add_starts(&mut parts, items)?;
+    Ok(parts)
 }
 
 /// A `do` whose parts are these.
@@ -194,9 +218,7 @@ fn do_form<'a>(alloc: Global, at: u32, parts: &Parts<'a>) -> Result<Sketch<'a>, 
     };
     let variables = List::from_slice(alloc, names.as_slice())?;
     let operator = rounds(alloc, at, names, parts)?;
-    let mut all = List::new(alloc);
-    all.push(operator)?;
-    add_starts(&mut all, parts.bindings)?;
+    let all = then_starts(alloc, operator, parts.bindings)?;
     Ok(node(Kind::Call(variables), at, all))
 }
 

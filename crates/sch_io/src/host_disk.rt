@@ -36,20 +36,6 @@ impl<'a, R: Files> HostDisk<'a, R> {
             faults: 0,
         }
     }
-
-    // What the host's error is to a reader. All but out of memory is a fault.
-    fn refuse(&mut self, error: &Error) -> DiskRead
-        ensures same { self.new.calls ≡ self.old.calls }
-        ensures later { self.old.faults ≤ self.new.faults }
-        ensures one_fault { result ≡ DiskRead.Failed → self.new.faults ≡ raised self.old.faults }
-        ensures no_fault { result ≢ DiskRead.Failed → self.new.faults ≡ self.old.faults }
-    {
-        if error.kind() == ErrorKind::OutOfMemory {
-            return DiskRead::Memory;
-        }
-        raise(&mut self.faults);
-        DiskRead::Failed
-    }
 }
 
 impl<'a, R: Files> Disk for HostDisk<'a, R> {
@@ -75,18 +61,13 @@ impl<'a, R: Files> Disk for HostDisk<'a, R> {
         ensures no_fault { ¬ IsErrOf result DiskRead.Failed → calls_failed self.new ≡ calls_failed self.old }
     {
         raise(&mut self.calls);
-        let file = match fs::open(self.host, name) {
-            Ok(file) => file,
-            Err(error) => return Err(self.refuse(&error)),
-        };
-        let mut bytes = Vec::new(alloc);
-        if let Err(error) = file.take(limit.saturating_add(1)).read_to_end(&mut bytes) {
-            return Err(self.refuse(&error));
+        match fetched(self.host, alloc, name, limit) {
+            Err(DiskRead::Failed) => {
+                raise(&mut self.faults);
+                Err(DiskRead::Failed)
+            }
+            answer => answer,
         }
-        if bytes.len() as u64 > limit {
-            return Err(DiskRead::TooLarge);
-        }
-        Ok(Bytes::from_vec(bytes))
     }
 
     fn write(&mut self, name: &str, bytes: &[u8]) -> Result<(), Failed>
@@ -108,5 +89,34 @@ impl<'a, R: Files> Disk for HostDisk<'a, R> {
                 Err(Failed)
             }
         }
+    }
+}
+
+// The bytes of a file of the host, of which there are at most `limit`.
+fn fetched<R: Files>(host: &R, alloc: Global, name: &str, limit: u64) -> Result<Bytes, DiskRead>
+    ensures { IfOk result (λ bytes. length bytes ≤ limit) }
+{
+    let file = match fs::open(host, name) {
+        Ok(file) => file,
+        Err(error) => return Err(cause(&error)),
+    };
+    let mut bytes = Vec::new(alloc);
+    if let Err(error) = file.take(limit.saturating_add(1)).read_to_end(&mut bytes) {
+        return Err(cause(&error));
+    }
+    if bytes.len() as u64 > limit {
+        return Err(DiskRead::TooLarge);
+    }
+    Ok(Bytes::from_vec(bytes))
+}
+
+// What the host's error is to a reader. All but out of memory is a failure.
+fn cause(error: &Error) -> DiskRead
+    ensures { result ≢ DiskRead.TooLarge }
+{
+    if error.kind() == ErrorKind::OutOfMemory {
+        DiskRead::Memory
+    } else {
+        DiskRead::Failed
     }
 }

@@ -2,6 +2,7 @@
 
 ghost use Rattle.std.specs.Prelude.{◌≡◌, ◌≤◌, ◌<◌, ◌+◌, ◌++◌, ◌↔◌, ◌⊎◌, [], ◌∷◌, ℕ, List, Some, None, map, length, vec_len, vec_capacity, All, IfOk, IfSome};
 ghost use Rattle.std.specs.Prelude.{IsSomeAnd, IsErr, IsErrOf, IsNone, IsOk, IsTrue, OnOk, OnErr};
+ghost use Rattle.std.specs.Bool.{OnTrue, OnFalse};
 ghost use Rattle.std.specs.Option.{option_map};
 ghost use Rattle.std.specs.FinMap.{get, empty};
 ghost use Rattle.sch_io.specs.Counters.{Rose, raised};
@@ -42,7 +43,7 @@ pub struct MemDisk {
 }
 
 impl MemDisk {
-    ghost use Rattle.sch_io.specs.InMemory.{LacksRoomFor, SameRoom, bytes_left, writes_left, calls_had, faults_had, failing_calls, fails_next, held_files, told_files};
+    ghost use Rattle.sch_io.specs.InMemory.{LacksRoomFor, bytes_left, writes_left, calls_had, faults_had, failing_calls, fails_next, held_files};
 
     /// A disk with these files, of which a later one replaces an earlier one of its name, and with room
     /// for `room` bytes of names and contents in 4,096 writes. What a replaced file held is not given
@@ -62,11 +63,7 @@ impl MemDisk {
         let room = room as usize;
         let mut text = Vec::new(alloc);
         let mut entries = Vec::new(alloc);
-        for (name, bytes) in files {
-            append(&mut text, &mut entries, name.as_slice(), bytes.as_slice())?;
-        }
-        text.reserve(room)?;
-        entries.reserve(MAX_WRITES)?;
+        fill(&mut text, &mut entries, files, room)?;
         Ok(MemDisk {
             text,
             entries,
@@ -92,6 +89,58 @@ impl MemDisk {
         ensures { IsTrue result ↔ LacksRoomFor self.now (length name.now + length bytes.now) }
     {
         self.room < name.len() || self.room - name.len() < bytes.len() || self.slots == 0
+    }
+
+    // A copy of a file's bytes, of which there are at most `limit`.
+    fn copied(&self, alloc: Global, name: &str, limit: u64) -> Result<Bytes, DiskRead>
+        ensures found { IfOk result (λ bytes. get (held_files self.now) name.now ≡ Some bytes) }
+        ensures within { IfOk result (λ bytes. length bytes ≤ limit) }
+        ensures too_large { IsErrOf result DiskRead.TooLarge
+            → IsSomeAnd (get (held_files self.now) name.now) (λ bytes. limit < length bytes) }
+        ensures failed { IsErrOf result DiskRead.Failed ↔ IsNone (get (held_files self.now) name.now) }
+    {
+        let Some(entry) = find(&self.text, &self.entries, name.as_bytes()) else {
+            return Err(DiskRead::Failed);
+        };
+        let bytes = &self.text[entry.bytes_at..entry.end];
+        if bytes.len() as u64 > limit {
+            return Err(DiskRead::TooLarge);
+        }
+        match Bytes::from_slice(alloc, bytes) {
+            Ok(bytes) => Ok(bytes),
+            Err(Mem) => Err(DiskRead::Memory),
+        }
+    }
+
+    // Counts a write, and says whether it fails, by its number or for want of room. That is then a fault.
+    fn refuses(&mut self, name: &str, bytes: &[u8]) -> bool
+        ensures fails { IsTrue result ↔ (IsTrue (fails_next self.old) ⊎ LacksRoomFor self.old (length name.now + length bytes.now)) }
+        ensures fault { OnTrue result (self.new ≡ record self.old { calls = raised self.old.calls; faults = raised self.old.faults }) }
+        ensures none { OnFalse result (self.new ≡ record self.old { calls = raised self.old.calls }) }
+        ensures later { faults_had self.old ≤ faults_had self.new }
+    {
+        let numbered = self.begin();
+        if numbered || self.lacks_room(name, bytes) {
+            raise(&mut self.faults);
+            return true;
+        }
+        false
+    }
+
+    // Adds a file for which there is room.
+    fn store(&mut self, name: &str, bytes: &[u8])
+        requires { ¬ LacksRoomFor self.old (length name.now + length bytes.now) }
+        ensures files { Replaces name.now bytes.now (held_files self.old) (held_files self.new) }
+        ensures bytes { bytes_left self.new + (length name.now + length bytes.now) ≡ bytes_left self.old }
+        ensures writes { writes_left self.new + 1 ≡ writes_left self.old }
+        ensures same { (calls_had self.new ≡ calls_had self.old) × (faults_had self.new ≡ faults_had self.old)
+            × (failing_calls self.new ≡ failing_calls self.old) }
+    {
+        if append(&mut self.text, &mut self.entries, name.as_bytes(), bytes).is_err() {
+            unreachable!();
+        }
+        self.room -= name.len() + bytes.len();
+        self.slots -= 1;
     }
 }
 
@@ -127,17 +176,12 @@ impl Disk for MemDisk {
             raise(&mut self.faults);
             return Err(DiskRead::Failed);
         }
-        let Some(entry) = find(&self.text, &self.entries, name.as_bytes()) else {
-            raise(&mut self.faults);
-            return Err(DiskRead::Failed);
-        };
-        let bytes = &self.text[entry.bytes_at..entry.end];
-        if bytes.len() as u64 > limit {
-            return Err(DiskRead::TooLarge);
-        }
-        match Bytes::from_slice(alloc, bytes) {
-            Ok(bytes) => Ok(bytes),
-            Err(Mem) => Err(DiskRead::Memory),
+        match self.copied(alloc, name, limit) {
+            Err(DiskRead::Failed) => {
+                raise(&mut self.faults);
+                Err(DiskRead::Failed)
+            }
+            answer => answer,
         }
     }
 
@@ -161,21 +205,33 @@ impl Disk for MemDisk {
         ensures kept { OnErr result (held_files self.new ≡ held_files self.old) }
         ensures failing { failing_calls self.new ≡ failing_calls self.old }
     {
-        if self.begin() {
-            raise(&mut self.faults);
+        if self.refuses(name, bytes) {
             return Err(Failed);
         }
-        if self.lacks_room(name, bytes) {
-            raise(&mut self.faults);
-            return Err(Failed);
-        }
-        if append(&mut self.text, &mut self.entries, name.as_bytes(), bytes).is_err() {
-            unreachable!();
-        }
-        self.room -= name.len() + bytes.len();
-        self.slots -= 1;
+        self.store(name, bytes);
         Ok(())
     }
+}
+
+// Adds these files, and makes room for `room` bytes more in as many writes as are taken.
+fn fill(
+    text: &mut Vec<u8>,
+    entries: &mut Vec<Entry>,
+    files: &[(Bytes, Bytes)],
+    room: usize,
+) -> Result<(), Mem>
+    requires { entries.old.items ≡ [] }
+    ensures added { OnOk result (map (file_of text.new.items) entries.new.items ≡ files.now) }
+    ensures within { OnOk result (All (LiesWithin text.new.items) entries.new.items) }
+    ensures room { OnOk result (vec_len text.new + room ≤ vec_capacity text.new) }
+    ensures writes { OnOk result (vec_len entries.new + 4096 ≤ vec_capacity entries.new) }
+{
+    for (name, bytes) in files {
+        append(text, entries, name.as_slice(), bytes.as_slice())?;
+    }
+    text.reserve(room)?;
+    entries.reserve(MAX_WRITES)?;
+    Ok(())
 }
 
 // The last entry of this name.

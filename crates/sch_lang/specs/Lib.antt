@@ -1,6 +1,7 @@
 pub mod Bodies
 pub mod Examples
 pub mod InScope
+pub mod Kinds
 pub mod Laws
 pub mod Meaning
 pub mod Measures

@@ -16,7 +16,7 @@ ghost use Rattle.sch_link_tables.specs.Room.{HasRoom, has_near_variables, have_n
 ghost use Rattle.sch_link_tables.specs.Sites.{widths, widths_of_each};
 ghost use Rattle.sch_link_tables.specs.Constants.{HasConstants, HaveConstants};
 ghost use Rattle.sch_link_tables.specs.Numbered.{first_of};
-ghost use Rattle.sch_link_drafts.specs.Kinds.{IsBind, IsBranch, IsCall, IsLetrec};
+ghost use Rattle.sch_sketch.specs.Kinds.{IsCall, IsIf, IsLet, IsLetrec};
 ghost use Rattle.sch_link_drafts.specs.Numbering.{HasFewNames, expression_with, expressions_with, literals_with};
 
 use sch_lang::Exp;
@@ -155,7 +155,7 @@ fn number_branch(
     e: &Draft<'_>,
     out: &mut Output,
 ) -> Result<Exp, Mem>
-    requires kind { IsBranch (draft_of e.now) }
+    requires kind { IsIf (draft_of e.now) }
     requires names { HasFewNames tables.now }
     requires room { HasRoom out.old (size (draft_of e.now)) }
     requires variables { has_near_variables (draft_of e.now) ≡ true }
@@ -183,7 +183,7 @@ fn number_let(
     e: &Draft<'_>,
     out: &mut Output,
 ) -> Result<Exp, Mem>
-    requires kind { IsBind (draft_of e.now) }
+    requires kind { IsLet (draft_of e.now) }
     requires names { HasFewNames tables.now }
     requires room { HasRoom out.old (size (draft_of e.now)) }
     requires variables { has_near_variables (draft_of e.now) ≡ true }

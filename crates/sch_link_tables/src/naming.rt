@@ -4,6 +4,7 @@ ghost use Rattle.std.specs.Prelude.{◌≡◌, OnOk};
 ghost use Rattle.sch_read.specs.Views.{tree_of};
 ghost use Rattle.sch_names.specs.NamesView.{names_of, with_name};
 ghost use Rattle.sch_sketch.specs.DraftView.{draft_of, drafts_of};
+ghost use Rattle.sch_sketch.specs.Kinds.{IsCall, IsIf, IsLet, IsLetrec};
 ghost use Rattle.sch_link_tables.specs.Listed.{IsListed, AreListed};
 ghost use Rattle.sch_link_tables.specs.Named.{firsts, global_of, globals_in, globals_in_each, symbols_in, symbols_in_each, symbols_at, symbols_of_datum};
 
@@ -77,31 +78,87 @@ pub fn name_draft(alloc: Global, own: &Names, e: &Draft<'_>, tables: &mut Tables
             name_draft(alloc, own, e, tables)?;
             Ok(())
         }
-        Draft::If(a, b, c) => {
-            name_draft(alloc, own, a, tables)?;
-            name_draft(alloc, own, b, tables)?;
-            name_draft(alloc, own, c, tables)?;
-            Ok(())
-        }
+        Draft::If(_, _, _) => name_if(alloc, own, e, tables),
         Draft::Seq(es) => name_each(alloc, own, es.as_slice(), tables),
-        Draft::Let(_, es, e) => {
-            name_each(alloc, own, es.as_slice(), tables)?;
-            name_draft(alloc, own, e, tables)?;
-            Ok(())
-        }
-        Draft::Letrec(_, _, es, e) => {
-            name_each(alloc, own, es.as_slice(), tables)?;
-            name_draft(alloc, own, e, tables)?;
-            Ok(())
-        }
+        Draft::Let(_, _, _) => name_let(alloc, own, e, tables),
+        Draft::Letrec(_, _, _, _) => name_letrec(alloc, own, e, tables),
         Draft::Lambda(_, _, e) => name_draft(alloc, own, e, tables),
-        Draft::Call(_, f, es) => {
-            name_draft(alloc, own, f, tables)?;
-            name_each(alloc, own, es.as_slice(), tables)?;
-            Ok(())
-        }
+        Draft::Call(_, _, _) => name_call(alloc, own, e, tables),
         Draft::Prim(_, es) => name_each(alloc, own, es.as_slice(), tables),
     }
+}
+
+/// The same for an If.
+#[cycle(naming)]
+fn name_if(alloc: Global, own: &Names, e: &Draft<'_>, tables: &mut Tables) -> Result<(), Mem>
+    requires kind { IsIf (draft_of e.now) }
+    ensures globals { OnOk result (names_of tables.new.globals.names
+        ≡ firsts (names_of tables.old.globals.names) (globals_in (names_of own.now) (draft_of e.now))) }
+    ensures symbols { OnOk result (names_of tables.new.symbols.names
+        ≡ firsts (names_of tables.old.symbols.names) (symbols_in (draft_of e.now))) }
+    ensures listed { OnOk result (AreListed tables.old → AreListed tables.new) }
+{
+    let Draft::If(test, yes, no) = e else {
+        unreachable!();
+    };
+    name_draft(alloc, own, test, tables)?;
+    name_draft(alloc, own, yes, tables)?;
+    name_draft(alloc, own, no, tables)?;
+    Ok(())
+}
+
+/// The same for a Let.
+#[cycle(naming)]
+fn name_let(alloc: Global, own: &Names, e: &Draft<'_>, tables: &mut Tables) -> Result<(), Mem>
+    requires kind { IsLet (draft_of e.now) }
+    ensures globals { OnOk result (names_of tables.new.globals.names
+        ≡ firsts (names_of tables.old.globals.names) (globals_in (names_of own.now) (draft_of e.now))) }
+    ensures symbols { OnOk result (names_of tables.new.symbols.names
+        ≡ firsts (names_of tables.old.symbols.names) (symbols_in (draft_of e.now))) }
+    ensures listed { OnOk result (AreListed tables.old → AreListed tables.new) }
+{
+    let Draft::Let(_, inits, body) = e else {
+        unreachable!();
+    };
+    name_each(alloc, own, inits.as_slice(), tables)?;
+    name_draft(alloc, own, body, tables)?;
+    Ok(())
+}
+
+/// The same for a Letrec.
+#[cycle(naming)]
+fn name_letrec(alloc: Global, own: &Names, e: &Draft<'_>, tables: &mut Tables) -> Result<(), Mem>
+    requires kind { IsLetrec (draft_of e.now) }
+    ensures globals { OnOk result (names_of tables.new.globals.names
+        ≡ firsts (names_of tables.old.globals.names) (globals_in (names_of own.now) (draft_of e.now))) }
+    ensures symbols { OnOk result (names_of tables.new.symbols.names
+        ≡ firsts (names_of tables.old.symbols.names) (symbols_in (draft_of e.now))) }
+    ensures listed { OnOk result (AreListed tables.old → AreListed tables.new) }
+{
+    let Draft::Letrec(_, _, inits, body) = e else {
+        unreachable!();
+    };
+    name_each(alloc, own, inits.as_slice(), tables)?;
+    name_draft(alloc, own, body, tables)?;
+    Ok(())
+}
+
+/// The same for a call.
+#[cycle(naming)]
+fn name_call(alloc: Global, own: &Names, e: &Draft<'_>, tables: &mut Tables) -> Result<(), Mem>
+    requires kind { IsCall (draft_of e.now) }
+    ensures globals { OnOk result (names_of tables.new.globals.names
+        ≡ firsts (names_of tables.old.globals.names) (globals_in (names_of own.now) (draft_of e.now))) }
+    ensures symbols { OnOk result (names_of tables.new.symbols.names
+        ≡ firsts (names_of tables.old.symbols.names) (symbols_in (draft_of e.now))) }
+    ensures listed { OnOk result (AreListed tables.old → AreListed tables.new) }
+{
+    let Draft::Call(_, operator, operands) = e else {
+        unreachable!();
+    };
+    name_draft(alloc, own, operator, tables)?;
+    name_each(alloc, own, operands.as_slice(), tables)?;
+    Ok(())
 }
 
 /// Adds the globals and the symbols that drafts name.

@@ -4,7 +4,7 @@ use Rattle.std.specs.Prelude.{map, reverse}
 use Rattle.std.proofs.lemmas.List.{map-append, reverse-append, reverse-reverse}
 use Rattle.sch_read.specs.Grammar.{Data, Datum, Token, Open, Close, Dot, Plain, Huge, Bad, join}
 use Rattle.sch_read.specs.Parser.Stack as machine
-use Rattle.sch_read.specs.Parser.Stack.{State, begins, is_behind_tail, is_row, put, read_dot, start, step, with_item}
+use Rattle.sch_read.specs.Parser.Stack.{State, begins, is_behind_tail, is_row, is_waiting, put, read_dot, start, step, with_datum, with_item}
 use Rattle.sch_read.specs.Views.{data_of}
 use Rattle.sch_read.specs.Parser.StackView.{stack_of, frame_of}
 use Rattle.sch_read.proofs.DataLists.{data_of_append}
@@ -51,6 +51,15 @@ put_row n d (machine.Elements at xs) fs top h = refl
 put_row n d (machine.AfterDot at xs) fs top h = cc
 put_row n d (machine.Waiting at) fs top h = cc
 put_row n d (machine.Tail at xs last) fs top h = cc
+
+-- a datum goes into a frame that is no quote
+pub put_into : (n : ℕ) (d : Datum) (f : machine.Frame) (fs : List machine.Frame) (top : Data) → is_waiting f ≡ false →
+    put n d (f ∷ fs) top ≡ record { spare = n; open_ = with_datum f d ∷ fs; top = top }
+put_into n d (machine.Items at xs) fs top h = refl
+put_into n d (machine.Elements at xs) fs top h = refl
+put_into n d (machine.AfterDot at xs) fs top h = refl
+put_into n d (machine.Tail at xs last) fs top h = refl
+put_into n d (machine.Waiting at) fs top h = cc
 
 -- the innermost frame apart, and with another in its place
 last_apart : (fs : List Frame) (i : ℕ) (x : Frame) → suc i ≡ length fs → (front : List Frame) × ((fs ≡ front ++ get_or fs i x ∷ []) × ((f : Frame) → set fs i f ≡ front ++ f ∷ []))

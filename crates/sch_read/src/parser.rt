@@ -1,6 +1,6 @@
 //! From tokens to data: one token after another, with a stack of what is open.
 
-ghost use Rattle.std.specs.Prelude.{◌≡◌, ◌+◌, ◌<◌, ◌≤◌, [], ◌∷◌, IsTrue, OnOk, reverse, vec_len};
+ghost use Rattle.std.specs.Prelude.{◌≡◌, ◌+◌, ◌<◌, ◌≤◌, [], ◌∷◌, IfOk, IsTrue, OnOk, false, reverse, vec_len};
 ghost use Rattle.sch_read.specs.Text.{max_nesting};
 
 use crate::datum::Datum;
@@ -30,7 +30,7 @@ pub(crate) enum Frame {
 }
 
 impl Frame {
-    ghost use Rattle.sch_read.specs.Parser.Stack.{is_row, is_tail, with_item};
+    ghost use Rattle.sch_read.specs.Parser.Stack.{is_row, is_tail, with_item, with_datum};
     ghost use Rattle.sch_read.specs.Parser.StackView.{frame_of};
     ghost use Rattle.sch_read.specs.Views.{tree_of};
 
@@ -60,6 +60,26 @@ impl Frame {
             _ => unreachable!(),
         }
     }
+
+    /// The frame after a datum was put into it. A list with its datum after the dot takes no other, and a quote
+    /// stays as it is.
+    #[tactic(auto, using(crate::proofs::DataLists::data_of_push))]
+    fn with_datum(self, d: Datum) -> Result<Frame, Mem>
+        ensures { IfOk result (λ frame. frame_of frame ≡ with_datum (frame_of self) (tree_of d)) }
+    {
+        match self {
+            Frame::Items(at, mut items) => {
+                items.push(d)?;
+                Ok(Frame::Items(at, items))
+            }
+            Frame::AfterDot(at, items) => Ok(Frame::Tail(at, items.reversed(), d)),
+            Frame::Elements(at, mut items) => {
+                items.push(d)?;
+                Ok(Frame::Elements(at, items))
+            }
+            frame => Ok(frame),
+        }
+    }
 }
 
 /// The levels that may still be opened, what is open, the innermost last, and the data before.
@@ -73,8 +93,8 @@ pub(crate) struct Parser {
 }
 
 impl Parser {
-    ghost use Rattle.sch_read.specs.Parser.Stack.{put, shut, start, in_list, in_vector, in_tail, at_top, read_dot, step, is_behind_tail};
-    ghost use Rattle.sch_read.specs.Grammar.{none, Open};
+    ghost use Rattle.sch_read.specs.Parser.Stack.{is_waiting, put, shut, start, in_list, in_vector, in_tail, at_top, read_dot, step, is_behind_tail};
+    ghost use Rattle.sch_read.specs.Grammar.{none, Open, with_tail};
     ghost use Rattle.sch_read.specs.Views.{tree_of, data_of};
     ghost use Rattle.sch_read.specs.Parser.StackView.{state_of, stack_of, frame_of, StepsTo};
     ghost use Rattle.sch_read.specs.Lexer.TokenView.{token_of, placed_of, opener_of};
@@ -111,32 +131,27 @@ impl Parser {
         let mut d = d;
         while let Some(frame) = self.frames.pop() {
             match frame {
-                Frame::Items(at, mut items) => {
-                    items.push(d)?;
-                    self.frames.push(Frame::Items(at, items))?;
-                    return Ok(());
-                }
-                Frame::AfterDot(at, items) => {
-                    self.frames.push(Frame::Tail(at, items.reversed(), d))?;
-                    return Ok(());
-                }
-                Frame::Tail(at, items, last) => {
-                    self.frames.push(Frame::Tail(at, items, last))?;
-                    return Ok(());
-                }
-                Frame::Elements(at, mut items) => {
-                    items.push(d)?;
-                    self.frames.push(Frame::Elements(at, items))?;
-                    return Ok(());
-                }
                 Frame::Waiting(at) => {
                     d = quote(self.alloc, at, d)?;
                     self.spare += 1;
                 }
+                frame => return self.put_into(frame, d),
             }
         }
         self.top.push(d)?;
         Ok(())
+    }
+
+    /// Puts a datum into a frame that was the innermost and is no quote.
+    #[tactic(auto, using(crate::proofs::FrameStack::put_into))]
+    fn put_into(&mut self, frame: Frame, d: Datum) -> Result<(), Mem>
+        requires room { self.old.spare + vec_len self.old.frames < max_nesting }
+        requires kind { is_waiting (frame_of frame) ≡ false }
+        ensures { OnOk result (state_of self.new ≡ put self.old.spare (tree_of d)
+            (frame_of frame ∷ stack_of self.old.frames.items) (data_of self.old.top)) }
+    {
+        let frame = frame.with_datum(d)?;
+        self.push(frame)
     }
 
     /// A token where a datum may begin.
@@ -288,19 +303,23 @@ impl Parser {
         match self.frames.pop() {
             Some(Frame::AfterDot(at, before)) => {
                 let items = append_reversed(before, items)?;
-                self.frames.push(Frame::Tail(at, items, last))?;
-                Ok(())
+                self.push(Frame::Tail(at, items, last))
             }
             Some(frame) => {
-                self.frames.push(frame)?;
-                let whole = tailed(self.alloc, place, items.reversed(), last)?;
-                self.put(whole)
+                self.push(frame)?;
+                self.put_tailed(place, items, last)
             }
-            None => {
-                let whole = tailed(self.alloc, place, items.reversed(), last)?;
-                self.put(whole)
-            }
+            None => self.put_tailed(place, items, last),
         }
+    }
+
+    /// Puts the list at `place` with its datum after the dot. Its items stand turned round.
+    fn put_tailed(&mut self, place: u32, items: List<Datum>, last: Datum) -> Result<(), Mem>
+        ensures { OnOk result (state_of self.new ≡ put self.old.spare (with_tail place (data_of (reverse items)) (tree_of last))
+            (stack_of self.old.frames.items) (data_of self.old.top)) }
+    {
+        let whole = tailed(self.alloc, place, items.reversed(), last)?;
+        self.put(whole)
     }
 
     /// Whether the innermost is a list with the datum after its dot.

@@ -107,19 +107,28 @@ fn place(frame: &Frame) -> u32
 }
 
 /// The bytes of the text, one after another, and what its end makes whole.
-fn read_text(alloc: Global, text: &[u8]) -> Result<List<Datum>, ReadError>
+fn feed_all(parser: &mut Parser, text: &[u8]) -> Result<(), ReadError>
     requires { length text.now < 2 ^ 32 }
-    ensures { Gives data_of result (run max_nesting [] none (scan 0 [] text.now)) }
+    ensures ok { OnOk result (runs (state_of parser.old) (scan 0 [] text.now) ≡ runs (state_of parser.new) []) }
+    ensures err { IfErr result (λ e. Fails e (runs (state_of parser.old) (scan 0 [] text.now))) }
 {
-    let mut parser = Parser::new(alloc);
     let mut lexeme = Lexeme {
         start: 0,
         stage: Stage::Start,
     };
     'each: for i in 0..text.len() {
-        lexeme = turn(&mut parser, text, lexeme, i)?;
+        lexeme = turn(parser, text, lexeme, i)?;
     }
-    feed_last(&mut parser, text, lexeme)?;
+    feed_last(parser, text, lexeme)
+}
+
+/// What the text gives to a parser that has read nothing.
+fn read_text(alloc: Global, text: &[u8]) -> Result<List<Datum>, ReadError>
+    requires { length text.now < 2 ^ 32 }
+    ensures { Gives data_of result (run max_nesting [] none (scan 0 [] text.now)) }
+{
+    let mut parser = Parser::new(alloc);
+    feed_all(&mut parser, text)?;
     end_of(parser)
 }
 

@@ -1,8 +1,9 @@
 -- What loops over expressions and lambdas have made and have left.
-use Rattle.std.proofs.Common.{◌≡◌, ℕ, zero, suc, ◌+◌, ◌-◌, ◌<◌, ◌≤◌, List, [], ◌∷◌, ◌++◌, length, reverse, drop, get_or, refl, ap, ◌∙◌, sym, subst, arith, add-one}
-use Rattle.std.proofs.lemmas.List.{get_or-reverse, reverse-append}
+use Rattle.std.proofs.Common.{◌≡◌, ℕ, zero, suc, ◌+◌, ◌-◌, ◌<◌, ◌≤◌, List, [], ◌∷◌, ◌++◌, length, reverse, take, drop, get_or, refl, ap, ◌∙◌, sym, subst, arith, add-one}
+use Rattle.std.proofs.lemmas.List.{get_or-reverse, reverse-append, drop_all}
 use Rattle.sch_lang.specs.declared.tree.Exp.{Exp}
 use Rattle.sch_lang.specs.declared.tree.Lambda.{Lambda}
+use Rattle.sch_lang.specs.Tree as lang
 use Rattle.sch_lang.specs.Tree.{Source, count}
 use Rattle.sch_lang.specs.View.{expression, expressions_of, lambdas_of, function}
 use Rattle.sch_lang.proofs.ListViews.{expressions_of_list, lambdas_of_list, left, left_lambdas}
@@ -15,7 +16,7 @@ use Rattle.sch_cells.specs.Tree as cells
 use Rattle.sch_cells.specs.Tree.{Trees, no_trees, no_lambdas, and_lambda}
 use Rattle.sch_cells.specs.View.{tree, trees_of, function as cells_function, lambdas_of as cells_lambdas_of}
 use Rattle.sch_cells.proofs.Rows.{and_then, and_then_lambda, trees_onto, lambdas_onto}
-use Rattle.sch_rename.specs.Made.{number_at, binds, binds_each, binds_lambdas, renamed, renamed_each, renamed_function, renamed_lambdas, renamed_source}
+use Rattle.sch_rename.specs.Made.{number_at, binds, binds_each, binds_lambdas, renamed, renamed_each, renamed_function, renamed_lambdas, renamed_source, Renames, RenamesEach, RenamesLambda, RenamesLambdas}
 use Rattle.sch_lang.specs.InScope.{EachInScope, LambdasInScope}
 use Rattle.sch_word.specs.trees.Bindings.{scope_with}
 use Rattle.sch_word.specs.trees.Walk.{onto}
@@ -97,6 +98,89 @@ pub lambdas_end : (s : List ℕ) (items es : List Lambda) (i : ℕ) (all : List 
     onto and_then_lambda all (renamed_lambdas (left_lambdas (drop i items)) s' x) ≡ renamed_lambdas (lambdas_of items) s start → cells_lambdas_of all ≡ renamed_lambdas (lambdas_of es) s start
 lambdas_end s items es i all s' x start h l k =
     lambdas_onto all ∙ end_made items i and_then_lambda (λ es n. renamed_lambdas (left_lambdas es) s' n) all x (renamed_lambdas (lambdas_of items) s start) no_lambdas l refl k ∙ ap (λ l. renamed_lambdas (lambdas_of l) s start) h
+
+pub each_renames : (s : List ℕ) (items es : List Exp) (i : ℕ) (all : List to.Exp) (s' : List ℕ) (x start : ℕ) → items ≡ es → length items ≤ i →
+    onto and_then all (renamed_each (left (drop i items)) (reverse s') x) ≡ renamed_each (expressions_of items) (reverse s) start →
+    x + binds_each (left (drop i items)) ≡ start + binds_each (expressions_of items) → s' ≡ s → RenamesEach (expressions_of es) s s' start x (trees_of all)
+each_renames s items es i all s' x start h l k n same =
+    let n' = rw (drop_all i items l) at n in
+    record {
+      made = each_end (reverse s) items es i all (reverse s') x start h l k;
+      next = omega (arith, n', ap (λ l. binds_each (expressions_of l)) h);
+      scope = same;
+    }
+
+pub lambdas_rename : (s : List ℕ) (items es : List Lambda) (i : ℕ) (all : List to_lambda.Lambda) (s' : List ℕ) (x start : ℕ) → items ≡ es → length items ≤ i →
+    onto and_then_lambda all (renamed_lambdas (left_lambdas (drop i items)) (reverse s') x) ≡ renamed_lambdas (lambdas_of items) (reverse s) start →
+    x + binds_lambdas (left_lambdas (drop i items)) ≡ start + binds_lambdas (lambdas_of items) → s' ≡ s → RenamesLambdas (lambdas_of es) s s' start x (cells_lambdas_of all)
+lambdas_rename s items es i all s' x start h l k n same =
+    let n' = rw (drop_all i items l) at n in
+    record {
+      made = lambdas_end (reverse s) items es i all (reverse s') x start h l k;
+      next = omega (arith, n', ap (λ l. binds_lambdas (lambdas_of l)) h);
+      scope = same;
+    }
+
+-- ## Nodes that bind
+
+restored : (a b c final : List ℕ) (n : ℕ) → take (length a) b ≡ a → c ≡ b → n ≡ length a → final ≡ take n c → final ≡ a
+restored a b c final n kept same l t = t ∙ ap (λ m. take m c) l ∙ ap (take (length a)) same ∙ kept
+
+pub let_renames : (site : ℕ) (es : lang.Expressions) (e : lang.Expression) (scope a b c final : List ℕ) (x x1 x2 x3 n depth : ℕ) (qs : Trees) (q : cells.Tree) → n ≡ count es → x1 ≡ x + n →
+    RenamesEach es scope a x1 x2 qs → reverse b ≡ scope_with x n (reverse a) → take (length a) b ≡ a → depth ≡ length a → Renames e b c x2 x3 q → final ≡ take depth c →
+    Renames (lang.bind site es e) scope final x x3 (cells.bind site x qs q)
+let_renames site es e scope a b c final x x1 x2 x3 n depth qs q m f r names kept len s t =
+    let inside = scope_with x (count es) (reverse scope) in
+    let p = r.made ∙ ap (renamed_each es (reverse scope)) (f ∙ ap (λ k. x + k) m) in
+    let here : reverse b ≡ inside = names ∙ ap (λ y. scope_with x n (reverse y)) r.scope ∙ ap (λ k. scope_with x k (reverse scope)) m in
+    let then : x2 ≡ x + count es + binds_each es = omega (arith, f, m, r.next) in
+    let w = s.made ∙ ap (λ z. renamed e z x2) here ∙ ap (renamed e inside) then in
+    record {
+      made = ap (λ u. cells.bind site x u q) p ∙ ap (λ u. cells.bind site x (renamed_each es (reverse scope) (x + count es)) u) w;
+      next = omega (arith, then, s.next);
+      scope = restored a b c final depth kept s.scope len t ∙ r.scope;
+    }
+
+pub fix_renames : (ls : lang.Lambdas) (e : lang.Expression) (scope b c d final : List ℕ) (x x1 x2 x3 n depth : ℕ) (qs : cells.Lambdas) (q : cells.Tree) → n ≡ lang.count_lambdas ls → x1 ≡ x + n →
+    depth ≡ length scope → reverse b ≡ scope_with x n (reverse scope) → take (length scope) b ≡ scope → RenamesLambdas ls b c x1 x2 qs → Renames e c d x2 x3 q → final ≡ take depth d →
+    Renames (lang.fix ls e) scope final x x3 (cells.fix x qs q)
+fix_renames ls e scope b c d final x x1 x2 x3 n depth qs q m f len names kept r s t =
+    let inside = scope_with x (lang.count_lambdas ls) (reverse scope) in
+    let here : reverse b ≡ inside = names ∙ ap (λ k. scope_with x k (reverse scope)) m in
+    let p = r.made ∙ ap (λ z. renamed_lambdas ls z x1) here ∙ ap (renamed_lambdas ls inside) (f ∙ ap (λ k. x + k) m) in
+    let then : x2 ≡ x + lang.count_lambdas ls + binds_lambdas ls = omega (arith, f, m, r.next) in
+    let w = s.made ∙ ap (λ z. renamed e (reverse z) x2) r.scope ∙ ap (λ z. renamed e z x2) here ∙ ap (renamed e inside) then in
+    record {
+      made = ap (λ u. cells.fix x u q) p ∙ ap (λ u. cells.fix x (renamed_lambdas ls inside (x + lang.count_lambdas ls)) u) w;
+      next = omega (arith, then, s.next);
+      scope = restored scope b d final depth kept (s.scope ∙ r.scope) len t;
+    }
+
+pub rec_renames : (site : ℕ) (es : lang.Expressions) (e : lang.Expression) (scope b c d final : List ℕ) (x x1 x2 x3 n depth : ℕ) (qs : Trees) (q : cells.Tree) → n ≡ count es → x1 ≡ x + n →
+    depth ≡ length scope → reverse b ≡ scope_with x n (reverse scope) → take (length scope) b ≡ scope → RenamesEach es b c x1 x2 qs → Renames e c d x2 x3 q → final ≡ take depth d →
+    Renames (lang.letrec site es e) scope final x x3 (cells.letrec site x qs q)
+rec_renames site es e scope b c d final x x1 x2 x3 n depth qs q m f len names kept r s t =
+    let inside = scope_with x (count es) (reverse scope) in
+    let here : reverse b ≡ inside = names ∙ ap (λ k. scope_with x k (reverse scope)) m in
+    let p = r.made ∙ ap (λ z. renamed_each es z x1) here ∙ ap (renamed_each es inside) (f ∙ ap (λ k. x + k) m) in
+    let then : x2 ≡ x + count es + binds_each es = omega (arith, f, m, r.next) in
+    let w = s.made ∙ ap (λ z. renamed e (reverse z) x2) r.scope ∙ ap (λ z. renamed e z x2) here ∙ ap (renamed e inside) then in
+    record {
+      made = ap (λ u. cells.letrec site x u q) p ∙ ap (λ u. cells.letrec site x (renamed_each es inside (x + count es)) u) w;
+      next = omega (arith, then, s.next);
+      scope = restored scope b d final depth kept (s.scope ∙ r.scope) len t;
+    }
+
+pub lambda_renames : (f : lang.Function) (scope b c final : List ℕ) (x x2 depth : ℕ) (name : List ℕ) (body : cells.Tree) → depth ≡ length scope → reverse b ≡ scope_with x f.formals (reverse scope) →
+    take (length scope) b ≡ scope → Renames f.body b c (x + f.formals) x2 body → final ≡ take depth c → name ≡ f.name →
+    RenamesLambda f scope final x x2 (record { name = name; first = x; formals = f.formals; rest = f.rest; body = body })
+lambda_renames f scope b c final x x2 depth name body len names kept r t same =
+    let w = r.made ∙ ap (λ z. renamed f.body z (x + f.formals)) names in
+    record {
+      made = rw (same, w) refl;
+      next = omega (arith, r.next);
+      scope = restored scope b c final depth kept r.scope len t;
+    }
 
 -- ## The whole program, from what its parts are
 

@@ -1,5 +1,5 @@
 -- What the pass makes of a core tree: the same tree, in which each variable has a number of its own.
-use Rattle.std.specs.Prelude.{ℕ, zero, suc, ◌+◌, false, List, [], ◌∷◌}
+use Rattle.std.specs.Prelude.{◌≡◌, ℕ, zero, suc, ◌+◌, false, List, [], ◌∷◌, reverse}
 use Rattle.sch_lang.specs.Tree.{Expression, Expressions, Lambdas, Function, Source, constant, literal, local, global, set_local, set_global, define, branch, sequence, bind, fix, letrec, lambda, call, operation, no_expressions, and_expression, no_lambdas, and_lambda, count, count_lambdas}
 use Rattle.sch_cells.specs.Tree as to
 use Rattle.sch_word.specs.trees.Bindings.{scope_with}
@@ -87,4 +87,33 @@ renamed_source p = record {
   forms = renamed_each p.forms [] (binds_lambdas p.library);
   sites = p.sites;
   variables = binds_lambdas p.library + binds_each p.forms;
+}
+
+-- What a walk has made, and how the scope and the next number stand before and after it.
+abbrev pub Renames : Expression → (scope scope' : List ℕ) → (x x' : ℕ) → to.Tree → Type 0
+Renames e scope scope' x x' q = record {
+  made : q ≡ renamed e (reverse scope) x;
+  next : x' ≡ x + binds e;
+  scope : scope' ≡ scope;
+}
+
+abbrev pub RenamesEach : Expressions → (scope scope' : List ℕ) → (x x' : ℕ) → to.Trees → Type 0
+RenamesEach es scope scope' x x' qs = record {
+  made : qs ≡ renamed_each es (reverse scope) x;
+  next : x' ≡ x + binds_each es;
+  scope : scope' ≡ scope;
+}
+
+abbrev pub RenamesLambda : Function → (scope scope' : List ℕ) → (x x' : ℕ) → to.Function → Type 0
+RenamesLambda f scope scope' x x' q = record {
+  made : q ≡ renamed_function f (reverse scope) x;
+  next : x' ≡ x + (f.formals + binds f.body);
+  scope : scope' ≡ scope;
+}
+
+abbrev pub RenamesLambdas : Lambdas → (scope scope' : List ℕ) → (x x' : ℕ) → to.Lambdas → Type 0
+RenamesLambdas ls scope scope' x x' qs = record {
+  made : qs ≡ renamed_lambdas ls (reverse scope) x;
+  next : x' ≡ x + binds_lambdas ls;
+  scope : scope' ≡ scope;
 }

@@ -6,8 +6,8 @@ ghost use Rattle.sch_lang.specs.Tree as source;
 ghost use Rattle.sch_lang.specs.View.{expression, expressions_of, function, lambdas_of};
 ghost use Rattle.sch_cells.specs.View as view;
 ghost use Rattle.sch_lang.specs.InScope.{InScope, EachInScope, LambdasInScope};
-ghost use Rattle.sch_rename.specs.Kinds.{IsIf, IsLet, IsFix, IsRec, IsCall};
-ghost use Rattle.sch_rename.specs.Made.{number_at, binds, binds_each, binds_lambdas, renamed, renamed_each, renamed_function, renamed_lambdas};
+ghost use Rattle.sch_lang.specs.Kinds.{IsIf, IsLet, IsFix, IsRec, IsCall};
+ghost use Rattle.sch_rename.specs.Made.{number_at, binds, binds_each, binds_lambdas, Renames, RenamesEach, RenamesLambda, RenamesLambdas};
 
 use sch_cells as cells;
 use sch_lang::{Exp, Lambda};
@@ -64,9 +64,7 @@ fn rename_expression(
 ) -> Result<cells::Exp, Mem>
     requires inside { InScope (expression e.now) (length scope.old.items) }
     requires few { next.old + binds (expression e.now) < 2 ^ 32 }
-    ensures made { IfOk result (λ q. view.tree q ≡ renamed (expression e.now) (reverse scope.old.items) next.old) }
-    ensures next { OnOk result (next.new ≡ next.old + binds (expression e.now)) }
-    ensures scope { OnOk result (scope.new.items ≡ scope.old.items) }
+    ensures { IfOk result (λ q. Renames (expression e.now) scope.old.items scope.new.items next.old next.new (view.tree q)) }
 {
     match e {
         Exp::Constant(c) => Ok(cells::Exp::Constant(*c)),
@@ -118,9 +116,7 @@ fn rename_if(
     requires kind { IsIf (expression e.now) }
     requires inside { InScope (expression e.now) (length scope.old.items) }
     requires few { next.old + binds (expression e.now) < 2 ^ 32 }
-    ensures made { IfOk result (λ q. view.tree q ≡ renamed (expression e.now) (reverse scope.old.items) next.old) }
-    ensures next { OnOk result (next.new ≡ next.old + binds (expression e.now)) }
-    ensures scope { OnOk result (scope.new.items ≡ scope.old.items) }
+    ensures { IfOk result (λ q. Renames (expression e.now) scope.old.items scope.new.items next.old next.new (view.tree q)) }
 {
     let Exp::If(test, yes, no) = e else {
         unreachable!();
@@ -143,9 +139,7 @@ fn rename_let(
     requires kind { IsLet (expression e.now) }
     requires inside { InScope (expression e.now) (length scope.old.items) }
     requires few { next.old + binds (expression e.now) < 2 ^ 32 }
-    ensures made { IfOk result (λ q. view.tree q ≡ renamed (expression e.now) (reverse scope.old.items) next.old) }
-    ensures next { OnOk result (next.new ≡ next.old + binds (expression e.now)) }
-    ensures scope { OnOk result (scope.new.items ≡ scope.old.items) }
+    ensures { IfOk result (λ q. Renames (expression e.now) scope.old.items scope.new.items next.old next.new (view.tree q)) }
 {
     let Exp::Let(site, inits, body) = e else {
         unreachable!();
@@ -178,9 +172,7 @@ fn rename_fix(
     requires kind { IsFix (expression e.now) }
     requires inside { InScope (expression e.now) (length scope.old.items) }
     requires few { next.old + binds (expression e.now) < 2 ^ 32 }
-    ensures made { IfOk result (λ q. view.tree q ≡ renamed (expression e.now) (reverse scope.old.items) next.old) }
-    ensures next { OnOk result (next.new ≡ next.old + binds (expression e.now)) }
-    ensures scope { OnOk result (scope.new.items ≡ scope.old.items) }
+    ensures { IfOk result (λ q. Renames (expression e.now) scope.old.items scope.new.items next.old next.new (view.tree q)) }
 {
     let Exp::Fix(lambdas, body) = e else {
         unreachable!();
@@ -212,9 +204,7 @@ fn rename_rec(
     requires kind { IsRec (expression e.now) }
     requires inside { InScope (expression e.now) (length scope.old.items) }
     requires few { next.old + binds (expression e.now) < 2 ^ 32 }
-    ensures made { IfOk result (λ q. view.tree q ≡ renamed (expression e.now) (reverse scope.old.items) next.old) }
-    ensures next { OnOk result (next.new ≡ next.old + binds (expression e.now)) }
-    ensures scope { OnOk result (scope.new.items ≡ scope.old.items) }
+    ensures { IfOk result (λ q. Renames (expression e.now) scope.old.items scope.new.items next.old next.new (view.tree q)) }
 {
     let Exp::Rec(site, inits, body) = e else {
         unreachable!();
@@ -247,9 +237,7 @@ fn rename_call(
     requires kind { IsCall (expression e.now) }
     requires inside { InScope (expression e.now) (length scope.old.items) }
     requires few { next.old + binds (expression e.now) < 2 ^ 32 }
-    ensures made { IfOk result (λ q. view.tree q ≡ renamed (expression e.now) (reverse scope.old.items) next.old) }
-    ensures next { OnOk result (next.new ≡ next.old + binds (expression e.now)) }
-    ensures scope { OnOk result (scope.new.items ≡ scope.old.items) }
+    ensures { IfOk result (λ q. Renames (expression e.now) scope.old.items scope.new.items next.old next.new (view.tree q)) }
 {
     let Exp::Call(site, operator, operands) = e else {
         unreachable!();
@@ -275,9 +263,7 @@ fn rename_boxed(
 ) -> Result<Box<cells::Exp>, Mem>
     requires inside { InScope (expression e.now.value) (length scope.old.items) }
     requires few { next.old + binds (expression e.now.value) < 2 ^ 32 }
-    ensures made { IfOk result (λ q. view.tree q.value ≡ renamed (expression e.now.value) (reverse scope.old.items) next.old) }
-    ensures next { OnOk result (next.new ≡ next.old + binds (expression e.now.value)) }
-    ensures scope { OnOk result (scope.new.items ≡ scope.old.items) }
+    ensures { IfOk result (λ q. Renames (expression e.now.value) scope.old.items scope.new.items next.old next.new (view.tree q.value)) }
 {
     let e = rename_expression(alloc, e, scope, next)?;
     Ok(Box::new(alloc, e)?)
@@ -294,9 +280,7 @@ pub(crate) fn rename_each(
 ) -> Result<List<cells::Exp>, Mem>
     requires inside { EachInScope (expressions_of es.now) (length scope.old.items) }
     requires few { next.old + binds_each (expressions_of es.now) < 2 ^ 32 }
-    ensures made { IfOk result (λ qs. view.trees_of qs ≡ renamed_each (expressions_of es.now) (reverse scope.old.items) next.old) }
-    ensures next { OnOk result (next.new ≡ next.old + binds_each (expressions_of es.now)) }
-    ensures scope { OnOk result (scope.new.items ≡ scope.old.items) }
+    ensures { IfOk result (λ qs. RenamesEach (expressions_of es.now) scope.old.items scope.new.items next.old next.new (view.trees_of qs)) }
 {
     let mut all = List::from_vec(Vec::with_capacity(alloc, es.len())?);
     for e in es.as_slice() {
@@ -316,9 +300,7 @@ fn rename_lambda(
 ) -> Result<cells::Lambda, Mem>
     requires inside { InScope (expression l.now.body) (length scope.old.items + l.now.formals) }
     requires few { next.old + (l.now.formals + binds (expression l.now.body)) < 2 ^ 32 }
-    ensures made { IfOk result (λ q. view.function q ≡ renamed_function (function l.now) (reverse scope.old.items) next.old) }
-    ensures next { OnOk result (next.new ≡ next.old + (l.now.formals + binds (expression l.now.body))) }
-    ensures scope { OnOk result (scope.new.items ≡ scope.old.items) }
+    ensures { IfOk result (λ q. RenamesLambda (function l.now) scope.old.items scope.new.items next.old next.new (view.function q)) }
 {
     let first = *next;
     *next += l.formals;
@@ -347,9 +329,7 @@ pub(crate) fn rename_lambdas(
 ) -> Result<List<cells::Lambda>, Mem>
     requires inside { LambdasInScope (lambdas_of ls.now) (length scope.old.items) }
     requires few { next.old + binds_lambdas (lambdas_of ls.now) < 2 ^ 32 }
-    ensures made { IfOk result (λ qs. view.lambdas_of qs ≡ renamed_lambdas (lambdas_of ls.now) (reverse scope.old.items) next.old) }
-    ensures next { OnOk result (next.new ≡ next.old + binds_lambdas (lambdas_of ls.now)) }
-    ensures scope { OnOk result (scope.new.items ≡ scope.old.items) }
+    ensures { IfOk result (λ qs. RenamesLambdas (lambdas_of ls.now) scope.old.items scope.new.items next.old next.new (view.lambdas_of qs)) }
 {
     let mut all = List::from_vec(Vec::with_capacity(alloc, ls.len())?);
     for l in ls.as_slice() {

@@ -7,7 +7,7 @@ use Rattle.sch_sketch.specs.declared.sketch.Sketch as code
 use Rattle.sch_sketch.specs.Sketch.{Sketches, and_sketch, no_sketch}
 use Rattle.sch_sketch.specs.Sketch as words
 use Rattle.sch_sketch.specs.SketchView.{sketch_of, sketches_of, ahead}
-use Rattle.sch_sketch.specs.Small.{texts, two, three}
+use Rattle.sch_sketch.specs.Small.{texts}
 
 pub ahead_more : (ks : List code.Sketch) (k : code.Sketch) (more : Sketches) → ahead (ks ++ k ∷ []) more ≡ ahead ks (and_sketch (sketch_of k) more)
 ahead_more [] k more = refl
@@ -35,10 +35,3 @@ made_after ks ks' ks0 k F z e h = sym (ahead_none ks') ∙ (h no_sketch ∙ ap (
 
 pub pushed : (ks ks' : List code.Sketch) (k : code.Sketch) {p : words.Sketch} → ks' ≡ ks ++ k ∷ [] → sketch_of k ≡ p → (more : Sketches) → ahead ks' more ≡ ahead ks (and_sketch p more)
 pushed ks ks' k e v more = rw (e, ahead_more, v) refl
-
-pub made_two : (ks ks' ks0 : List code.Sketch) (a b : code.Sketch) → ks0 ≡ [] → ks ≡ ks0 ++ a ∷ [] → ks' ≡ ks ++ b ∷ [] → sketches_of ks' ≡ two (sketch_of a) (sketch_of b)
-made_two ks ks' ks0 a b z e f = rw (f, e, z) refl
-
-pub made_three : (ks ks' ks'' ks0 : List code.Sketch) (a b c : code.Sketch) → ks0 ≡ [] → ks ≡ ks0 ++ a ∷ [] → ks' ≡ ks ++ b ∷ [] → ks'' ≡ ks' ++ c ∷ [] →
-    sketches_of ks'' ≡ three (sketch_of a) (sketch_of b) (sketch_of c)
-made_three ks ks' ks'' ks0 a b c z e f g = rw (g, f, e, z) refl

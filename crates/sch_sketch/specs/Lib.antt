@@ -2,6 +2,7 @@ pub mod Draft
 pub mod DraftMeasures
 pub mod DraftView
 pub mod Sketch
+pub mod Kinds
 pub mod SketchView
 pub mod Small
 pub mod FreeWords

@@ -113,9 +113,8 @@ fn room<'a>(alloc: Global, count: usize) -> Result<List<Sketch<'a>>, Mem>
 pub fn one<'a>(alloc: Global, kind: Kind<'a>, at: u32, a: Sketch<'a>) -> Result<Sketch<'a>, Mem>
     ensures { IfOk result (λ k. sketch_of k ≡ words.node (kind_of kind.entry) at (small.one (sketch_of a.entry))) }
 {
-    let mut parts = room(alloc, 1)?;
-    parts.push(a)?;
-    Ok(node(kind, at, parts))
+    let parts = vec![in alloc; a]?;
+    Ok(node(kind, at, List::from_vec(parts)))
 }
 
 pub fn two<'a>(
@@ -127,10 +126,8 @@ pub fn two<'a>(
 ) -> Result<Sketch<'a>, Mem>
     ensures { IfOk result (λ k. sketch_of k ≡ words.node (kind_of kind.entry) at (small.two (sketch_of a.entry) (sketch_of b.entry))) }
 {
-    let mut parts = room(alloc, 2)?;
-    parts.push(a)?;
-    parts.push(b)?;
-    Ok(node(kind, at, parts))
+    let parts = vec![in alloc; a, b]?;
+    Ok(node(kind, at, List::from_vec(parts)))
 }
 
 /// An `if` at this place.
@@ -144,11 +141,8 @@ pub fn choice<'a>(
     ensures { IfOk result (λ k. sketch_of k
         ≡ words.node words.choosing at (small.three (sketch_of a.entry) (sketch_of b.entry) (sketch_of c.entry))) }
 {
-    let mut parts = room(alloc, 3)?;
-    parts.push(a)?;
-    parts.push(b)?;
-    parts.push(c)?;
-    Ok(node(Kind::If, at, parts))
+    let parts = vec![in alloc; a, b, c]?;
+    Ok(node(Kind::If, at, List::from_vec(parts)))
 }
 
 /// A binding of one variable without a name.
@@ -161,10 +155,9 @@ pub fn bind_fresh<'a>(
     ensures { IfOk result (λ k. sketch_of k
         ≡ words.node (words.binding small.fresh) at (small.two (sketch_of init.entry) (sketch_of body.entry))) }
 {
-    let mut names = List::from_vec(Vec::with_capacity(alloc, 1)?);
-    names.push(None)?;
-    let made = two(alloc, Kind::Let(names), at, init, body)?;
-    Ok(made)
+    let parts = vec![in alloc; init, body]?;
+    let names = vec![in alloc; None]?;
+    Ok(node(Kind::Let(List::from_vec(names)), at, List::from_vec(parts)))
 }
 
 /// Adds the texts of data.
@@ -192,6 +185,34 @@ pub fn texts_only<'a>(
     Ok(made)
 }
 
+/// The texts of data, and one part more.
+fn texts_then<'a>(
+    alloc: Global,
+    items: &'a [Datum],
+    last: Sketch<'a>,
+) -> Result<List<Sketch<'a>>, Mem>
+    ensures { IfOk result (λ parts. sketches_of parts ≡ small.texts (data_of items.now) (small.one (sketch_of last.entry))) }
+{
+    let mut parts = room(alloc, items.len().saturating_add(1))?;
+    add_texts(&mut parts, items)?;
+    parts.push(last)?;
+    Ok(parts)
+}
+
+/// One part, and the texts of data.
+fn then_texts<'a>(
+    alloc: Global,
+    first: Sketch<'a>,
+    items: &'a [Datum],
+) -> Result<List<Sketch<'a>>, Mem>
+    ensures { IfOk result (λ parts. sketches_of parts ≡ and_sketch (sketch_of first.entry) (small.texts (data_of items.now) no_sketch)) }
+{
+    let mut parts = room(alloc, items.len().saturating_add(1))?;
+    parts.push(first)?;
+    add_texts(&mut parts, items)?;
+    Ok(parts)
+}
+
 /// A node over the texts of data, and one part more.
 pub fn texts_and<'a>(
     alloc: Global,
@@ -203,11 +224,8 @@ pub fn texts_and<'a>(
     ensures { IfOk result (λ k. sketch_of k
         ≡ words.node (kind_of kind.entry) at (small.texts (data_of items.now) (small.one (sketch_of last.entry)))) }
 {
-    let mut parts = room(alloc, items.len().saturating_add(1))?;
-    add_texts(&mut parts, items)?;
-    parts.push(last)?;
-    let made = node(kind, at, parts);
-    Ok(made)
+    let parts = texts_then(alloc, items, last)?;
+    Ok(node(kind, at, parts))
 }
 
 /// A node over one part, and the texts of data.
@@ -221,11 +239,8 @@ pub fn and_texts<'a>(
     ensures { IfOk result (λ k. sketch_of k
         ≡ words.node (kind_of kind.entry) at (and_sketch (sketch_of first.entry) (small.texts (data_of items.now) no_sketch))) }
 {
-    let mut parts = room(alloc, items.len().saturating_add(1))?;
-    parts.push(first)?;
-    add_texts(&mut parts, items)?;
-    let made = node(kind, at, parts);
-    Ok(made)
+    let parts = then_texts(alloc, first, items)?;
+    Ok(node(kind, at, parts))
 }
 
 /// Variables without names, one for each datum.

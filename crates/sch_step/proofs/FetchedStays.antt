@@ -1,6 +1,5 @@
 -- What is kept of a memory that nothing can write over stays what is fetched, whatever is written.
 use Rattle.std.proofs.Common.{◌≡◌, ℕ, zero, suc, ◌+◌, ◌-◌, ◌<◌, ◌≤◌, ◌^◌, List, [], ◌∷◌, length, drop, get_or, set, subst, Bool, true, false, cond, Option, Some, None, refl, sym, ap, ◌∙◌, arith, length-drop, ◌&&◌}
-use Rattle.std.proofs.lemmas.Bool.Decides.{nat_tests}
 use Rattle.std.proofs.lemmas.List.{map-set}
 use Rattle.std.proofs.lemmas.List.Elements.{All-set}
 use Rattle.std.specs.Prelude.{map, not, replicate, IfSome}
@@ -16,7 +15,7 @@ use Rattle.sch_insn.proofs.PutSize.{size_put}
 use Rattle.sch_step.specs.declared.segment.Segment.{Segment}
 use Rattle.sch_step.specs.declared.fetched.Fetched.{Fetched}
 use Rattle.sch_step.specs.Layout.{segment_view, segment_at, IsMemory}
-use Rattle.sch_step.proofs.Memory.{same_holds, at_index, fits}
+use Rattle.sch_step.proofs.Memory.{same_holds, at_index, begins, fits}
 use Rattle.sch_step.specs.Fetched.{is_fixed, fetch_fixed, IsFetched, AreFetched, nothing_fetched}
 
 -- ---- what is kept is what is fetched
@@ -122,9 +121,6 @@ found_here gs f a h e = fetches gs a (f.insn, f.size) (subst (λ p. fetch_fixed 
 
 -- ---- where an instruction ends
 
-from : (g : words.Segment) (a n : ℕ) → holds g a n ≡ true → g.address ≤ a
-from g a n e = grind (arith, nat_tests)
-
 ends_low : (o : Option (Insn × ℕ)) (a n : ℕ) → a + n ≤ 2 ^ 47 → IfSome o (λ p. p.1 ≤ n) → IfSome o (λ p. a + p.1 ≤ 2 ^ 47)
 ends_low None a n l within = tt
 ends_low (Some p) a n l within = omega (arith, l, within)
@@ -137,7 +133,7 @@ read_low items i a x bytes o laid l e is read within =
     let at = at_index items i x l is in
     let here : holds (segment_view x) a 1 ≡ true = subst (λ g. holds g a 1 ≡ true) at e in
     let end : x.address + length x.bytes.items ≤ 2 ^ 47 = subst (λ g. g.address + length g.bytes ≤ 2 ^ 47) at (laid.ends i) in
-    let begin : x.address ≤ a = from (segment_view x) a 1 here in
+    let begin : x.address ≤ a = begins (segment_view x) a 1 here in
     let room : (a - x.address) + 1 ≤ length x.bytes.items = fits (segment_view x) a 1 here in
     let rest : length bytes ≡ length x.bytes.items - (a - x.address) = ap length read ∙ length-drop (a - x.address) x.bytes.items in
     ends_low o a (length bytes) (omega (arith, end, begin, room, rest)) within

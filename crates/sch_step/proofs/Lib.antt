@@ -7,3 +7,4 @@ pub mod ImageMemory
 pub mod EndedMachines
 pub mod FetchedStays
 pub mod FetchedExamples
+pub mod Words

@@ -180,8 +180,19 @@ still_laid_out gs hs s laid = record {
   ends = λ i. let low = laid.ends i in omega (arith, low, s.address i, s.size i);
 }
 
+pub begins : (g : words.Segment) (a n : ℕ) → holds g a n ≡ true → g.address ≤ a
+begins g a n e = grind (arith, nat_tests)
+
 pub fits : (g : words.Segment) (a n : ℕ) → holds g a n ≡ true → (a - g.address) + n ≤ length g.bytes
 fits g a n e = grind (arith, nat_tests)
+
+-- The bytes at an address that a segment of the program holds lie within it.
+pub begins_before : (items : List Segment) (i a n : ℕ) (x : Segment) → i < length items → holds (segment_at (map segment_view items) i) a n ≡ true → x ≡ get_or items i x → x.address ≤ a
+begins_before items i a n x l e is = begins (segment_view x) a n (subst (λ g. holds g a n ≡ true) (at_index items i x l is) e)
+
+pub lies_within : (items : List Segment) (i a n : ℕ) (x : Segment) → i < length items → holds (segment_at (map segment_view items) i) a n ≡ true → x ≡ get_or items i x
+    → (a - x.address) + n ≤ length x.bytes.items
+lies_within items i a n x l e is = fits (segment_view x) a n (subst (λ g. holds g a n ≡ true) (at_index items i x l is) e)
 
 pub stays_laid_out : (items : List Segment) (i a : ℕ) (x y : Segment) (ys : List ℕ) → IsMemory (map segment_view items) → i < length items
     → holds (segment_at (map segment_view items) i) a (length ys) ≡ true → x ≡ get_or items i x → segment_view y ≡ with_bytes (segment_view x) (put_bytes x.bytes.items (a - x.address) ys)

@@ -5,7 +5,8 @@ ghost use Rattle.sch_word.specs.values.Options.{when_ok};
 ghost use Rattle.sch_insn.specs.Spelling.{IsArg, IsValid};
 ghost use Rattle.sch_insn.specs.Machine.{with_register, with_flags, with_place, byte_at, write_bytes, address_of, load as load_of, store as store_of};
 ghost use Rattle.sch_insn.specs.Machine.{sum_of, difference_of, bits_of, product_of, shifted, shift_right_signed as shift_right_signed_of};
-ghost use Rattle.sch_insn.specs.Machine.{condition as condition_of};
+ghost use Rattle.sch_insn.specs.Machine.{word as word_of_number, condition as condition_of};
+ghost use Rattle.sch_step.specs.Kinds.{IsOnTwo, IsWithNumber};
 ghost use Rattle.sch_insn.specs.Step.{change, gather, compare, divide, sign_word, jump_if};
 
 use crate::division::divided;
@@ -41,36 +42,11 @@ impl Processor {
         rows! { insn, self, next; {
             Insn::MovTo(m, r) => mov_to(m, self.reg(*r));
             Insn::MovFrom(r, m) => mov_from(*r, m);
-            Insn::MovNumber(m, n) => mov_to(m, word_of(*n));
+            Insn::MovNumber(m, n) => mov_to(m, word_in(n));
             Insn::MovWord(r, n) => set(*r, n.cast_unsigned());
             Insn::StoreByte(m, r) => store_byte(m, *r);
             Insn::LoadByte(r, m) => load_byte(*r, m);
             Insn::Lea(r, m) => set(*r, self.address(m, next));
-            Insn::AddTo(m, r) => add_to(m, self.reg(*r));
-            Insn::OrTo(m, r) => or_to(m, self.reg(*r));
-            Insn::AndTo(m, r) => and_to(m, self.reg(*r));
-            Insn::SubTo(m, r) => sub_to(m, self.reg(*r));
-            Insn::XorTo(m, r) => xor_to(m, self.reg(*r));
-            Insn::CmpTo(m, r) => cmp_to(m, self.reg(*r));
-            Insn::AddFrom(r, m) => add_from(*r, m);
-            Insn::OrFrom(r, m) => or_from(*r, m);
-            Insn::AndFrom(r, m) => and_from(*r, m);
-            Insn::SubFrom(r, m) => sub_from(*r, m);
-            Insn::XorFrom(r, m) => xor_from(*r, m);
-            Insn::CmpFrom(r, m) => cmp_from(self.reg(*r), m);
-            Insn::AddNumber(m, n) => add_to(m, word_of(*n));
-            Insn::OrNumber(m, n) => or_to(m, word_of(*n));
-            Insn::AndNumber(m, n) => and_to(m, word_of(*n));
-            Insn::SubNumber(m, n) => sub_to(m, word_of(*n));
-            Insn::XorNumber(m, n) => xor_to(m, word_of(*n));
-            Insn::CmpNumber(m, n) => cmp_to(m, word_of(*n));
-            Insn::AddNumber8(m, n) => add_to(m, word_of(*n as i32));
-            Insn::OrNumber8(m, n) => or_to(m, word_of(*n as i32));
-            Insn::AndNumber8(m, n) => and_to(m, word_of(*n as i32));
-            Insn::SubNumber8(m, n) => sub_to(m, word_of(*n as i32));
-            Insn::XorNumber8(m, n) => xor_to(m, word_of(*n as i32));
-            Insn::CmpNumber8(m, n) => cmp_to(m, word_of(*n as i32));
-            Insn::TestTo(m, r) => test_to(m, self.reg(*r));
             Insn::Imul(r, m) => imul(*r, m);
             Insn::Neg(m) => neg(m);
             Insn::Idiv(m) => idiv(m);
@@ -81,11 +57,65 @@ impl Processor {
             Insn::JumpIf(c, d) => jump_if(*c, *d);
             Insn::JumpIf8(c, d) => jump_if(*c, *d as i32);
         } {
-            Insn::Jump(d) => Ok(next.wrapping_add(word_of(*d)));
-            Insn::Jump8(d) => Ok(next.wrapping_add(word_of(*d as i32)));
+            Insn::Jump(d) => Ok(next.wrapping_add(word_in(d)));
+            Insn::Jump8(d) => Ok(next.wrapping_add(word_in_byte(d)));
             Insn::JumpTo(m) => self.load(m, next);
             // never reached: `perform` answers the call of the kernel
             Insn::Syscall => Err(StuckCause::Kernel(self.reg(RAX)));
+            _ => self.act_on_two(insn, next);
+        } }
+    }
+
+    /// The same for an add, a subtraction, a comparison, or one that goes bit by bit, of two words.
+    #[inline(always)]
+    fn act_on_two(&mut self, insn: &Insn, next: u64) -> Result<u64, StuckCause>
+        requires kind { IsOnTwo insn.now }
+        requires valid { IsValid insn.now }
+        ensures value { gone_on result (core_of self.new) ≡ act_of insn.now (with_place next (core_of self.old)) }
+        ensures same { OnErr result (core_of self.new ≡ core_of self.old) }
+    {
+        rows! { insn, self, next; {
+            Insn::AddTo(m, r) => add_to(m, self.reg(*r));
+            Insn::OrTo(m, r) => or_to(m, self.reg(*r));
+            Insn::AndTo(m, r) => and_to(m, self.reg(*r));
+            Insn::SubTo(m, r) => sub_to(m, self.reg(*r));
+            Insn::XorTo(m, r) => xor_to(m, self.reg(*r));
+            Insn::CmpTo(m, r) => cmp_to(m, self.reg(*r));
+            Insn::TestTo(m, r) => test_to(m, self.reg(*r));
+            Insn::AddFrom(r, m) => add_from(*r, m);
+            Insn::OrFrom(r, m) => or_from(*r, m);
+            Insn::AndFrom(r, m) => and_from(*r, m);
+            Insn::SubFrom(r, m) => sub_from(*r, m);
+            Insn::XorFrom(r, m) => xor_from(*r, m);
+            Insn::CmpFrom(r, m) => cmp_from(self.reg(*r), m);
+        } {
+            _ => self.act_with_number(insn, next);
+        } }
+    }
+
+    /// The same for one of these whose second word is a number.
+    #[inline(always)]
+    fn act_with_number(&mut self, insn: &Insn, next: u64) -> Result<u64, StuckCause>
+        requires kind { IsWithNumber insn.now }
+        requires valid { IsValid insn.now }
+        ensures value { gone_on result (core_of self.new) ≡ act_of insn.now (with_place next (core_of self.old)) }
+        ensures same { OnErr result (core_of self.new ≡ core_of self.old) }
+    {
+        rows! { insn, self, next; {
+            Insn::AddNumber(m, n) => add_to(m, word_in(n));
+            Insn::OrNumber(m, n) => or_to(m, word_in(n));
+            Insn::AndNumber(m, n) => and_to(m, word_in(n));
+            Insn::SubNumber(m, n) => sub_to(m, word_in(n));
+            Insn::XorNumber(m, n) => xor_to(m, word_in(n));
+            Insn::CmpNumber(m, n) => cmp_to(m, word_in(n));
+            Insn::AddNumber8(m, n) => add_to(m, word_in_byte(n));
+            Insn::OrNumber8(m, n) => or_to(m, word_in_byte(n));
+            Insn::AndNumber8(m, n) => and_to(m, word_in_byte(n));
+            Insn::SubNumber8(m, n) => sub_to(m, word_in_byte(n));
+            Insn::XorNumber8(m, n) => xor_to(m, word_in_byte(n));
+            Insn::CmpNumber8(m, n) => cmp_to(m, word_in_byte(n));
+        } {
+            _ => unreachable!();
         } }
     }
 
@@ -442,6 +472,22 @@ impl Processor {
             Some(false) => Ok(next),
         }
     }
+}
+
+/// The word of a number of four bytes, as it stands in an instruction.
+#[inline(always)]
+fn word_in(n: &i32) -> u64
+    ensures { result ≡ word_of_number n.now }
+{
+    word_of(*n)
+}
+
+/// The word of a number of one byte, as it stands in an instruction.
+#[inline(always)]
+fn word_in_byte(n: &i8) -> u64
+    ensures { result ≡ word_of_number n.now }
+{
+    word_of(*n as i32)
 }
 
 /// A word shifted right, the sign shifted in.

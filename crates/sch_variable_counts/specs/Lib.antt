@@ -1,4 +1,3 @@
-pub mod Kinds
 pub mod Within
 pub mod Walked
 pub mod Counts

@@ -8,7 +8,7 @@ ghost use Rattle.std.specs.Prelude.{◌++◌};
 ghost use Rattle.sch_word.specs.trees.Bindings.{numbers};
 ghost use Rattle.sch_lang.specs.Variables.{assigns, assigns_each, assigns_lambdas};
 ghost use Rattle.sch_lang.specs.View.{expression, expressions_of, lambdas_of};
-ghost use Rattle.sch_variable_counts.specs.Kinds.{IsFix, IsLetrec};
+ghost use Rattle.sch_lang.specs.Kinds.{IsFix, IsRec};
 ghost use Rattle.sch_variable_counts.specs.Walked.{marks_of, marks_in, marks_in_each, marks_in_lambdas};
 ghost use Rattle.sch_word.specs.trees.Assigned.{marked};
 
@@ -97,7 +97,7 @@ fn mark_fix(e: &Exp, scope: &mut Vec<bool>, stack: &mut Vec<bool>) -> Result<(),
 /// The same for a `letrec`.
 #[cycle(marking)]
 fn mark_rec(e: &Exp, scope: &mut Vec<bool>, stack: &mut Vec<bool>) -> Result<(), Mem>
-    requires kind { IsLetrec (expression e.now) }
+    requires kind { IsRec (expression e.now) }
     ensures scope { OnOk result (reverse scope.new.items ≡ marked (assigns (expression e.now)) 0 (reverse scope.old.items)) }
     ensures stack { OnOk result (reverse stack.new.items ≡ marks_in (expression e.now) (reverse stack.old.items)) }
 {

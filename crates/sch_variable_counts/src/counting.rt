@@ -12,7 +12,7 @@ ghost use Rattle.sch_word.specs.trees.VariableCounts.{one_unless, twice_if, thre
 ghost use Rattle.sch_lang.specs.Measures.{body_variables, counts_nothing, bound_count, onto_assigned, onto_all, variables, variables_each, variables_operands, variables_parts};
 ghost use Rattle.sch_lang.specs.View.{expression, expressions_of, lambdas_of};
 ghost use Rattle.sch_variable_counts.specs.Counts.{Counts};
-ghost use Rattle.sch_variable_counts.specs.Kinds.{IsBind, IsFix, IsLetrec};
+ghost use Rattle.sch_lang.specs.Kinds.{IsLet, IsFix, IsRec};
 ghost use Rattle.sch_variable_counts.specs.Walked.{capped, marks_of, marks_in, marks_in_each, marks_in_lambdas, Takes};
 ghost use Rattle.sch_variable_counts.specs.Within.{has_few_variables, each_procedure_in, each_lambda, few_variables};
 
@@ -181,7 +181,7 @@ fn count_let(
     once: &mut Vec<bool>,
     marks: &mut Vec<bool>,
 ) -> Result<Counted, Mem>
-    requires kind { IsBind (expression e.now) }
+    requires kind { IsLet (expression e.now) }
     ensures count { IfOk result (λ n. Takes (marks_in (expression e.now)) marks.old.items marks.new.items
         (Counts n (variables (expression e.now) (reverse once.old.items)) (few_variables (expression e.now)))) }
     ensures once { OnOk result (once.new.items ≡ once.old.items) }
@@ -230,7 +230,7 @@ fn count_rec(
     once: &mut Vec<bool>,
     marks: &mut Vec<bool>,
 ) -> Result<Counted, Mem>
-    requires kind { IsLetrec (expression e.now) }
+    requires kind { IsRec (expression e.now) }
     ensures count { IfOk result (λ n. Takes (marks_in (expression e.now)) marks.old.items marks.new.items
         (Counts n (variables (expression e.now) (reverse once.old.items)) (few_variables (expression e.now)))) }
     ensures once { OnOk result (once.new.items ≡ once.old.items) }

@@ -8,6 +8,7 @@ ghost use Rattle.sch_word.specs.trees.Shape.{max_free_variables};
 ghost use Rattle.sch_word.specs.trees.NumberSets.{union};
 ghost use Rattle.sch_lang.specs.Variables.{free, outside};
 ghost use Rattle.sch_lang.specs.View.{expression, expressions_of, lambdas_of};
+ghost use Rattle.sch_lang.specs.Kinds.{IsLet, IsFix, IsRec};
 ghost use Rattle.sch_variable_counts.specs.Walked.{found, found_each, found_lambdas};
 ghost use Rattle.sch_variable_counts.specs.Within.{has_few_free, each_procedure_in, each_lambda, few_free};
 
@@ -90,30 +91,9 @@ fn find(alloc: Global, e: &Exp, xs: &mut Vec<u32>) -> Result<bool, Mem>
             Ok(both(a, both(b, c)))
         }
         Exp::Seq(parts) => find_each(alloc, parts, xs),
-        Exp::Let(_, inits, body) => {
-            let mut inside = Vec::new(alloc);
-            let few = find(alloc, body, &mut inside)?;
-            let outer = outside_group(alloc, count(inits), inside.as_slice())?;
-            insert_list(outer, xs)?;
-            let first = find_each(alloc, inits, xs)?;
-            Ok(both(first, few))
-        }
-        Exp::Fix(lambdas, body) => {
-            let mut inside = Vec::new(alloc);
-            let few = find(alloc, body, &mut inside)?;
-            let first = find_lambdas(alloc, lambdas, &mut inside)?;
-            let outer = outside_group(alloc, count_lambdas(lambdas), inside.as_slice())?;
-            insert_list(outer, xs)?;
-            Ok(both(first, few))
-        }
-        Exp::Rec(_, inits, body) => {
-            let mut inside = Vec::new(alloc);
-            let few = find(alloc, body, &mut inside)?;
-            let first = find_each(alloc, inits, &mut inside)?;
-            let outer = outside_group(alloc, count(inits), inside.as_slice())?;
-            insert_list(outer, xs)?;
-            Ok(both(first, few))
-        }
+        Exp::Let(_, _, _) => find_let(alloc, e, xs),
+        Exp::Fix(_, _) => find_fix(alloc, e, xs),
+        Exp::Rec(_, _, _) => find_rec(alloc, e, xs),
         Exp::Lambda(l) => find_procedure(alloc, l.formals, &l.body, xs),
         Exp::Call(_, operator, operands) => {
             let others = find_each(alloc, operands, xs)?;
@@ -122,6 +102,60 @@ fn find(alloc: Global, e: &Exp, xs: &mut Vec<u32>) -> Result<bool, Mem>
         }
         Exp::Prim(_, _, operands) => find_each(alloc, operands, xs),
     }
+}
+
+/// The same for a `let`.
+#[cycle(finding)]
+fn find_let(alloc: Global, e: &Exp, xs: &mut Vec<u32>) -> Result<bool, Mem>
+    requires kind { IsLet (expression e.now) }
+    ensures found { OnOk result (reverse xs.new.items ≡ found (expression e.now) (reverse xs.old.items)) }
+    ensures few { IfOk result (λ few. few ≡ few_free (expression e.now)) }
+{
+    let Exp::Let(_, inits, body) = e else {
+        unreachable!();
+    };
+    let mut inside = Vec::new(alloc);
+    let few = find(alloc, body, &mut inside)?;
+    let outer = outside_group(alloc, count(inits), inside.as_slice())?;
+    insert_list(outer, xs)?;
+    let first = find_each(alloc, inits, xs)?;
+    Ok(both(first, few))
+}
+
+/// The same for a group of procedures.
+#[cycle(finding)]
+fn find_fix(alloc: Global, e: &Exp, xs: &mut Vec<u32>) -> Result<bool, Mem>
+    requires kind { IsFix (expression e.now) }
+    ensures found { OnOk result (reverse xs.new.items ≡ found (expression e.now) (reverse xs.old.items)) }
+    ensures few { IfOk result (λ few. few ≡ few_free (expression e.now)) }
+{
+    let Exp::Fix(lambdas, body) = e else {
+        unreachable!();
+    };
+    let mut inside = Vec::new(alloc);
+    let few = find(alloc, body, &mut inside)?;
+    let first = find_lambdas(alloc, lambdas, &mut inside)?;
+    let outer = outside_group(alloc, count_lambdas(lambdas), inside.as_slice())?;
+    insert_list(outer, xs)?;
+    Ok(both(first, few))
+}
+
+/// The same for a `letrec`.
+#[cycle(finding)]
+fn find_rec(alloc: Global, e: &Exp, xs: &mut Vec<u32>) -> Result<bool, Mem>
+    requires kind { IsRec (expression e.now) }
+    ensures found { OnOk result (reverse xs.new.items ≡ found (expression e.now) (reverse xs.old.items)) }
+    ensures few { IfOk result (λ few. few ≡ few_free (expression e.now)) }
+{
+    let Exp::Rec(_, inits, body) = e else {
+        unreachable!();
+    };
+    let mut inside = Vec::new(alloc);
+    let few = find(alloc, body, &mut inside)?;
+    let first = find_each(alloc, inits, &mut inside)?;
+    let outer = outside_group(alloc, count(inits), inside.as_slice())?;
+    insert_list(outer, xs)?;
+    Ok(both(first, few))
 }
 
 /// The same for each of some expressions, from the last to the first.

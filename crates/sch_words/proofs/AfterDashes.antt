@@ -1,6 +1,6 @@
 -- After the word `--` the walk of clap and the plain reading give the same rows.
 use Rattle.std.proofs.Common.{refl, codes, true, Bool, List, ℕ, [], ◌∷◌, Option, Some, None, ◌≡◌, ◌∙◌, map, option_map}
-use Rattle.std.specs.Prelude.{option_and_then, ◌&&◌}
+use Rattle.std.specs.Prelude.{option_and_then}
 use Rattle.std.specs.Str.{bytes_eq}
 use Rattle.clap.specs.Words.{Row}
 use Rattle.clap.specs.Walk.{Walk, arg_by_id, idle, walked}

@@ -1,5 +1,5 @@
 -- What the words of small command lines give, or that they are refused. Each statement is computed.
-use Rattle.std.proofs.Common.{codes, refl, ℕ, List, [], ◌∷◌, Option, Some, None, ◌≡◌}
+use Rattle.std.proofs.Common.{codes, refl, List, [], ◌∷◌, Option, Some, None, ◌≡◌}
 use Rattle.std.specs.Prelude.{if◌then◌else◌, ◌==◌}
 use Rattle.std.specs.List.{onto_first}
 use Rattle.sch_words.specs.GivenTexts.{Text, Texts}

@@ -2,13 +2,13 @@
 #![tactic(auto)]
 
 ghost use Rattle.std.specs.Prelude.{◌≡◌, IfOk, map, option_map, string_bytes};
-ghost use Rattle.clap.specs.Words.{app_of, with_rule};
+ghost use Rattle.clap.specs.Words.{app_of, found_of, rows_of, with_rule};
 ghost use Rattle.sch_words.specs.PlainReading.{plain_reading};
-ghost use Rattle.sch_words.specs.SimpleCommand.{clap_reading, no_arguments, option, positional, schc};
+ghost use Rattle.sch_words.specs.SimpleCommand.{clap_reading, no_arguments, option, positional, positionals_only, schc, texts_of_rows};
 ghost use Rattle.sch_words.specs.View.{texts_of};
 
 use clap::error::ErrorKind;
-use clap::{Arg, Command};
+use clap::{Arg, ArgMatches, Command};
 use sch_word::Mem;
 use std::alloc::Global;
 
@@ -39,15 +39,7 @@ pub fn read_words<'a>(alloc: Global, words: &'a [String]) -> Result<Option<Words
 {
     let command = command(alloc)?;
     match command.try_get_matches_from(words) {
-        Ok(matches) => Ok(Some(Words {
-            verb: matches.get_str("verb"),
-            name: matches.get_str("name"),
-            second: matches.get_str("second"),
-            listing: matches.get_str("listing"),
-            heap: matches.get_str("heap"),
-            depth: matches.get_str("depth"),
-            steps: matches.get_str("steps"),
-        })),
+        Ok(matches) => Ok(Some(words_in(&matches))),
         Err(error) => {
             if error.kind() == ErrorKind::OutOfMemory {
                 Err(Mem)
@@ -58,19 +50,38 @@ pub fn read_words<'a>(alloc: Global, words: &'a [String]) -> Result<Option<Words
     }
 }
 
+// The texts in what clap keeps of each argument.
+fn words_in<'a>(matches: &ArgMatches<'a>) -> Words<'a>
+    ensures { texts_of result ≡ texts_of_rows (rows_of (found_of matches.now)) }
+{
+    Words {
+        verb: matches.get_str("verb"),
+        name: matches.get_str("name"),
+        second: matches.get_str("second"),
+        listing: matches.get_str("listing"),
+        heap: matches.get_str("heap"),
+        depth: matches.get_str("depth"),
+        steps: matches.get_str("steps"),
+    }
+}
+
 // The command: three positionals and four options, of one text each, and neither `--help` nor `--version`.
 fn command<'a>(alloc: Global) -> Result<Command<'a>, Mem>
     ensures { IfOk result (λ command. app_of command ≡ schc) }
 {
+    let command = positionals(alloc)?;
+    let command = with_options(alloc, command, "listing", "heap")?;
+    with_options(alloc, command, "depth", "steps")
+}
+
+// The command with its positionals alone.
+fn positionals<'a>(alloc: Global) -> Result<Command<'a>, Mem>
+    ensures { IfOk result (λ command. app_of command ≡ positionals_only) }
+{
     let command = without_arguments(alloc);
     let command = with_positional(alloc, command, "verb")?;
     let command = with_positional(alloc, command, "name")?;
-    let command = with_positional(alloc, command, "second")?;
-    let command = with_option(alloc, command, "listing")?;
-    let command = with_option(alloc, command, "heap")?;
-    let command = with_option(alloc, command, "depth")?;
-    let command = with_option(alloc, command, "steps")?;
-    Ok(command)
+    with_positional(alloc, command, "second")
 }
 
 fn without_arguments<'a>(alloc: Global) -> Command<'a>
@@ -90,6 +101,20 @@ fn with_positional<'a>(
     ensures { IfOk result (λ made. app_of made ≡ with_rule (app_of command.entry) (positional name.entry.now)) }
 {
     Ok(command.arg(Arg::new(alloc, name))?)
+}
+
+// The command with two more options.
+fn with_options<'a>(
+    alloc: Global,
+    command: Command<'a>,
+    first: &'a str,
+    second: &'a str,
+) -> Result<Command<'a>, Mem>
+    ensures { IfOk result (λ made. app_of made ≡
+        with_rule (with_rule (app_of command.entry) (option first.entry.now)) (option second.entry.now)) }
+{
+    let command = with_option(alloc, command, first)?;
+    with_option(alloc, command, second)
 }
 
 fn with_option<'a>(alloc: Global, command: Command<'a>, name: &'a str) -> Result<Command<'a>, Mem>

@@ -90,6 +90,20 @@ fn write_store<P: VariablePlaces, R>(
     write_bound(places, &around.regions, x, out)
 }
 
+/// The instruction that makes a group.
+fn group_at<P: VariablePlaces>(
+    alloc: Global,
+    places: &P,
+    members: &[Member<u32>],
+) -> Result<Instruction, Mem>
+    ensures { IfOk result (λ i. i ≡ Fix (members_at (P.plan places.now).place members.now)
+        (filter (λ x. is_slot ((P.plan places.now).place x)) (member_variables members.now))) }
+{
+    let spills = spilled_members(alloc, places, members)?;
+    let members_at = members_at(alloc, places, members)?;
+    Ok(Instruction::Fix(members_at, spills))
+}
+
 #[inline(never)]
 fn write_group<P: VariablePlaces, R>(
     around: &Around<'_, P, R>,
@@ -103,9 +117,7 @@ fn write_group<P: VariablePlaces, R>(
     ensures labels { OnOk result (out.new.labels ≡ out.old.labels) }
 {
     let places = &around.allocation.places;
-    let spills = spilled_members(around.alloc, places, members)?;
-    let members_at = members_at(around.alloc, places, members)?;
-    put(out, Instruction::Fix(members_at, spills))?;
+    put(out, group_at(around.alloc, places, members)?)?;
     write_members(places, &around.regions, members, out)
 }
 

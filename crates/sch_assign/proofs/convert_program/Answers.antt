@@ -1,4 +1,5 @@
 use Rattle.std.proofs.Common.{true, refl, sym, subst, ◌∙◌}
+use Rattle.std.proofs.lemmas.Result.{IfOk-from_err}
 use Rattle.std.specs.Prelude.{IsTrue}
 use Rattle.sch_cells.specs.ProgramView.{source}
 use Rattle.sch_cells.specs.Valid.{scoped, formed, constants_in_range, within_limits, sited, statics_known}
@@ -35,3 +36,17 @@ pub returns : goal.returns
 returns c =
     let v = c.args.p.now in
     made_program (table c.args.celled.now) (source v) c.in_ok-statics.statics c.in_ok-library.library c.in_ok-forms.forms c.in_ok-sites.sites _ refl c.in_ok-library.ensures c.in_ok-forms.ensures c.in_ok-statics.ensures (c.in_ok-sites.ensures ∙ c.as_slice.ensures)
+
+-- ## What errors leave
+
+pub returns-in_err-library : goal.returns-in_err-library
+returns-in_err-library c = IfOk-from_err c.from_residual.result _ c.from_residual.ensures.0
+
+pub returns-in_err-forms : goal.returns-in_err-forms
+returns-in_err-forms c = IfOk-from_err c.from_residual-in_err-forms.result _ c.from_residual-in_err-forms.ensures.0
+
+pub returns-in_err-statics : goal.returns-in_err-statics
+returns-in_err-statics c = IfOk-from_err c.from_residual-in_err-statics.result _ c.from_residual-in_err-statics.ensures.0
+
+pub returns-in_err-sites : goal.returns-in_err-sites
+returns-in_err-sites c = IfOk-from_err c.from_residual-in_err-sites.result _ c.from_residual-in_err-sites.ensures.0

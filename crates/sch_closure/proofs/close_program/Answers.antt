@@ -60,8 +60,8 @@ returns c =
     (c.in_ok-records.ensures.made ∙ ap (λ bs. made_each p.library [] (length bs)) empty)
     (c.in_ok-library.ensures ∙ ap (λ ms. map (λ m. m.label) (map made ms)) c.as_slice-2.ensures)
     (c.in_ok-records.ensures.bodies ∙ ap (λ bs. with_bodies_lambdas p.library (map body bs)) empty)
-    (ap (map body) c.from_vec.ensures ∙ c.in_ok-forms.ensures.bodies)
-    c.in_ok-forms.ensures.made c.in_ok-forms.ensures.starts (c.in_ok-sites.ensures ∙ c.as_slice-4.ensures)
+    (ap (map body) c.from_vec.ensures ∙ c.in_ok-forms.ensures.closes.bodies)
+    c.in_ok-forms.ensures.closes.made c.in_ok-forms.ensures.starts (c.in_ok-sites.ensures ∙ c.as_slice-4.ensures)
 
 pub invariant_of-result : goal.invariant_of-result
 invariant_of-result c =
@@ -74,8 +74,8 @@ invariant_of-result c =
     (c.in_ok-records.ensures.made ∙ ap (λ bs. made_each p.library [] (length bs)) empty)
     (c.in_ok-library.ensures ∙ ap (λ ms. map (λ m. m.label) (map made ms)) c.as_slice-2.ensures)
     (c.in_ok-records.ensures.bodies ∙ ap (λ bs. with_bodies_lambdas p.library (map body bs)) empty)
-    (ap (map body) c.from_vec.ensures ∙ c.in_ok-forms.ensures.bodies)
-    c.in_ok-forms.ensures.made c.in_ok-forms.ensures.starts (c.in_ok-sites.ensures ∙ c.as_slice-4.ensures) in
+    (ap (map body) c.from_vec.ensures ∙ c.in_ok-forms.ensures.closes.bodies)
+    c.in_ok-forms.ensures.closes.made c.in_ok-forms.ensures.starts (c.in_ok-sites.ensures ∙ c.as_slice-4.ensures) in
     record {
       closed = subst (λ q. IsTrue (is_closed q)) (sym whole) (closed_kept p g);
       formed = subst (λ q. IsTrue (is_formed q)) (sym whole) (formed_kept p g);

@@ -34,6 +34,19 @@ with_item (Items at xs) d = Items at (join xs (one d))
 with_item (Elements at xs) d = Elements at (join xs (one d))
 with_item f d = f
 
+-- whether it is a quote that waits
+abbrev pub is_waiting : Frame → Bool
+is_waiting (Waiting at) = true
+is_waiting _ = false
+
+-- it after a datum was put into it; a quote has other rules
+abbrev pub with_datum : Frame → Datum → Frame
+with_datum (Items at xs) d = Items at (join xs (one d))
+with_datum (AfterDot at xs) d = Tail at xs d
+with_datum (Tail at xs last) d = Tail at xs last
+with_datum (Elements at xs) d = Elements at (join xs (one d))
+with_datum (Waiting at) d = Waiting at
+
 -- whether the innermost is a list with the datum after its dot
 abbrev pub is_behind_tail : List Frame → Bool
 is_behind_tail [] = false

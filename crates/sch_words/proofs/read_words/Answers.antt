@@ -1,12 +1,10 @@
-use Rattle.std.proofs.Common.{ap, codes, false, length, List, map, None, Option, refl, Some, subst, sym, [], arith, inl, inr, ◌∙◌, ◌∷◌, ◌≡◌}
+use Rattle.std.proofs.Common.{ap, length, map, None, refl, Some, subst, sym, [], arith, inl, inr, ◌∙◌, ◌∷◌, ◌≡◌}
 use Rattle.std.specs.Prelude.{string_bytes, ◌⊎◌}
 use Rattle.std.proofs.lemmas.Bool.{false≢true}
-use Rattle.clap.specs.Words.{IsAmong, Kinds, Row, Text, app_of, fault_of, first_of, first_value, found_of, is_simple, is_simple_and_free, matches_of, rows_of}
+use Rattle.clap.specs.Words.{IsAmong, Kinds, app_of, fault_of, is_simple, is_simple_and_free, matches_of}
 use Rattle.clap.specs.contracts.error.kind.ErrorKind.{the_type}
 use Rattle.clap.specs.declared.error.kind.ErrorKind.{ErrorKind}
 use Rattle.clap.specs.declared.error.kind.ErrorKind.TheVariants.{OutOfMemory}
-use Rattle.clap.specs.declared.parser.matches.Found.{Found}
-use Rattle.clap.proofs.WalkLemmas.{first_value-rows}
 use denote.Enum.Bare.{sameb}
 use Rattle.sch_words.specs.GivenTexts.{Texts}
 use Rattle.sch_words.specs.SimpleCommand.{schc, texts_of_rows, unless_faulty}
@@ -15,25 +13,6 @@ use Rattle.sch_words.proofs.WordKinds.{strings_are_utf8}
 use Rattle.sch_words.proofs.read_words.Goals as goal
 
 -- ---- texts
-
--- what a getter of the matches gives, by the rows
-got : (f : Found) (id : Text) (o : Option Text) (rows : List Row) → o ≡ first_value f id → rows_of f ≡ rows → o ≡ first_of id rows
-got f id o rows is same = is ∙ first_value-rows f id ∙ ap (first_of id) same
-
-texts_got : (f : Found) (rows : List Row) → rows_of f ≡ rows → (a b d e g h i : Option Text)
-    → a ≡ first_value f (codes "verb") → b ≡ first_value f (codes "name") → d ≡ first_value f (codes "second") → e ≡ first_value f (codes "listing")
-    → g ≡ first_value f (codes "heap") → h ≡ first_value f (codes "depth") → i ≡ first_value f (codes "steps")
-    → record { verb = a; name = b; second = d; listing = e; heap = g; depth = h; steps = i } ≡ texts_of_rows rows
-texts_got f rows same a b d e g h i ea eb ed ee eg eh ei =
-    rw (
-      got f _ a rows ea same,
-      got f _ b rows eb same,
-      got f _ d rows ed same,
-      got f _ e rows ee same,
-      got f _ g rows eg same,
-      got f _ h rows eh same,
-      got f _ i rows ei same,
-    ) refl
 
 without_fault : (read texts : Texts) → read ≡ texts → (faults : Kinds) → faults ≡ [] → Some read ≡ unless_faulty faults texts
 without_fault read texts e [] none = ap (λ (x : Texts). Some x) e
@@ -45,8 +24,7 @@ returns-in-Ok c =
     let words = map string_bytes c.args.words.now in
     let rows = (c.in-Ok.ensures.matches (ap is_simple app)).0 ∙ ap (λ a. matches_of a words) app in
     let none = sym (ap (λ a. fault_of a words) app) ∙ c.in-Ok.ensures.kinds (ap is_simple_and_free app) in
-    let texts = texts_got (found_of c.in-Ok.matches) (matches_of schc words) rows _ _ _ _ _ _ _ c.get_str.ensures c.get_str-in-Ok.ensures c.get_str-in-Ok-2.ensures
-    c.get_str-in-Ok-3.ensures c.get_str-in-Ok-4.ensures c.get_str-in-Ok-5.ensures c.get_str-in-Ok-6.ensures in
+    let texts = c.words_in.ensures ∙ ap texts_of_rows rows in
     let clap = without_fault _ (texts_of_rows (matches_of schc words)) texts (fault_of schc words) none in
     record { clap = clap; plain = clap ∙ plain_is_clap words (strings_are_utf8 c.args.words.now) }
 

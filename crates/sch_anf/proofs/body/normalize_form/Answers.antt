@@ -23,3 +23,11 @@ invariant_of-result c =
       shaped = subst (λ q. IsTrue (shaped_whole q)) (sym whole) p.shaped;
       fields = subst (λ q. IsTrue (fields_known q)) (sym whole) p.fields;
     }
+
+pub returns-clause-made : goal.returns-clause-made
+returns-clause-made c =
+    let starts = c.args.starts.now in
+    let e = tree c.args.e.now in
+    form_is starts e c.in_ok-name.name c.begin.new.self.next c.normalize_expression.new.v.next (scope_of c.begin.new.self.bound.items) (expression c.in_ok-exp.exp.value) c.in_ok-name.ensures
+    (ap scope_of (c.begin.ensures.bound ∙ c.requires.none))
+    c.begin.ensures.next c.in_ok-exp.ensures.next c.in_ok-exp.ensures.made

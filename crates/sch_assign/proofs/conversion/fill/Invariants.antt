@@ -6,7 +6,4 @@ use Rattle.sch_word.specs.trees.Walk.{onto}
 use Rattle.sch_assign.proofs.conversion.fill.Given as goal
 
 abbrev pub invariant-loop-place : goal.invariant-loop-place
-invariant-loop-place l = record {
-  made : (e : Tree) → onto and_then l.all (filling l.n (l.first + l.place) (l.count - l.place) e) ≡ filling l.n l.first l.count e;
-  same : l.e ≡ l.initial.e;
-}
+invariant-loop-place l = (e : Tree) → onto and_then l.all (filling l.n (l.first + l.place) (l.count - l.place) e) ≡ filling l.n l.first l.count e

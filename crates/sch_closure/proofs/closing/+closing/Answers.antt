@@ -1,10 +1,10 @@
-use Rattle.std.proofs.Common.{◌≡◌, ◌∷◌, [], ◌+◌, length, map, ap, ◌∙◌, sym, arith, length-append}
+use Rattle.std.proofs.Common.{◌≡◌, ◌+◌, length, map, ap, ◌∙◌, sym, arith}
 use Rattle.sch_cells.specs.View.{tree}
 use Rattle.sch_cells.proofs.Rows.{trees_of_list, lambdas_of_list}
 use Rattle.sch_flat.specs.View.{body}
-use Rattle.sch_closure.specs.Closed.{procedures_each, procedures_lambdas, closed_each, made_each, body_of, fields_of}
+use Rattle.sch_closure.specs.Closed.{procedures_each, procedures_lambdas, closed_each, made_each, fields_of}
 use Rattle.sch_closure.specs.Walked.{with_bodies_each, with_bodies_lambdas}
-use Rattle.sch_closure.proofs.MadeLists.{each_made, each_bodies, each_count, each_start, each_stand, each_end, lambdas_made, lambdas_bodies, lambdas_count, lambdas_start, lambdas_stand, lambdas_end, here_is, made_body, body_made}
+use Rattle.sch_closure.proofs.MadeLists.{each_made, each_bodies, each_count, each_start, each_stand, each_closes, lambdas_made, lambdas_bodies, lambdas_count, lambdas_start, lambdas_stand, lambdas_close, here_is, lambda_closes}
 use Rattle.sch_closure.proofs.closing.+closing.Goals as goal
 
 pub close_each-loop-e-init : goal.close_each-loop-e-init
@@ -34,23 +34,22 @@ close_each-loop-e-preserved t c =
       stand = each_stand items c.loop-e.e-index e n m c.loop-e-test.true c.e-item.is p.count c.args.fields.now i.stand;
     }
 
-pub close_each-returns-clause-made : goal.close_each-returns-clause-made
-close_each-returns-clause-made t c =
-    each_end c.as_slice-e-items.result.now c.args.es.now c.loop-e.e-index c.args.own.now (length c.loop-e.bodies.items)
-    (length c.args.bodies.now.items) c.loop-e.all c.as_slice-e-items.ensures c.loop-e-test.false c.loop-e.invariant.made
+pub close_each-returns : goal.close_each-returns
+close_each-returns t c =
+    let i = c.loop-e.invariant in
+    each_closes c.as_slice-e-items.result.now c.args.es.now c.loop-e.e-index c.args.own.now c.args.bodies.now.items c.loop-e.bodies.items c.loop-e.all c.as_slice-e-items.ensures c.loop-e-test.false
+    i.made i.bodies i.count
 
-pub close_lambda-returns-clause-bodies : goal.close_lambda-returns-clause-bodies
-close_lambda-returns-clause-bodies t c =
+pub close_lambda-returns : goal.close_lambda-returns
+close_lambda-returns t c =
     let l = c.args.l.now in
     let old = c.args.bodies.now.items in
     let n = c.len-label.result in
     let label : n ≡ length old = omega (arith, c.len-label.ensures) in
     let inside : c.as_slice-inside.result.now ≡ fields_of l.first l.formals (tree l.body) =
     c.as_slice-inside.ensures ∙ here_is c.args.fields.now n _ _ (rw label c.requires.here) c.index-fields-label.is in
-    body_made (tree l.body) old c.push.new.self.items c.close_expression.new.bodies.items n c.unmade_body.result _ (λ k. body_of l.name l.first l.formals l.rest (tree l.body) k)
-    c.in_ok-push.ensures.items c.in_ok-code.ensures.bodies label
-    (made_body l.name c.in_ok-name.name l.first l.formals l.rest (tree l.body) n (length c.push.new.self.items) c.as_slice-inside.result.now _ (c.in_ok-name.ensures ∙ c.as_slice.ensures) inside
-    (ap length c.in_ok-push.ensures.items ∙ omega (arith, length-append old (c.unmade_body.result ∷ []), label)) c.in_ok-code.ensures.made)
+    lambda_closes l.name l.first l.formals l.rest (tree l.body) c.args.own.now c.as_slice-inside.result.now old c.push.new.self.items c.close_expression.new.bodies.items _ n c.unmade_body.result _ _ _
+    label inside c.in_ok-push.ensures.items c.in_ok-code.ensures c.in_ok-body.ensures c.put_body.ensures c.in_ok-place_each.ensures
 
 pub close_lambdas-loop-l-init : goal.close_lambdas-loop-l-init
 close_lambdas-loop-l-init t c =
@@ -79,7 +78,8 @@ close_lambdas-loop-l-preserved t c =
       stand = lambdas_stand items c.loop-l.l-index e n m c.loop-l-test.true c.l-item.is p.count c.args.fields.now i.stand;
     }
 
-pub close_lambdas-returns-clause-made : goal.close_lambdas-returns-clause-made
-close_lambdas-returns-clause-made t c =
-    lambdas_end c.as_slice-l-items.result.now c.args.ls.now c.loop-l.l-index c.args.own.now (length c.loop-l.bodies.items)
-    (length c.args.bodies.now.items) c.loop-l.all c.as_slice-l-items.ensures c.loop-l-test.false c.loop-l.invariant.made
+pub close_lambdas-returns : goal.close_lambdas-returns
+close_lambdas-returns t c =
+    let i = c.loop-l.invariant in
+    lambdas_close c.as_slice-l-items.result.now c.args.ls.now c.loop-l.l-index c.args.own.now c.args.bodies.now.items c.loop-l.bodies.items c.loop-l.all c.as_slice-l-items.ensures c.loop-l-test.false
+    i.made i.bodies i.count

@@ -3,7 +3,7 @@ use Rattle.sch_cells.proofs.Rows.{trees_of_list}
 use Rattle.sch_flat.specs.View.{body}
 use Rattle.sch_closure.specs.Closed.{procedures_each, closed_each, starts}
 use Rattle.sch_closure.specs.Walked.{with_bodies_each}
-use Rattle.sch_closure.proofs.MadeLists.{each_made, each_bodies, each_count, each_start, each_stand, each_starts, each_end}
+use Rattle.sch_closure.proofs.MadeLists.{each_made, each_bodies, each_count, each_start, each_stand, each_starts, each_closes}
 use Rattle.sch_closure.proofs.closing.close_forms.Goals as goal
 
 pub loop-e-init : goal.loop-e-init
@@ -37,7 +37,8 @@ loop-e-preserved c =
           (c.in_ok-push.ensures.ok ∙ ap (λ k. c.loop-e.before ++ k ∷ []) k) i.starts;
     }
 
-pub returns-clause-made : goal.returns-clause-made
-returns-clause-made c =
-    each_end c.as_slice-e-items.result.now c.args.es.now c.loop-e.e-index [] (length c.loop-e.bodies.items)
-    (length c.args.bodies.now.items) c.loop-e.all c.as_slice-e-items.ensures c.loop-e-test.false c.loop-e.invariant.made
+pub returns-clause-closes : goal.returns-clause-closes
+returns-clause-closes c =
+    let i = c.loop-e.invariant in
+    each_closes c.as_slice-e-items.result.now c.args.es.now c.loop-e.e-index [] c.args.bodies.now.items c.loop-e.bodies.items c.loop-e.all c.as_slice-e-items.ensures c.loop-e-test.false
+    i.made i.bodies i.count

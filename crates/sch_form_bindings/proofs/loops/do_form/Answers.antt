@@ -8,5 +8,5 @@ pub returns : goal.returns
 returns c =
     let g = rw c.in-Some.is at c.in_ok-names.ensures in
     c.node.ensures ∙ do_made c.args.at (data_of c.args.parts.now.bindings.now) (tree_of c.args.parts.now.test.now) (data_of c.args.parts.now.results.now) (data_of c.args.parts.now.body.now)
-    c.push.new.self c.add_starts.new.parts c.new-all.result c.in_ok-operator.operator g.0 c.new-all.ensures c.in_ok-push.ensures.ok c.in_ok-add_starts.ensures c.in_ok-operator.ensures g.1
+    c.in_ok-all.all c.in_ok-operator.operator g.0 c.in_ok-all.ensures c.in_ok-operator.ensures g.1
     (ap given_names (c.in_ok-variables.ensures ∙ c.as_slice.ensures))

@@ -7,29 +7,29 @@ use Rattle.std.proofs.Common.{ap}
 use Rattle.sch_link_tables.proofs.NameSteps.{branch_globals, bind_globals, letrec_globals, call_globals, branch_symbols, bind_symbols, letrec_symbols, call_symbols, next_named}
 use Rattle.sch_link_tables.proofs.naming.+naming.Goals as goal
 
-pub name_draft-returns-in_ok-name_draft-in-If-3-clause-globals : goal.name_draft-returns-in_ok-name_draft-in-If-3-clause-globals
-name_draft-returns-in_ok-name_draft-in-If-3-clause-globals t c = branch_globals (names_of c.args.own.now) _ (branch_view _ _ _ c.in-If.is c.deref-in-If.ensures c.deref-in-If-2.ensures c.deref-in-If-3.ensures) c.in_ok-name_draft-in-If.ensures.globals c.in_ok-name_draft-in-If-2.ensures.globals c.in_ok-name_draft-in-If-3.ensures.globals
+pub name_if-returns-clause-globals : goal.name_if-returns-clause-globals
+name_if-returns-clause-globals t c = branch_globals (names_of c.args.own.now) _ (branch_view _ _ _ c.in-If.is c.deref.ensures c.deref-2.ensures c.deref-3.ensures) c.in_ok-name_draft.ensures.globals c.in_ok-name_draft-2.ensures.globals c.in_ok-name_draft-3.ensures.globals
 
-pub name_draft-returns-in_ok-name_draft-in-Let-clause-globals : goal.name_draft-returns-in_ok-name_draft-in-Let-clause-globals
-name_draft-returns-in_ok-name_draft-in-Let-clause-globals t c = bind_globals (names_of c.args.own.now) _ (bind_view _ _ _ c.in-Let.is refl c.as_slice-in-Let.ensures c.deref-in-Let.ensures) c.in_ok-name_each-in-Let.ensures.globals c.in_ok-name_draft-in-Let.ensures.globals
+pub name_let-returns-clause-globals : goal.name_let-returns-clause-globals
+name_let-returns-clause-globals t c = bind_globals (names_of c.args.own.now) _ (bind_view _ _ _ c.in-Let.is refl c.as_slice.ensures c.deref.ensures) c.in_ok-name_each.ensures.globals c.in_ok-name_draft.ensures.globals
 
-pub name_draft-returns-in_ok-name_draft-in-Letrec-clause-globals : goal.name_draft-returns-in_ok-name_draft-in-Letrec-clause-globals
-name_draft-returns-in_ok-name_draft-in-Letrec-clause-globals t c = letrec_globals (names_of c.args.own.now) _ (letrec_view _ _ _ _ c.in-Letrec.is refl c.as_slice-in-Letrec.ensures c.deref-in-Letrec.ensures) c.in_ok-name_each-in-Letrec.ensures.globals c.in_ok-name_draft-in-Letrec.ensures.globals
+pub name_letrec-returns-clause-globals : goal.name_letrec-returns-clause-globals
+name_letrec-returns-clause-globals t c = letrec_globals (names_of c.args.own.now) _ (letrec_view _ _ _ _ c.in-Letrec.is refl c.as_slice.ensures c.deref.ensures) c.in_ok-name_each.ensures.globals c.in_ok-name_draft.ensures.globals
 
-pub name_draft-returns-in_ok-name_each-in-Call-clause-globals : goal.name_draft-returns-in_ok-name_each-in-Call-clause-globals
-name_draft-returns-in_ok-name_each-in-Call-clause-globals t c = call_globals (names_of c.args.own.now) _ (call_view _ _ _ c.in-Call.is refl c.deref-in-Call.ensures c.as_slice-in-Call.ensures) c.in_ok-name_draft-in-Call.ensures.globals c.in_ok-name_each-in-Call.ensures.globals
+pub name_call-returns-clause-globals : goal.name_call-returns-clause-globals
+name_call-returns-clause-globals t c = call_globals (names_of c.args.own.now) _ (call_view _ _ _ c.in-Call.is refl c.deref.ensures c.as_slice.ensures) c.in_ok-name_draft.ensures.globals c.in_ok-name_each.ensures.globals
 
-pub name_draft-returns-in_ok-name_draft-in-If-3-clause-symbols : goal.name_draft-returns-in_ok-name_draft-in-If-3-clause-symbols
-name_draft-returns-in_ok-name_draft-in-If-3-clause-symbols t c = branch_symbols _ (branch_view _ _ _ c.in-If.is c.deref-in-If.ensures c.deref-in-If-2.ensures c.deref-in-If-3.ensures) c.in_ok-name_draft-in-If.ensures.symbols c.in_ok-name_draft-in-If-2.ensures.symbols c.in_ok-name_draft-in-If-3.ensures.symbols
+pub name_if-returns-clause-symbols : goal.name_if-returns-clause-symbols
+name_if-returns-clause-symbols t c = branch_symbols _ (branch_view _ _ _ c.in-If.is c.deref.ensures c.deref-2.ensures c.deref-3.ensures) c.in_ok-name_draft.ensures.symbols c.in_ok-name_draft-2.ensures.symbols c.in_ok-name_draft-3.ensures.symbols
 
-pub name_draft-returns-in_ok-name_draft-in-Let-clause-symbols : goal.name_draft-returns-in_ok-name_draft-in-Let-clause-symbols
-name_draft-returns-in_ok-name_draft-in-Let-clause-symbols t c = bind_symbols _ (bind_view _ _ _ c.in-Let.is refl c.as_slice-in-Let.ensures c.deref-in-Let.ensures) c.in_ok-name_each-in-Let.ensures.symbols c.in_ok-name_draft-in-Let.ensures.symbols
+pub name_let-returns-clause-symbols : goal.name_let-returns-clause-symbols
+name_let-returns-clause-symbols t c = bind_symbols _ (bind_view _ _ _ c.in-Let.is refl c.as_slice.ensures c.deref.ensures) c.in_ok-name_each.ensures.symbols c.in_ok-name_draft.ensures.symbols
 
-pub name_draft-returns-in_ok-name_draft-in-Letrec-clause-symbols : goal.name_draft-returns-in_ok-name_draft-in-Letrec-clause-symbols
-name_draft-returns-in_ok-name_draft-in-Letrec-clause-symbols t c = letrec_symbols _ (letrec_view _ _ _ _ c.in-Letrec.is refl c.as_slice-in-Letrec.ensures c.deref-in-Letrec.ensures) c.in_ok-name_each-in-Letrec.ensures.symbols c.in_ok-name_draft-in-Letrec.ensures.symbols
+pub name_letrec-returns-clause-symbols : goal.name_letrec-returns-clause-symbols
+name_letrec-returns-clause-symbols t c = letrec_symbols _ (letrec_view _ _ _ _ c.in-Letrec.is refl c.as_slice.ensures c.deref.ensures) c.in_ok-name_each.ensures.symbols c.in_ok-name_draft.ensures.symbols
 
-pub name_draft-returns-in_ok-name_each-in-Call-clause-symbols : goal.name_draft-returns-in_ok-name_each-in-Call-clause-symbols
-name_draft-returns-in_ok-name_each-in-Call-clause-symbols t c = call_symbols _ (call_view _ _ _ c.in-Call.is refl c.deref-in-Call.ensures c.as_slice-in-Call.ensures) c.in_ok-name_draft-in-Call.ensures.symbols c.in_ok-name_each-in-Call.ensures.symbols
+pub name_call-returns-clause-symbols : goal.name_call-returns-clause-symbols
+name_call-returns-clause-symbols t c = call_symbols _ (call_view _ _ _ c.in-Call.is refl c.deref.ensures c.as_slice.ensures) c.in_ok-name_draft.ensures.symbols c.in_ok-name_each.ensures.symbols
 
 pub name_each-loop-e-preserved : goal.name_each-loop-e-preserved
 name_each-loop-e-preserved t c =

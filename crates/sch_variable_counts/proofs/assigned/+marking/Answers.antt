@@ -1,4 +1,5 @@
 use Rattle.std.proofs.Common.{ap, ◌∙◌, ◌+◌, arith, reverse, sym}
+use Rattle.std.proofs.lemmas.Result.{IfOk-from_err}
 use Rattle.sch_lang.specs.Variables.{assigns, assigns_each, assigns_lambdas}
 use Rattle.sch_lang.specs.View.{expression, expressions_of, lambdas_of}
 use Rattle.sch_variable_counts.specs.Walked.{marks_of, marks_in_each, marks_in_lambdas}
@@ -110,3 +111,62 @@ mark_under-returns-clause-stack t c =
     let scope = reverse c.args.scope.now.items in
     (c.in_ok-close.ensures f (marked (λ i. f (i + c.args.count)) 0 scope) (under_marked f c.args.count scope c.in_ok-bind_all.ensures.bound c.in_ok-mark.ensures.scope)).1
     ∙ ap (marks_of c.args.count f) c.in_ok-mark.ensures.stack
+
+-- ## What errors leave
+
+pub mark-returns-in_err-mark-in-SetLocal : goal.mark-returns-in_err-mark-in-SetLocal
+mark-returns-in_err-mark-in-SetLocal t c = record { scope = IfOk-from_err c.from_residual.result _ c.from_residual.ensures.0; stack = IfOk-from_err c.from_residual.result _ c.from_residual.ensures.0 }
+
+pub mark-returns-in_err-mark-in-If : goal.mark-returns-in_err-mark-in-If
+mark-returns-in_err-mark-in-If t c = record { scope = IfOk-from_err c.from_residual-in_err-mark-in-If.result _ c.from_residual-in_err-mark-in-If.ensures.0; stack = IfOk-from_err c.from_residual-in_err-mark-in-If.result _ c.from_residual-in_err-mark-in-If.ensures.0 }
+
+pub mark-returns-in_err-mark-in-If-2 : goal.mark-returns-in_err-mark-in-If-2
+mark-returns-in_err-mark-in-If-2 t c = record { scope = IfOk-from_err c.from_residual-in_err-mark-in-If-2.result _ c.from_residual-in_err-mark-in-If-2.ensures.0; stack = IfOk-from_err c.from_residual-in_err-mark-in-If-2.result _ c.from_residual-in_err-mark-in-If-2.ensures.0 }
+
+pub mark-returns-in_err-mark-in-If-3 : goal.mark-returns-in_err-mark-in-If-3
+mark-returns-in_err-mark-in-If-3 t c = record { scope = IfOk-from_err c.from_residual-in_err-mark-in-If-3.result _ c.from_residual-in_err-mark-in-If-3.ensures.0; stack = IfOk-from_err c.from_residual-in_err-mark-in-If-3.result _ c.from_residual-in_err-mark-in-If-3.ensures.0 }
+
+pub mark-returns-in_err-mark_under-in-Let : goal.mark-returns-in_err-mark_under-in-Let
+mark-returns-in_err-mark_under-in-Let t c = record { scope = IfOk-from_err c.from_residual-in_err-mark_under-in-Let.result _ c.from_residual-in_err-mark_under-in-Let.ensures.0; stack = IfOk-from_err c.from_residual-in_err-mark_under-in-Let.result _ c.from_residual-in_err-mark_under-in-Let.ensures.0 }
+
+pub mark-returns-in_err-mark_each-in-Let : goal.mark-returns-in_err-mark_each-in-Let
+mark-returns-in_err-mark_each-in-Let t c = record { scope = IfOk-from_err c.from_residual-in_err-mark_each-in-Let.result _ c.from_residual-in_err-mark_each-in-Let.ensures.0; stack = IfOk-from_err c.from_residual-in_err-mark_each-in-Let.result _ c.from_residual-in_err-mark_each-in-Let.ensures.0 }
+
+pub mark-returns-in_err-mark_each-in-Call : goal.mark-returns-in_err-mark_each-in-Call
+mark-returns-in_err-mark_each-in-Call t c = record { scope = IfOk-from_err c.from_residual-in_err-mark_each-in-Call.result _ c.from_residual-in_err-mark_each-in-Call.ensures.0; stack = IfOk-from_err c.from_residual-in_err-mark_each-in-Call.result _ c.from_residual-in_err-mark_each-in-Call.ensures.0 }
+
+pub mark-returns-in_err-mark-in-Call : goal.mark-returns-in_err-mark-in-Call
+mark-returns-in_err-mark-in-Call t c = record { scope = IfOk-from_err c.from_residual-in_err-mark-in-Call.result _ c.from_residual-in_err-mark-in-Call.ensures.0; stack = IfOk-from_err c.from_residual-in_err-mark-in-Call.result _ c.from_residual-in_err-mark-in-Call.ensures.0 }
+
+pub mark_fix-returns-in_err-bind_all : goal.mark_fix-returns-in_err-bind_all
+mark_fix-returns-in_err-bind_all t c = record { scope = IfOk-from_err c.from_residual.result _ c.from_residual.ensures.0; stack = IfOk-from_err c.from_residual.result _ c.from_residual.ensures.0 }
+
+pub mark_fix-returns-in_err-mark : goal.mark_fix-returns-in_err-mark
+mark_fix-returns-in_err-mark t c = record { scope = IfOk-from_err c.from_residual-in_err-mark.result _ c.from_residual-in_err-mark.ensures.0; stack = IfOk-from_err c.from_residual-in_err-mark.result _ c.from_residual-in_err-mark.ensures.0 }
+
+pub mark_fix-returns-in_err-mark_lambdas : goal.mark_fix-returns-in_err-mark_lambdas
+mark_fix-returns-in_err-mark_lambdas t c = record { scope = IfOk-from_err c.from_residual-in_err-mark_lambdas.result _ c.from_residual-in_err-mark_lambdas.ensures.0; stack = IfOk-from_err c.from_residual-in_err-mark_lambdas.result _ c.from_residual-in_err-mark_lambdas.ensures.0 }
+
+pub mark_rec-returns-in_err-bind_all : goal.mark_rec-returns-in_err-bind_all
+mark_rec-returns-in_err-bind_all t c = record { scope = IfOk-from_err c.from_residual.result _ c.from_residual.ensures.0; stack = IfOk-from_err c.from_residual.result _ c.from_residual.ensures.0 }
+
+pub mark_rec-returns-in_err-mark : goal.mark_rec-returns-in_err-mark
+mark_rec-returns-in_err-mark t c = record { scope = IfOk-from_err c.from_residual-in_err-mark.result _ c.from_residual-in_err-mark.ensures.0; stack = IfOk-from_err c.from_residual-in_err-mark.result _ c.from_residual-in_err-mark.ensures.0 }
+
+pub mark_rec-returns-in_err-mark_each : goal.mark_rec-returns-in_err-mark_each
+mark_rec-returns-in_err-mark_each t c = record { scope = IfOk-from_err c.from_residual-in_err-mark_each.result _ c.from_residual-in_err-mark_each.ensures.0; stack = IfOk-from_err c.from_residual-in_err-mark_each.result _ c.from_residual-in_err-mark_each.ensures.0 }
+
+pub mark_under-returns-in_err-bind_all : goal.mark_under-returns-in_err-bind_all
+mark_under-returns-in_err-bind_all t c = record { scope = IfOk-from_err c.from_residual.result _ c.from_residual.ensures.0; stack = IfOk-from_err c.from_residual.result _ c.from_residual.ensures.0 }
+
+pub mark_under-returns-in_err-mark : goal.mark_under-returns-in_err-mark
+mark_under-returns-in_err-mark t c = record { scope = IfOk-from_err c.from_residual-in_err-mark.result _ c.from_residual-in_err-mark.ensures.0; stack = IfOk-from_err c.from_residual-in_err-mark.result _ c.from_residual-in_err-mark.ensures.0 }
+
+pub mark_under-returns-in_err-close : goal.mark_under-returns-in_err-close
+mark_under-returns-in_err-close t c = record { scope = IfOk-from_err c.from_residual-in_err-close.result _ c.from_residual-in_err-close.ensures.0; stack = IfOk-from_err c.from_residual-in_err-close.result _ c.from_residual-in_err-close.ensures.0 }
+
+pub mark_each-returns-in_err-mark : goal.mark_each-returns-in_err-mark
+mark_each-returns-in_err-mark t c = record { scope = IfOk-from_err c.from_residual.result _ c.from_residual.ensures.0; stack = IfOk-from_err c.from_residual.result _ c.from_residual.ensures.0 }
+
+pub mark_lambdas-returns-in_err-mark_under : goal.mark_lambdas-returns-in_err-mark_under
+mark_lambdas-returns-in_err-mark_under t c = record { scope = IfOk-from_err c.from_residual.result _ c.from_residual.ensures.0; stack = IfOk-from_err c.from_residual.result _ c.from_residual.ensures.0 }

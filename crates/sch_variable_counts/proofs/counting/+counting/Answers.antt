@@ -1,5 +1,6 @@
 use Rattle.std.proofs.Common.{ap, refl, cond, length, nat_eq, reverse, ◌+◌, ◌∙◌}
 use Rattle.sch_word.specs.trees.VariableCounts.{one_unless}
+use Rattle.std.proofs.lemmas.Result.{IfOk-from_err}
 use Rattle.sch_lang.specs.Measures.{counts_nothing, variables, variables_each, variables_operands, variables_parts}
 use Rattle.sch_lang.specs.View.{expression, expressions_of, lambdas_of}
 use Rattle.sch_variable_counts.proofs.ExpressionViews.{branch_view, bind_view, fix_view, letrec_view, call_view}
@@ -137,3 +138,77 @@ count_body-returns t c =
     body_taken E c.args.formals c.new-once.ensures.items
     (under_taken E c.args.formals c.new-once.result.items c.new-once.result.items c.bind_assigned.new.once.items (c.in_ok-bound.ensures.count E) (c.in_ok-bound.ensures.once E) refl c.in_ok-inside.ensures.count c.with-all.ensures.variables c.with-all.ensures.few)
     c.both.ensures
+
+-- ## What errors leave
+
+pub count_in-returns-in_err-few-in-Lambda : goal.count_in-returns-in_err-few-in-Lambda
+count_in-returns-in_err-few-in-Lambda t c = record { count = IfOk-from_err c.from_residual.result _ c.from_residual.ensures.0; once = IfOk-from_err c.from_residual.result _ c.from_residual.ensures.0 }
+
+pub count_in-returns-in_err-a-in-If : goal.count_in-returns-in_err-a-in-If
+count_in-returns-in_err-a-in-If t c = record { count = IfOk-from_err c.from_residual-in_err-a-in-If.result _ c.from_residual-in_err-a-in-If.ensures.0; once = IfOk-from_err c.from_residual-in_err-a-in-If.result _ c.from_residual-in_err-a-in-If.ensures.0 }
+
+pub count_in-returns-in_err-b-in-If : goal.count_in-returns-in_err-b-in-If
+count_in-returns-in_err-b-in-If t c = record { count = IfOk-from_err c.from_residual-in_err-b-in-If.result _ c.from_residual-in_err-b-in-If.ensures.0; once = IfOk-from_err c.from_residual-in_err-b-in-If.result _ c.from_residual-in_err-b-in-If.ensures.0 }
+
+pub count_in-returns-in_err-c-in-If : goal.count_in-returns-in_err-c-in-If
+count_in-returns-in_err-c-in-If t c = record { count = IfOk-from_err c.from_residual-in_err-c-in-If.result _ c.from_residual-in_err-c-in-If.ensures.0; once = IfOk-from_err c.from_residual-in_err-c-in-If.result _ c.from_residual-in_err-c-in-If.ensures.0 }
+
+pub count_in-returns-in_err-first-in-Call : goal.count_in-returns-in_err-first-in-Call
+count_in-returns-in_err-first-in-Call t c = record { count = IfOk-from_err c.from_residual-in_err-first-in-Call.result _ c.from_residual-in_err-first-in-Call.ensures.0; once = IfOk-from_err c.from_residual-in_err-first-in-Call.result _ c.from_residual-in_err-first-in-Call.ensures.0 }
+
+pub count_in-returns-in_err-others-in-Call : goal.count_in-returns-in_err-others-in-Call
+count_in-returns-in_err-others-in-Call t c = record { count = IfOk-from_err c.from_residual-in_err-others-in-Call.result _ c.from_residual-in_err-others-in-Call.ensures.0; once = IfOk-from_err c.from_residual-in_err-others-in-Call.result _ c.from_residual-in_err-others-in-Call.ensures.0 }
+
+pub count_let-returns-in_err-first : goal.count_let-returns-in_err-first
+count_let-returns-in_err-first t c = record { count = IfOk-from_err c.from_residual.result _ c.from_residual.ensures.0; once = IfOk-from_err c.from_residual.result _ c.from_residual.ensures.0 }
+
+pub count_let-returns-in_err-bound : goal.count_let-returns-in_err-bound
+count_let-returns-in_err-bound t c = record { count = IfOk-from_err c.from_residual-in_err-bound.result _ c.from_residual-in_err-bound.ensures.0; once = IfOk-from_err c.from_residual-in_err-bound.result _ c.from_residual-in_err-bound.ensures.0 }
+
+pub count_let-returns-in_err-inside : goal.count_let-returns-in_err-inside
+count_let-returns-in_err-inside t c = record { count = IfOk-from_err c.from_residual-in_err-inside.result _ c.from_residual-in_err-inside.ensures.0; once = IfOk-from_err c.from_residual-in_err-inside.result _ c.from_residual-in_err-inside.ensures.0 }
+
+pub count_fix-returns-in_err-few : goal.count_fix-returns-in_err-few
+count_fix-returns-in_err-few t c = record { count = IfOk-from_err c.from_residual.result _ c.from_residual.ensures.0; once = IfOk-from_err c.from_residual.result _ c.from_residual.ensures.0 }
+
+pub count_fix-returns-in_err-bind_all : goal.count_fix-returns-in_err-bind_all
+count_fix-returns-in_err-bind_all t c = record { count = IfOk-from_err c.from_residual-in_err-bind_all.result _ c.from_residual-in_err-bind_all.ensures.0; once = IfOk-from_err c.from_residual-in_err-bind_all.result _ c.from_residual-in_err-bind_all.ensures.0 }
+
+pub count_fix-returns-in_err-inside : goal.count_fix-returns-in_err-inside
+count_fix-returns-in_err-inside t c = record { count = IfOk-from_err c.from_residual-in_err-inside.result _ c.from_residual-in_err-inside.ensures.0; once = IfOk-from_err c.from_residual-in_err-inside.result _ c.from_residual-in_err-inside.ensures.0 }
+
+pub count_rec-returns-in_err-bind_all : goal.count_rec-returns-in_err-bind_all
+count_rec-returns-in_err-bind_all t c = record { count = IfOk-from_err c.from_residual.result _ c.from_residual.ensures.0; once = IfOk-from_err c.from_residual.result _ c.from_residual.ensures.0 }
+
+pub count_rec-returns-in_err-first : goal.count_rec-returns-in_err-first
+count_rec-returns-in_err-first t c = record { count = IfOk-from_err c.from_residual-in_err-first.result _ c.from_residual-in_err-first.ensures.0; once = IfOk-from_err c.from_residual-in_err-first.result _ c.from_residual-in_err-first.ensures.0 }
+
+pub count_rec-returns-in_err-inside : goal.count_rec-returns-in_err-inside
+count_rec-returns-in_err-inside t c = record { count = IfOk-from_err c.from_residual-in_err-inside.result _ c.from_residual-in_err-inside.ensures.0; once = IfOk-from_err c.from_residual-in_err-inside.result _ c.from_residual-in_err-inside.ensures.0 }
+
+pub count_value-returns-in_err-inside : goal.count_value-returns-in_err-inside
+count_value-returns-in_err-inside t c = record { count = IfOk-from_err c.from_residual.result _ c.from_residual.ensures.0; once = IfOk-from_err c.from_residual.result _ c.from_residual.ensures.0 }
+
+pub count_each-returns-in_err-here : goal.count_each-returns-in_err-here
+count_each-returns-in_err-here t c = record { count = IfOk-from_err c.from_residual.result _ c.from_residual.ensures.0; once = IfOk-from_err c.from_residual.result _ c.from_residual.ensures.0 }
+
+pub count_operands-returns-in_err-here : goal.count_operands-returns-in_err-here
+count_operands-returns-in_err-here t c = record { count = IfOk-from_err c.from_residual.result _ c.from_residual.ensures.0; once = IfOk-from_err c.from_residual.result _ c.from_residual.ensures.0 }
+
+pub count_parts-returns-in_err-here : goal.count_parts-returns-in_err-here
+count_parts-returns-in_err-here t c = record { count = IfOk-from_err c.from_residual.result _ c.from_residual.ensures.0; once = IfOk-from_err c.from_residual.result _ c.from_residual.ensures.0 }
+
+pub count_part-returns-in_err-inside : goal.count_part-returns-in_err-inside
+count_part-returns-in_err-inside t c = record { count = IfOk-from_err c.from_residual.result _ c.from_residual.ensures.0; once = IfOk-from_err c.from_residual.result _ c.from_residual.ensures.0 }
+
+pub count_part-returns-in_err-inside-2 : goal.count_part-returns-in_err-inside-2
+count_part-returns-in_err-inside-2 t c = record { count = IfOk-from_err c.from_residual-in_err-inside-2.result _ c.from_residual-in_err-inside-2.ensures.0; once = IfOk-from_err c.from_residual-in_err-inside-2.result _ c.from_residual-in_err-inside-2.ensures.0 }
+
+pub count_each_lambda-returns-in_err-here : goal.count_each_lambda-returns-in_err-here
+count_each_lambda-returns-in_err-here t c = IfOk-from_err c.from_residual.result _ c.from_residual.ensures.0
+
+pub count_body-returns-in_err-bound : goal.count_body-returns-in_err-bound
+count_body-returns-in_err-bound t c = IfOk-from_err c.from_residual.result _ c.from_residual.ensures.0
+
+pub count_body-returns-in_err-inside : goal.count_body-returns-in_err-inside
+count_body-returns-in_err-inside t c = IfOk-from_err c.from_residual-in_err-inside.result _ c.from_residual-in_err-inside.ensures.0

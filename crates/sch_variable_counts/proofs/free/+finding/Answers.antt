@@ -2,6 +2,7 @@ use Rattle.std.proofs.Common.{[], ◌∙◌, ap, arith, length, reverse}
 use Rattle.std.specs.Prelude.{◌&&◌, nat_le}
 use Rattle.sch_word.specs.trees.Shape.{max_free_variables}
 use Rattle.sch_word.proofs.facts.Booleans.{and_true}
+use Rattle.std.proofs.lemmas.Result.{IfOk-from_err}
 use Rattle.sch_lang.specs.View.{expression, expressions_of, lambdas_of}
 use Rattle.sch_variable_counts.specs.Walked.{found, found_each, found_lambdas}
 use Rattle.sch_variable_counts.specs.Within.{has_few_free, each_procedure_in, each_lambda}
@@ -56,22 +57,99 @@ find_procedure-returns-clause-few t c =
     c.both.ensures ∙ ap (λ n. nat_le n max_free_variables && c.in_ok-few.few) (ap length c.as_slice-outer.ensures.value)
     ∙ few_are c.args.formals c.in_ok-own.own.items c.as_slice.result.now (expression c.args.e.now) c.find.new.xs.items c.new-inside.result.items _ c.in_ok-own.ensures c.as_slice.ensures.value c.new-inside.ensures.items c.in_ok-few.ensures.found c.in_ok-few.ensures.few
 
-pub find-insert_list-requires : goal.find-insert_list-requires
-find-insert_list-requires t c =
-    let E = expression c.deref-in-Let.result.now in
-    is_once c.count.result c.in_ok-outer-in-Let.outer.items c.as_slice.result.now c.find-in-Let.new.xs.items (found E []) c.in_ok-outer-in-Let.ensures c.as_slice.ensures.value
-    (c.in_ok-few-in-Let.ensures.found ∙ ap (λ l. found E (reverse l)) c.new-inside.ensures.items) (once_found c.count.result E)
+pub find_let-insert_list-requires : goal.find_let-insert_list-requires
+find_let-insert_list-requires t c =
+    let E = expression c.deref.result.now in
+    is_once c.count.result c.in_ok-outer.outer.items c.as_slice.result.now c.find.new.xs.items (found E []) c.in_ok-outer.ensures c.as_slice.ensures.value
+    (c.in_ok-few.ensures.found ∙ ap (λ l. found E (reverse l)) c.new-inside.ensures.items) (once_found c.count.result E)
 
-pub find-insert_list-requires-in-Fix : goal.find-insert_list-requires-in-Fix
-find-insert_list-requires-in-Fix t c =
-    let E = expression c.deref-in-Fix.result.now in
+pub find_fix-insert_list-requires : goal.find_fix-insert_list-requires
+find_fix-insert_list-requires t c =
+    let E = expression c.deref.result.now in
     let ls = lambdas_of c.in-Fix.lambdas in
-    is_once c.count_lambdas.result c.in_ok-outer-in-Fix.outer.items c.as_slice-in-Fix.result.now c.find_lambdas.new.xs.items (found_lambdas ls (found E [])) c.in_ok-outer-in-Fix.ensures c.as_slice-in-Fix.ensures.value
-    (c.in_ok-first-in-Fix.ensures.found ∙ ap (found_lambdas ls) (c.in_ok-few-in-Fix.ensures.found ∙ ap (λ l. found E (reverse l)) c.new-inside-in-Fix.ensures.items)) (once_found_lambdas c.count_lambdas.result E ls)
+    is_once c.count_lambdas.result c.in_ok-outer.outer.items c.as_slice.result.now c.find_lambdas.new.xs.items (found_lambdas ls (found E [])) c.in_ok-outer.ensures c.as_slice.ensures.value
+    (c.in_ok-first.ensures.found ∙ ap (found_lambdas ls) (c.in_ok-few.ensures.found ∙ ap (λ l. found E (reverse l)) c.new-inside.ensures.items)) (once_found_lambdas c.count_lambdas.result E ls)
 
-pub find-insert_list-requires-in-Rec : goal.find-insert_list-requires-in-Rec
-find-insert_list-requires-in-Rec t c =
-    let E = expression c.deref-in-Rec.result.now in
+pub find_rec-insert_list-requires : goal.find_rec-insert_list-requires
+find_rec-insert_list-requires t c =
+    let E = expression c.deref.result.now in
     let es = expressions_of c.in-Rec.inits in
-    is_once c.count-in-Rec.result c.in_ok-outer-in-Rec.outer.items c.as_slice-in-Rec.result.now c.find_each-in-Rec.new.xs.items (found_each es (found E [])) c.in_ok-outer-in-Rec.ensures c.as_slice-in-Rec.ensures.value
-    (c.in_ok-first-in-Rec.ensures.found ∙ ap (found_each es) (c.in_ok-few-in-Rec.ensures.found ∙ ap (λ l. found E (reverse l)) c.new-inside-in-Rec.ensures.items)) (once_found_each c.count-in-Rec.result E es)
+    is_once c.count.result c.in_ok-outer.outer.items c.as_slice.result.now c.find_each.new.xs.items (found_each es (found E [])) c.in_ok-outer.ensures c.as_slice.ensures.value
+    (c.in_ok-first.ensures.found ∙ ap (found_each es) (c.in_ok-few.ensures.found ∙ ap (λ l. found E (reverse l)) c.new-inside.ensures.items)) (once_found_each c.count.result E es)
+
+-- ## What errors leave
+
+pub find_procedure-returns-in_err-few : goal.find_procedure-returns-in_err-few
+find_procedure-returns-in_err-few t c = record { found = IfOk-from_err c.from_residual.result _ c.from_residual.ensures.0; few = IfOk-from_err c.from_residual.result _ c.from_residual.ensures.0 }
+
+pub find_procedure-returns-in_err-own : goal.find_procedure-returns-in_err-own
+find_procedure-returns-in_err-own t c = record { found = IfOk-from_err c.from_residual-in_err-own.result _ c.from_residual-in_err-own.ensures.0; few = IfOk-from_err c.from_residual-in_err-own.result _ c.from_residual-in_err-own.ensures.0 }
+
+pub find_procedure-returns-in_err-insert_numbers : goal.find_procedure-returns-in_err-insert_numbers
+find_procedure-returns-in_err-insert_numbers t c = record { found = IfOk-from_err c.from_residual-in_err-insert_numbers.result _ c.from_residual-in_err-insert_numbers.ensures.0; few = IfOk-from_err c.from_residual-in_err-insert_numbers.result _ c.from_residual-in_err-insert_numbers.ensures.0 }
+
+pub find-returns-in_err-insert_number-in-Local : goal.find-returns-in_err-insert_number-in-Local
+find-returns-in_err-insert_number-in-Local t c = record { found = IfOk-from_err c.from_residual.result _ c.from_residual.ensures.0; few = IfOk-from_err c.from_residual.result _ c.from_residual.ensures.0 }
+
+pub find-returns-in_err-few-in-SetLocal : goal.find-returns-in_err-few-in-SetLocal
+find-returns-in_err-few-in-SetLocal t c = record { found = IfOk-from_err c.from_residual-in_err-few-in-SetLocal.result _ c.from_residual-in_err-few-in-SetLocal.ensures.0; few = IfOk-from_err c.from_residual-in_err-few-in-SetLocal.result _ c.from_residual-in_err-few-in-SetLocal.ensures.0 }
+
+pub find-returns-in_err-insert_number-in-SetLocal : goal.find-returns-in_err-insert_number-in-SetLocal
+find-returns-in_err-insert_number-in-SetLocal t c = record { found = IfOk-from_err c.from_residual-in_err-insert_number-in-SetLocal.result _ c.from_residual-in_err-insert_number-in-SetLocal.ensures.0; few = IfOk-from_err c.from_residual-in_err-insert_number-in-SetLocal.result _ c.from_residual-in_err-insert_number-in-SetLocal.ensures.0 }
+
+pub find-returns-in_err-c-in-If : goal.find-returns-in_err-c-in-If
+find-returns-in_err-c-in-If t c = record { found = IfOk-from_err c.from_residual-in_err-c-in-If.result _ c.from_residual-in_err-c-in-If.ensures.0; few = IfOk-from_err c.from_residual-in_err-c-in-If.result _ c.from_residual-in_err-c-in-If.ensures.0 }
+
+pub find-returns-in_err-b-in-If : goal.find-returns-in_err-b-in-If
+find-returns-in_err-b-in-If t c = record { found = IfOk-from_err c.from_residual-in_err-b-in-If.result _ c.from_residual-in_err-b-in-If.ensures.0; few = IfOk-from_err c.from_residual-in_err-b-in-If.result _ c.from_residual-in_err-b-in-If.ensures.0 }
+
+pub find-returns-in_err-a-in-If : goal.find-returns-in_err-a-in-If
+find-returns-in_err-a-in-If t c = record { found = IfOk-from_err c.from_residual-in_err-a-in-If.result _ c.from_residual-in_err-a-in-If.ensures.0; few = IfOk-from_err c.from_residual-in_err-a-in-If.result _ c.from_residual-in_err-a-in-If.ensures.0 }
+
+pub find-returns-in_err-others-in-Call : goal.find-returns-in_err-others-in-Call
+find-returns-in_err-others-in-Call t c = record { found = IfOk-from_err c.from_residual-in_err-others-in-Call.result _ c.from_residual-in_err-others-in-Call.ensures.0; few = IfOk-from_err c.from_residual-in_err-others-in-Call.result _ c.from_residual-in_err-others-in-Call.ensures.0 }
+
+pub find-returns-in_err-first-in-Call : goal.find-returns-in_err-first-in-Call
+find-returns-in_err-first-in-Call t c = record { found = IfOk-from_err c.from_residual-in_err-first-in-Call.result _ c.from_residual-in_err-first-in-Call.ensures.0; few = IfOk-from_err c.from_residual-in_err-first-in-Call.result _ c.from_residual-in_err-first-in-Call.ensures.0 }
+
+pub find_let-returns-in_err-few : goal.find_let-returns-in_err-few
+find_let-returns-in_err-few t c = record { found = IfOk-from_err c.from_residual.result _ c.from_residual.ensures.0; few = IfOk-from_err c.from_residual.result _ c.from_residual.ensures.0 }
+
+pub find_let-returns-in_err-outer : goal.find_let-returns-in_err-outer
+find_let-returns-in_err-outer t c = record { found = IfOk-from_err c.from_residual-in_err-outer.result _ c.from_residual-in_err-outer.ensures.0; few = IfOk-from_err c.from_residual-in_err-outer.result _ c.from_residual-in_err-outer.ensures.0 }
+
+pub find_let-returns-in_err-insert_list : goal.find_let-returns-in_err-insert_list
+find_let-returns-in_err-insert_list t c = record { found = IfOk-from_err c.from_residual-in_err-insert_list.result _ c.from_residual-in_err-insert_list.ensures.0; few = IfOk-from_err c.from_residual-in_err-insert_list.result _ c.from_residual-in_err-insert_list.ensures.0 }
+
+pub find_let-returns-in_err-first : goal.find_let-returns-in_err-first
+find_let-returns-in_err-first t c = record { found = IfOk-from_err c.from_residual-in_err-first.result _ c.from_residual-in_err-first.ensures.0; few = IfOk-from_err c.from_residual-in_err-first.result _ c.from_residual-in_err-first.ensures.0 }
+
+pub find_fix-returns-in_err-few : goal.find_fix-returns-in_err-few
+find_fix-returns-in_err-few t c = record { found = IfOk-from_err c.from_residual.result _ c.from_residual.ensures.0; few = IfOk-from_err c.from_residual.result _ c.from_residual.ensures.0 }
+
+pub find_fix-returns-in_err-first : goal.find_fix-returns-in_err-first
+find_fix-returns-in_err-first t c = record { found = IfOk-from_err c.from_residual-in_err-first.result _ c.from_residual-in_err-first.ensures.0; few = IfOk-from_err c.from_residual-in_err-first.result _ c.from_residual-in_err-first.ensures.0 }
+
+pub find_fix-returns-in_err-outer : goal.find_fix-returns-in_err-outer
+find_fix-returns-in_err-outer t c = record { found = IfOk-from_err c.from_residual-in_err-outer.result _ c.from_residual-in_err-outer.ensures.0; few = IfOk-from_err c.from_residual-in_err-outer.result _ c.from_residual-in_err-outer.ensures.0 }
+
+pub find_fix-returns-in_err-insert_list : goal.find_fix-returns-in_err-insert_list
+find_fix-returns-in_err-insert_list t c = record { found = IfOk-from_err c.from_residual-in_err-insert_list.result _ c.from_residual-in_err-insert_list.ensures.0; few = IfOk-from_err c.from_residual-in_err-insert_list.result _ c.from_residual-in_err-insert_list.ensures.0 }
+
+pub find_rec-returns-in_err-few : goal.find_rec-returns-in_err-few
+find_rec-returns-in_err-few t c = record { found = IfOk-from_err c.from_residual.result _ c.from_residual.ensures.0; few = IfOk-from_err c.from_residual.result _ c.from_residual.ensures.0 }
+
+pub find_rec-returns-in_err-first : goal.find_rec-returns-in_err-first
+find_rec-returns-in_err-first t c = record { found = IfOk-from_err c.from_residual-in_err-first.result _ c.from_residual-in_err-first.ensures.0; few = IfOk-from_err c.from_residual-in_err-first.result _ c.from_residual-in_err-first.ensures.0 }
+
+pub find_rec-returns-in_err-outer : goal.find_rec-returns-in_err-outer
+find_rec-returns-in_err-outer t c = record { found = IfOk-from_err c.from_residual-in_err-outer.result _ c.from_residual-in_err-outer.ensures.0; few = IfOk-from_err c.from_residual-in_err-outer.result _ c.from_residual-in_err-outer.ensures.0 }
+
+pub find_rec-returns-in_err-insert_list : goal.find_rec-returns-in_err-insert_list
+find_rec-returns-in_err-insert_list t c = record { found = IfOk-from_err c.from_residual-in_err-insert_list.result _ c.from_residual-in_err-insert_list.ensures.0; few = IfOk-from_err c.from_residual-in_err-insert_list.result _ c.from_residual-in_err-insert_list.ensures.0 }
+
+pub find_each-returns-in_err-here : goal.find_each-returns-in_err-here
+find_each-returns-in_err-here t c = record { found = IfOk-from_err c.from_residual.result _ c.from_residual.ensures.0; few = IfOk-from_err c.from_residual.result _ c.from_residual.ensures.0 }
+
+pub find_lambdas-returns-in_err-here : goal.find_lambdas-returns-in_err-here
+find_lambdas-returns-in_err-here t c = record { found = IfOk-from_err c.from_residual.result _ c.from_residual.ensures.0; few = IfOk-from_err c.from_residual.result _ c.from_residual.ensures.0 }

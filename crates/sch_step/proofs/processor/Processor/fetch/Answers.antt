@@ -2,7 +2,7 @@ use Rattle.std.proofs.Common.{◌∙◌, sym, ap, arith}
 use Rattle.sch_insn.specs.Decode.{decode}
 use Rattle.sch_word.specs.values.Options.{when_some}
 use Rattle.sch_step.specs.Fetched.{is_fixed}
-use Rattle.sch_step.proofs.Memory.{served_open, served_shut, none_serves}
+use Rattle.sch_step.proofs.Memory.{begins_before, lies_within, served_open, served_shut, none_serves}
 use Rattle.sch_step.proofs.FetchedStays.{is_fixed_by, read_low}
 use Rattle.sch_step.specs.Layout.{segment_view}
 use Rattle.sch_step.proofs.processor.Processor.fetch.Goals as goal
@@ -33,3 +33,18 @@ pub keep-requires-clause-fixed : goal.keep-requires-clause-fixed
 keep-requires-clause-fixed c = ap (λ o. when_some o decode) (served_open is_fixed c.args.self.now.segments.items c.in_ok-i.i c.args.self.now.at 1 c.index-s.result.now
     (omega arith) c.args.self.now.laid_out c.in_ok-i.ensures.within c.in_ok-i.ensures.some c.index-s.ensures
     (is_fixed_by (segment_view c.index-s.result.now) c.if-not-s.false c.if-not-s-2.true)) ∙ sym (c.decode-found.ensures.read ∙ ap decode c.tail.ensures)
+
+pub returns-then-not-s-2-clause-low : goal.returns-then-not-s-2-clause-low
+returns-then-not-s-2-clause-low c = read_low c.args.self.now.segments.items c.in_ok-i.i c.args.self.now.at c.index-s.result.now c.tail.result.now c.decode-found.result
+    c.args.self.now.laid_out c.in_ok-i.ensures.within c.in_ok-i.ensures.some c.index-s.ensures c.tail.ensures c.decode-found.ensures.within
+
+pub invariant_of-self : goal.invariant_of-self
+invariant_of-self c = record { laid_out = c.args.self.now.laid_out; counted = c.args.self.now.counted; kept = c.args.self.now.kept }
+
+pub overflow_sub-self : goal.overflow_sub-self
+overflow_sub-self c = begins_before c.args.self.now.segments.items c.in_ok-i.i _ 1 c.index-s.result.now c.in_ok-i.ensures.within c.in_ok-i.ensures.some c.index-s.ensures
+
+pub tail-requires : goal.tail-requires
+tail-requires c =
+    let room = lies_within c.args.self.now.segments.items c.in_ok-i.i c.args.self.now.at 1 c.index-s.result.now c.in_ok-i.ensures.within c.in_ok-i.ensures.some c.index-s.ensures in
+    omega (arith, room)
