@@ -16,7 +16,7 @@ use Rattle.sch_anf_laws.specs.LabelsFit.{LabelsFit, LabelsFitEach}
 use Rattle.sch_anf_laws.specs.Normal.{Scope, ends_in_call, unless_atom, binds, binds_parts, init_numbers, inits_bind, normal, normal_parts, operand_at, operand_binds, operands_at, operands_bind, with_inits, with_operands}
 use Rattle.sch_anf.specs.declared.variables.Variables.{Variables}
 use Rattle.sch_anf.specs.ScopeTable.{scope_of}
-use Rattle.sch_anf.specs.Walked.{NormalizesInits, NormalizesOperands, NormalizesParts}
+use Rattle.sch_anf.specs.Walked.{NormalizesInits, NormalizesEachOperand, NormalizesSequence}
 use Rattle.sch_anf.specs.Steps.{after, Adds}
 use Rattle.sch_anf.specs.Round.{bound_before, dropped_before, part_before}
 use Rattle.sch_anf_laws.proofs.Items.{left}
@@ -119,7 +119,7 @@ pub operands_end : (starts : List ℕ) (items es : List Exp) (i : ℕ) (v w : Va
     → ((body : Expression) → after steps' (with_operands starts (left (drop i items)) (scope_of w.bound.items) w.next body)
     ≡ after steps (with_operands starts (trees_of items) (scope_of v.bound.items) v.next body))
     → w.next + operands_bind (left (drop i items)) ≡ v.next + operands_bind (trees_of items) → w.bound.items ≡ v.bound.items
-    → NormalizesOperands starts (trees_of es) v w steps steps' all
+    → NormalizesEachOperand starts (trees_of es) v w steps steps' all
 operands_end starts items es i v w steps steps' all same l o s f b =
     let none = drop_all i items l in
     let o' = rw (none, append-nil all) at o in
@@ -174,6 +174,6 @@ inits_end starts items es i v w steps steps' all same l o s f b =
 
 -- a sequence of no parts
 pub parts_none : {A E : Type 0} (starts : List ℕ) (tail : Bool) (v : Variables) (f : A → Expression) (r : Result A E) → IfOk r (λ q. f q ≡ normal_parts starts tail no_trees (scope_of v.bound.items) v.next)
-    → IfOk r (λ q. NormalizesParts starts tail no_trees v v (f q))
+    → IfOk r (λ q. NormalizesSequence starts tail no_trees v v (f q))
 parts_none starts tail v f (Ok q) h = record { made = h; next = omega arith; scope = refl }
 parts_none starts tail v f (Err e) h = tt

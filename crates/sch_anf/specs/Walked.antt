@@ -19,8 +19,8 @@ module _ (starts : List ℕ) where
   }
 
   -- the parts of a sequence
-  abbrev pub NormalizesParts : (tail : Bool) → Trees → (v v' : Variables) → Expression → Type 0
-  NormalizesParts tail es v v' q = record {
+  abbrev pub NormalizesSequence : (tail : Bool) → Trees → (v v' : Variables) → Expression → Type 0
+  NormalizesSequence tail es v v' q = record {
     made : q ≡ normal_parts starts tail es (scope_of v.bound.items) v.next;
     next : v'.next ≡ v.next + binds_parts es;
     scope : v'.bound.items ≡ v.bound.items;
@@ -36,16 +36,16 @@ module _ (starts : List ℕ) where
   }
 
   -- the operand for a part
-  abbrev pub NormalizesPart : Tree → (v v' : Variables) → (steps steps' : List Step) → Operand ℕ → Type 0
-  NormalizesPart e v v' steps steps' o = record {
+  abbrev pub NormalizesOperand : Tree → (v v' : Variables) → (steps steps' : List Step) → Operand ℕ → Type 0
+  NormalizesOperand e v v' steps steps' o = record {
     operand : o ≡ operand_at (scope_of v.bound.items) e v.next;
     steps : Adds steps steps' (part_before starts e (scope_of v.bound.items) v.next);
     next : v'.next ≡ v.next + operand_binds e;
     scope : v'.bound.items ≡ v.bound.items;
   }
 
-  abbrev pub NormalizesOperands : Trees → (v v' : Variables) → (steps steps' : List Step) → List (Operand ℕ) → Type 0
-  NormalizesOperands es v v' steps steps' all = record {
+  abbrev pub NormalizesEachOperand : Trees → (v v' : Variables) → (steps steps' : List Step) → List (Operand ℕ) → Type 0
+  NormalizesEachOperand es v v' steps steps' all = record {
     operands : all ≡ operands_at (scope_of v.bound.items) es v.next;
     steps : Adds steps steps' (with_operands starts es (scope_of v.bound.items) v.next);
     next : v'.next ≡ v.next + operands_bind es;

@@ -8,7 +8,7 @@ ghost use Rattle.sch_anf_laws.specs.LabelsFit.{LabelsFit, LabelsFitEach};
 ghost use Rattle.sch_anf_laws.specs.Normal.{binds, binds_parts, inits_bind, operand_binds, operands_bind};
 ghost use Rattle.sch_anf_laws.specs.Normal as specs;
 ghost use Rattle.sch_anf.specs.Kinds.{IsIf, IsLet, IsGroup, IsCall, IsCells};
-ghost use Rattle.sch_anf.specs.Walked.{BindsPart, DropsPart, Normalizes, NormalizesInits, NormalizesOperands, NormalizesPart, NormalizesParts};
+ghost use Rattle.sch_anf.specs.Walked.{BindsPart, DropsPart, Normalizes, NormalizesEachOperand, NormalizesInits, NormalizesOperand, NormalizesSequence};
 
 use crate::after::{Kind, apply_after, branch_of, call_after, fill_after, group_of, set_after};
 use crate::operands::{members_of, simple_operand, source_of};
@@ -255,7 +255,7 @@ fn normalize_part(
     requires sorted { IsNonDecreasing starts.now }
     requires labels { LabelsFit (length starts.now) (tree e.now) }
     requires few { v.old.next + operand_binds (tree e.now) < 2 ^ 32 }
-    ensures { IfOk result (λ o. NormalizesPart starts.now (tree e.now) v.old v.new steps.old.items steps.new.items o) }
+    ensures { IfOk result (λ o. NormalizesOperand starts.now (tree e.now) v.old v.new steps.old.items steps.new.items o) }
 {
     if is_simple(e) {
         return simple_operand(alloc, e, v);
@@ -277,7 +277,7 @@ fn normalize_operands(
     requires sorted { IsNonDecreasing starts.now }
     requires labels { LabelsFitEach (length starts.now) (trees_of es.now) }
     requires few { v.old.next + operands_bind (trees_of es.now) < 2 ^ 32 }
-    ensures { IfOk result (λ all. NormalizesOperands starts.now (trees_of es.now) v.old v.new steps.old.items steps.new.items all) }
+    ensures { IfOk result (λ all. NormalizesEachOperand starts.now (trees_of es.now) v.old v.new steps.old.items steps.new.items all) }
 {
     let mut all = List::from_vec(Vec::with_capacity(alloc, es.len())?);
     for e in es.as_slice() {
@@ -355,7 +355,7 @@ fn normalize_parts(
     requires sorted { IsNonDecreasing starts.now }
     requires labels { LabelsFitEach (length starts.now) (trees_of es.now) }
     requires few { v.old.next + binds_parts (trees_of es.now) < 2 ^ 32 }
-    ensures { IfOk result (λ q. NormalizesParts starts.now tail (trees_of es.now) v.old v.new (expression q.value)) }
+    ensures { IfOk result (λ q. NormalizesSequence starts.now tail (trees_of es.now) v.old v.new (expression q.value)) }
 {
     let items = es.as_slice();
     let count = items.len();

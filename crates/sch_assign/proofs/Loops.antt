@@ -1,5 +1,5 @@
 -- What loops have made and have left.
-use Rattle.std.proofs.Common.{◌≡◌, ℕ, zero, suc, ◌+◌, ◌-◌, ◌<◌, ◌≤◌, Bool, true, false, List, [], ◌∷◌, ◌++◌, length, drop, get_or, None, refl, sym, ap, ◌∙◌, subst, arith, add-one, append_assoc}
+use Rattle.std.proofs.Common.{◌≡◌, ℕ, suc, ◌+◌, ◌-◌, ◌<◌, ◌≤◌, Bool, true, false, List, [], ◌∷◌, ◌++◌, length, drop, get_or, None, refl, sym, ap, ◌∙◌, subst, arith, add-one, append_assoc}
 use Rattle.std.specs.Prelude.{slice_set}
 use Rattle.sch_cells.specs.declared.tree.Exp.{Exp}
 use Rattle.sch_cells.specs.declared.tree.Lambda.{Lambda}
@@ -43,14 +43,6 @@ group_step bs r x m i l h =
     let p : m - i ≡ suc (m - (i + 1)) = omega (arith, l) in
     let k = rw p at h in
     rw q k
-
-pub set_size : (bs : List Bool) (x : ℕ) (b : Bool) → length (slice_set bs x b) ≡ length bs
-set_size [] x b = refl
-set_size (a ∷ bs) zero b = refl
-set_size (a ∷ bs) (suc x) b = ap suc (set_size bs x b)
-
-pub marked_size : (bs : List Bool) (x : ℕ) → length (slice_set bs x true) ≡ length bs
-marked_size bs x = set_size bs x true
 
 -- ## Lists of trees
 

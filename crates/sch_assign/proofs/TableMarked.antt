@@ -1,6 +1,7 @@
 -- The table after a walk tells which variables get a cell; and a valid program's variables are in range.
 use Rattle.std.proofs.Common.{◌≡◌, ℕ, zero, suc, ◌<◌, Bool, true, false, List, [], ◌∷◌, length, refl, sym, ap, ◌∙◌, arith}
 use Rattle.std.specs.Prelude.{◌||◌, nat_eq, slice_set}
+use Rattle.std.proofs.lemmas.List.{length-set}
 use Rattle.sch_word.specs.trees.NumberSets.{has}
 use Rattle.sch_word.specs.trees.Bindings.{numbers, scope_with}
 use Rattle.sch_cells.specs.Tree.{Tree, Trees, Lambdas, constant, literal, variable, global, set_variable, set_global, define, branch, sequence, bind, fix, letrec, lambda, call, operation, new_cells, cell_get, cell_set, no_trees, and_tree, no_lambdas, and_lambda, count, count_lambdas}
@@ -9,7 +10,6 @@ use Rattle.sch_assign.specs.Converted.{Low, Right, RightEach, RightLambdas}
 use Rattle.sch_assign.specs.InRange.{InRange, EachInRange, LambdasInRange}
 use Rattle.sch_assign.specs.Table.{table, group_marked, marked, each_marked, lambdas_marked}
 use Rattle.sch_assign.proofs.Lookups.{low_first, low_next}
-use Rattle.sch_assign.proofs.Loops.{marked_size}
 use Rattle.sch_assign.proofs.kept.FreeMoved.{AllLow, low_with}
 use Rattle.sch_word.proofs.facts.NumberTests.{differ, same_test}
 use Rattle.sch_word.proofs.facts.Booleans.{or_swap, or_or, or_right_false}
@@ -28,14 +28,14 @@ set_table (b ∷ bs) (suc x) (suc y) l =
 
 group_size : (x m : ℕ) (bs : List Bool) → length (group_marked x m bs) ≡ length bs
 group_size x zero bs = refl
-group_size x (suc m) bs = group_size (suc x) m (slice_set bs x true) ∙ marked_size bs x
+group_size x (suc m) bs = group_size (suc x) m (slice_set bs x true) ∙ length-set bs x true
 
 module _ (has_cell : ℕ → Bool) (n : ℕ) where
   group_table : (x m : ℕ) (bs : List Bool) (y : ℕ) → Low n x m → length bs ≡ n → table (group_marked x m bs) y ≡ (table bs y || has y (numbers x m))
   group_table x zero bs y low e = sym (or_right_false (table bs y))
   group_table x (suc m) bs y low e =
       let f : x < n = low_first has_cell n x m low in
-      group_table (suc x) m (slice_set bs x true) y (low_next has_cell n x m low) (marked_size bs x ∙ e)
+      group_table (suc x) m (slice_set bs x true) y (low_next has_cell n x m low) (length-set bs x true ∙ e)
       ∙ ap (λ b. b || has y (numbers (suc x) m)) (set_table bs x y (omega (arith, f, e)) ∙ ap (λ b. table bs y || b) (same_either_way x y))
       ∙ or_or (table bs y) (nat_eq y x) (has y (numbers (suc x) m))
 
@@ -57,7 +57,7 @@ module _ (has_cell : ℕ → Bool) (n : ℕ) where
     walked (variable x) bs i l = stayed bs l
     walked (global g) bs i l = stayed bs l
     walked (set_variable x e) bs i l =
-        let h : Walked bs (slice_set bs x true) (λ y. nat_eq x y) = record { size = marked_size bs x ∙ l; at = λ y. set_table bs x y (let f = i.0 in omega (arith, f, l)) } in
+        let h : Walked bs (slice_set bs x true) (λ y. nat_eq x y) = record { size = length-set bs x true ∙ l; at = λ y. set_table bs x y (let f = i.0 in omega (arith, f, l)) } in
         then_walked bs _ _ (λ y. nat_eq x y) (celled e) h (walked e (slice_set bs x true) i.1 h.size)
     walked (set_global g e) bs i l = walked e bs i l
     walked (define g e) bs i l = walked e bs i l

@@ -1,5 +1,5 @@
 pub mod Celled
 pub mod Converted
 pub mod InRange
-pub mod Recursive
+pub mod PartsOfRec
 pub mod Table

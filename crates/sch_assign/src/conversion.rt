@@ -6,7 +6,7 @@ ghost use Rattle.sch_cells.specs.View.{tree, trees_of, lambdas_of};
 ghost use Rattle.sch_assign.specs.Converted.{Low, and_cell, cells_for, empty_cells, wrapped, converted, converted_each, converted_lambdas};
 ghost use Rattle.sch_assign.specs.InRange.{InRange, EachInRange, LambdasInRange};
 ghost use Rattle.sch_cells.specs.Kinds.{IsIf, IsLet, IsFix, IsRec, IsCall};
-ghost use Rattle.sch_assign.specs.Recursive.{Fills, filled, with_inits};
+ghost use Rattle.sch_assign.specs.PartsOfRec.{Fills, filled, under_cells};
 ghost use Rattle.sch_assign.specs.Table.{table};
 
 use crate::marking::variable_at;
@@ -297,14 +297,14 @@ fn convert_rec(alloc: Global, celled: &[bool], n: u32, e: &Exp) -> Result<Exp, M
     Ok(Exp::NewCells(cs, inner))
 }
 
-// A Rec without its cells.
+// What stands under the cells of a Rec.
 #[cycle(converting)]
 #[inline(never)]
 fn convert_inits(alloc: Global, celled: &[bool], n: u32, e: &Exp) -> Result<Box<Exp>, Mem>
     requires kind { IsRec (tree e.now) }
     requires within { InRange n (tree e.now) }
     requires few { n + n < 2 ^ 32 }
-    ensures { IfOk result (λ q. tree q.value ≡ with_inits (table celled.now) n (tree e.now)) }
+    ensures { IfOk result (λ q. tree q.value ≡ under_cells (table celled.now) n (tree e.now)) }
 {
     let Exp::Rec {
         site,

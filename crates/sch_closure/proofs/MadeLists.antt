@@ -116,7 +116,7 @@ module _ (items : List Lambda) (i : ℕ) (e : Lambda) (n m : ℕ) (l : i < lengt
 pub each_start : (items es : List Exp) (table : List (List ℕ)) (n : ℕ) → items ≡ es → EachStands captured table (from.trees_of es) n → EachStands captured table (left items) n
 each_start items es table n h k = subst (λ t. EachStands captured table t n) (trees_of_list items) (subst (λ l. EachStands captured table (from.trees_of l) n) (sym h) k)
 
-pub each_end : (items es : List Exp) (i : ℕ) (own : List ℕ) (n start : ℕ) (all : List to.Exp) → items ≡ es → length items ≤ i
+each_end : (items es : List Exp) (i : ℕ) (own : List ℕ) (n start : ℕ) (all : List to.Exp) → items ≡ es → length items ≤ i
     → onto and_then all (closed_each (left (drop i items)) own n) ≡ closed_each (from.trees_of items) own start
     → view.trees_of all ≡ closed_each (from.trees_of es) own start
 each_end items es i own n start all h l k =
@@ -125,7 +125,7 @@ each_end items es i own n start all h l k =
 pub lambdas_start : (items ls : List Lambda) (table : List (List ℕ)) (n : ℕ) → items ≡ ls → LambdasStand captured table (from.lambdas_of ls) n → LambdasStand captured table (left_lambdas items) n
 lambdas_start items ls table n h k = subst (λ t. LambdasStand captured table t n) (lambdas_of_list items) (subst (λ l. LambdasStand captured table (from.lambdas_of l) n) (sym h) k)
 
-pub lambdas_end : (items ls : List Lambda) (i : ℕ) (own : List ℕ) (n start : ℕ) (all : List to_made.Made) → items ≡ ls → length items ≤ i
+lambdas_end : (items ls : List Lambda) (i : ℕ) (own : List ℕ) (n start : ℕ) (all : List to_made.Made) → items ≡ ls → length items ≤ i
     → onto and_then_made all (made_each (left_lambdas (drop i items)) own n) ≡ made_each (from.lambdas_of items) own start
     → map view.made all ≡ made_each (from.lambdas_of ls) own start
 lambdas_end items ls i own n start all h l k =
@@ -187,7 +187,7 @@ pub lambda_closes : (name : List ℕ) (x m : ℕ) (r : Bool) (e : Tree) (own ins
     → n ≡ length old → inside ≡ fields_of x m e → pushed ≡ old ++ blank ∷ [] → Closes e inside pushed new code
     → view.body b ≡ record { name = name; first = x; formals = m; rest = r; fields = length inside; code = code }
     → set ≡ slice_set new n b → taken ≡ map (closing.place own) inside
-    → ClosesLambda name x m r e own old set (record { label = n; fields = taken })
+    → ClosesLambda (record { name = name; first = x; formals = m; rest = r; body = e }) own old set (record { label = n; fields = taken })
 lambda_closes name x m r e own inside old pushed new set n blank b code taken l i p w v s f =
     let k : length pushed ≡ suc n = ap length p ∙ omega (arith, length-append old (blank ∷ []), l) in
     let h : view.body b ≡ closing.body_of name x m r e n = v ∙ rw (w.made) (rw (i, k) refl) in

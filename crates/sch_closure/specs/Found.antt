@@ -4,7 +4,7 @@ use Rattle.std.specs.Prelude.{◌≡◌, ℕ, List, [], ◌∷◌, reverse}
 use Rattle.sch_word.specs.trees.NumberSets.{insert, union}
 use Rattle.sch_word.specs.trees.Bindings.{without}
 use Rattle.sch_cells.specs.declared.tree.NewCell.{NewCell}
-use Rattle.sch_cells.specs.Tree.{Tree, Trees, Lambdas, constant, literal, variable, global, set_variable, set_global, define, branch, sequence, bind, fix, letrec, lambda, call, operation, new_cells, cell_get, cell_set, no_trees, and_tree, no_lambdas, and_lambda, count, count_lambdas}
+use Rattle.sch_cells.specs.Tree.{Tree, Trees, Lambdas, constant, literal, variable, global, set_variable, set_global, define, branch, sequence, bind, fix, letrec, lambda, call, operation, new_cells, cell_get, cell_set, no_trees, and_tree, no_lambdas, and_lambda, count, count_lambdas, Function}
 use Rattle.sch_cells.specs.Variables.{cells_bound, and_some, without_each}
 
 -- the variables whose values new cells hold, before those found
@@ -86,10 +86,10 @@ FindsEach es free free' fields fields' = record {
   fields : reverse fields' ≡ fields_of_each es (reverse fields);
 }
 
-abbrev pub FindsLambda : (first formals : ℕ) → Tree → (free free' : List ℕ) → (fields fields' : List (List ℕ)) → Type 0
-FindsLambda first formals e free free' fields fields' = record {
-  free : reverse free' ≡ union (without first formals (found e [])) (reverse free);
-  fields : reverse fields' ≡ without first formals (found e []) ∷ fields_found e (reverse fields);
+abbrev pub FindsLambda : Function → (free free' : List ℕ) → (fields fields' : List (List ℕ)) → Type 0
+FindsLambda f free free' fields fields' = record {
+  free : reverse free' ≡ union (without f.first f.formals (found f.body [])) (reverse free);
+  fields : reverse fields' ≡ without f.first f.formals (found f.body []) ∷ fields_found f.body (reverse fields);
 }
 
 abbrev pub FindsLambdas : Lambdas → (free free' : List ℕ) → (fields fields' : List (List ℕ)) → Type 0

@@ -1,6 +1,6 @@
 -- What the walk over a tree adds to the bodies that it has made before, from the beginning of the text on.
-use Rattle.std.specs.Prelude.{◌≡◌, ℕ, suc, ◌+◌, Bool, List, [], ◌∷◌, ◌++◌, length, map}
-use Rattle.sch_cells.specs.Tree.{Tree, Trees, Lambdas, constant, literal, variable, global, set_variable, set_global, define, branch, sequence, bind, fix, letrec, lambda, call, operation, new_cells, cell_get, cell_set, no_trees, and_tree, no_lambdas, and_lambda}
+use Rattle.std.specs.Prelude.{◌≡◌, ℕ, suc, ◌+◌, List, [], ◌∷◌, ◌++◌, length, map}
+use Rattle.sch_cells.specs.Tree.{Tree, Trees, Lambdas, constant, literal, variable, global, set_variable, set_global, define, branch, sequence, bind, fix, letrec, lambda, call, operation, new_cells, cell_get, cell_set, no_trees, and_tree, no_lambdas, and_lambda, Function}
 use Rattle.sch_flat.specs.declared.tree.Body as coded
 use Rattle.sch_flat.specs.Tree as to
 use Rattle.sch_flat.specs.Tree.{Body}
@@ -38,6 +38,17 @@ abbrev mutual
   with_bodies_lambdas (and_lambda name first formals rest e ls) all =
       with_bodies_lambdas ls (with_bodies e (all ++ body_of name first formals rest e (length all) ∷ []))
 
+-- the body of a procedure, whose record has this many fields, with this code
+abbrev pub body_with : Function → (fields : ℕ) → (code : to.Tree) → Body
+body_with f fields code = record {
+  name = f.name;
+  first = f.first;
+  formals = f.formals;
+  rest = f.rest;
+  fields = fields;
+  code = code;
+}
+
 -- What a walk has made of a tree in a body whose record has the fields `own`, and the bodies before and after it.
 abbrev pub Closes : Tree → (own : List ℕ) → (before after : List coded.Body) → to.Tree → Type 0
 Closes e own before after q = record {
@@ -53,11 +64,11 @@ ClosesEach es own before after qs = record {
   count : length after ≡ length before + procedures_each es;
 }
 
-abbrev pub ClosesLambda : (name : List ℕ) → (first formals : ℕ) → (rest : Bool) → Tree → (own : List ℕ) → (before after : List coded.Body) → to.Made → Type 0
-ClosesLambda name first formals rest e own before after m = record {
-  made : m ≡ made first formals e own (length before);
-  bodies : map body after ≡ with_bodies (lambda name first formals rest e) (map body before);
-  count : length after ≡ length before + suc (procedures e);
+abbrev pub ClosesLambda : Function → (own : List ℕ) → (before after : List coded.Body) → to.Made → Type 0
+ClosesLambda f own before after m = record {
+  made : m ≡ made f.first f.formals f.body own (length before);
+  bodies : map body after ≡ with_bodies (lambda f.name f.first f.formals f.rest f.body) (map body before);
+  count : length after ≡ length before + suc (procedures f.body);
 }
 
 abbrev pub ClosesLambdas : Lambdas → (own : List ℕ) → (before after : List coded.Body) → List to.Made → Type 0

@@ -1,12 +1,12 @@
 //! Trees without free variables, and the bodies of procedures by their labels.
 
-ghost use Rattle.std.specs.Prelude.{◌≡◌, ◌+◌, ◌<◌, ◌^◌, ℕ, List, suc, ◌∷◌, [], length, map, slice_get, slice_set, Some, IfOk, OnOk};
-ghost use Rattle.sch_cells.specs.View.{tree, trees_of, lambdas_of};
+ghost use Rattle.std.specs.Prelude.{◌≡◌, ◌+◌, ◌<◌, ◌^◌, ℕ, List, suc, [], length, map, slice_get, slice_set, Some, IfOk, OnOk};
+ghost use Rattle.sch_cells.specs.View.{function, tree, trees_of, lambdas_of};
 ghost use Rattle.sch_flat.specs.View as view;
 ghost use Rattle.sch_closure.specs.Closed.{place, placed, procedures, procedures_each, procedures_lambdas, fields_of, captured, starts};
 ghost use Rattle.sch_closure.specs.Fresh.{Stands, EachStands, LambdasStand};
 ghost use Rattle.sch_cells.specs.Kinds.{IsIf, IsLetOrRec, IsFix, IsCall, IsNewCells};
-ghost use Rattle.sch_closure.specs.Walked.{Closes, ClosesEach, ClosesLambda, ClosesLambdas};
+ghost use Rattle.sch_closure.specs.Walked.{body_with, Closes, ClosesEach, ClosesLambda, ClosesLambdas};
 
 use sch_cells::{Exp, Lambda};
 use sch_flat as flat;
@@ -342,7 +342,7 @@ fn close_lambda(
     requires here { slice_get fields.now (length bodies.old.items) ≡ Some (fields_of l.now.first l.now.formals (tree l.now.body)) }
     requires stand { Stands captured fields.now (tree l.now.body) (suc (length bodies.old.items)) }
     requires few { length bodies.old.items + suc (procedures (tree l.now.body)) < 2 ^ 32 }
-    ensures { IfOk result (λ m. ClosesLambda l.now.name l.now.first l.now.formals l.now.rest (tree l.now.body) own.now bodies.old.items bodies.new.items (view.made m)) }
+    ensures { IfOk result (λ m. ClosesLambda (function l.now) own.now bodies.old.items bodies.new.items (view.made m)) }
 {
     let label = bodies.len();
     let inside = fields[label].as_slice();
@@ -359,7 +359,7 @@ fn close_lambda(
 // The body of a procedure whose record has this many fields.
 #[inline(never)]
 fn made_body(alloc: Global, l: &Lambda, fields: u32, code: flat::Exp) -> Result<Body, Mem>
-    ensures { IfOk result (λ b. view.body b ≡ record { name = l.now.name; first = l.now.first; formals = l.now.formals; rest = l.now.rest; fields = fields; code = view.tree code }) }
+    ensures { IfOk result (λ b. view.body b ≡ body_with (function l.now) fields (view.tree code)) }
 {
     Ok(Body {
         name: List::from_slice(alloc, l.name.as_slice())?,

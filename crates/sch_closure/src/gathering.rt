@@ -8,7 +8,7 @@ ghost use Rattle.std.specs.Prelude.{◌≡◌, reverse, IfOk, OnOk};
 ghost use Rattle.sch_word.specs.trees.Bindings.{numbers, without};
 ghost use Rattle.sch_word.specs.trees.NumberSets.{has};
 ghost use Rattle.sch_cells.specs.Variables.{cells_bound, without_each};
-ghost use Rattle.sch_cells.specs.View.{tree, trees_of, lambdas_of};
+ghost use Rattle.sch_cells.specs.View.{function, tree, trees_of, lambdas_of};
 ghost use Rattle.sch_closure.specs.Closed.{program_fields};
 ghost use Rattle.sch_closure.specs.Found.{found_cells, Finds, FindsEach, FindsLambda, FindsLambdas};
 ghost use Rattle.sch_cells.specs.Kinds.{IsIf, IsLet, IsFix, IsRec, IsCall, IsNewCells};
@@ -272,7 +272,7 @@ fn find_lambda(
     free: &mut Vec<u32>,
     fields: &mut Vec<List<u32>>,
 ) -> Result<(), Mem>
-    ensures { OnOk result (FindsLambda l.now.first l.now.formals (tree l.now.body) free.old.items free.new.items fields.old.items fields.new.items) }
+    ensures { OnOk result (FindsLambda (function l.now) free.old.items free.new.items fields.old.items fields.new.items) }
 {
     let mut inside = Vec::new(alloc);
     find(alloc, &l.body, &mut inside, fields)?;

@@ -60,7 +60,8 @@ pub fn close(alloc: Global, p: &CellProgram<Boxed>) -> Result<FlatProgram, Mem>
     ensures size { IfOk result (λ q. measures.program_size (view.source q) ≡ program_size (source p.now)) }
     // It weighs what `p` does.
     ensures weight { IfOk result (λ q. measures.weight (view.source q) ≡ weight (source p.now)) }
-    ensures covered { IfOk result (λ q. IsTrue (is_covered_program (source p.now)) → IsTrue (covered.is_covered_program (view.source q))) }
+    ensures covered { IfOk result (λ q. IsTrue (is_covered_program (source p.now))
+        → IsTrue (covered.is_covered_program (view.source q))) }
 {
     close_program(alloc, p)
 }

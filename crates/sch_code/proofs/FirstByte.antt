@@ -1,10 +1,15 @@
 -- What is read is chosen by the first byte.
-use Rattle.std.proofs.Common.{◌≡◌, ◌≢◌, ℕ, ◌+◌, ◌*◌, ◌/◌, ◌%◌, List, length, get_or, drop, true, false, ◌==◌, Some, None, arith}
+use Rattle.std.proofs.Common.{◌≡◌, ◌≢◌, ℕ, ◌+◌, ◌*◌, ◌/◌, ◌%◌, List, length, get_or, drop, true, false, ◌==◌, Option, Some, None, arith}
 use Rattle.std.proofs.lemmas.Bool.{eqb-true, eqb-false, eq-eqb, ne_eqb, lt-ltb, le-ltb}
 use Rattle.std.specs.Prelude.{nat_lt}
 use Rattle.sch_insn.specs.declared.insn.Arg.{Arg}
-use Rattle.sch_insn.specs.Decode.{decode, escaped_of, full_of, long_of, narrow_of, operand_of, rexed_of, whole_word_of, wide_of}
-use Rattle.sch_code.specs.Forms.{is_rex, jump_of, without_operand_of}
+use Rattle.sch_insn.specs.declared.insn.Insn.{Insn}
+use Rattle.sch_insn.specs.declared.insn.Insn.TheVariants.{LoadByte, Imul}
+use Rattle.sch_insn.specs.Spelling.{in_memory}
+use Rattle.sch_insn.specs.Decode.{decode, escaped_of, full_of, long_of, narrow_of, operand_of, rexed_of, whole_word_of, wide_of, is_rex, jump_of, without_operand_of}
+
+abbrev long_answer : Insn → ℕ → Option (Insn × ℕ)
+long_answer i size = Some (i, size + 3)
 
 module _ (bs : List ℕ) where
   some_byte : (length bs == 0) ≡ false → nat_lt (length bs) 1 ≡ false
@@ -54,6 +59,24 @@ module _ (bs : List ℕ) where
 
     pub full_nothing : (r b : ℕ) → first / 8 ≢ 23 → first ≢ 0x99 → first ≢ 0x0F → operand_of r b rest ≡ None → None ≡ full_of r b bs
     full_nothing r b f g h o = let i = ne_eqb (first / 8) 23 f in let j = ne_eqb first 0x99 g in let k = ne_eqb first 0x0F h in rw (here, behind, i, j, k, o)
+
+    -- the opcode behind 0F
+    pub long_nothing : (r b : ℕ) → (length bs == 0) ≡ false → operand_of r b rest ≡ None → None ≡ long_of r b bs
+    unfolding long_of
+    long_nothing r b e o = let h = some_byte e in rw (h, behind, o)
+
+    pub long_load : (r b reg size : ℕ) (m : Arg) → (length bs == 0) ≡ false → operand_of r b rest ≡ Some (reg, m, size) → first ≡ 0xB6 → in_memory m ≡ true → long_answer (LoadByte reg m) size ≡ long_of r b bs
+    unfolding long_of
+    long_load r b reg size m e o f g = let h = some_byte e in let i = eq-eqb first 0xB6 f in rw (h, here, behind, o, i, g)
+
+    pub long_in_register : (r b reg size : ℕ) (m : Arg) → (length bs == 0) ≡ false → operand_of r b rest ≡ Some (reg, m, size) → first ≡ 0xB6 → in_memory m ≡ false → None ≡ long_of r b bs
+    unfolding long_of
+    long_in_register r b reg size m e o f g =
+        let h = some_byte e in let i = eq-eqb first 0xB6 f in let k : (first == 0xAF) ≡ false = ne_eqb first 0xAF (omega arith) in rw (h, here, behind, o, i, g, k)
+
+    pub long_imul : (r b reg size : ℕ) (m : Arg) → (length bs == 0) ≡ false → operand_of r b rest ≡ Some (reg, m, size) → first ≡ 0xAF → long_answer (Imul reg m) size ≡ long_of r b bs
+    unfolding long_of
+    long_imul r b reg size m e o f = let h = some_byte e in let i = eq-eqb first 0xAF f in let k : (first == 0xB6) ≡ false = ne_eqb first 0xB6 (omega arith) in rw (h, here, behind, o, i, k)
 
   pub rexed_full : (w r b : ℕ) → (length bs == 0) ≡ false → w ≢ 0 → full_of r b bs ≡ rexed_of w r b bs
   unfolding rexed_of

@@ -1,5 +1,5 @@
-pub mod FirstByte
-pub mod OneByte
-pub mod Operands
+mod FirstByte
+mod EndedForms
+mod OperandRead
 mod Whole
 pub mod Spelled

@@ -1,6 +1,6 @@
 -- The kinds of instructions that are spelled by functions of their own.
 use Rattle.sch_insn.specs.declared.insn.Insn.{Insn}
-use Rattle.sch_insn.specs.declared.insn.Insn.TheVariants.{MovTo, AddTo, OrTo, AndTo, SubTo, XorTo, CmpTo, TestTo, MovFrom, Lea, AddFrom, OrFrom, AndFrom, SubFrom, XorFrom, CmpFrom, AddNumber, OrNumber, AndNumber, SubNumber, XorNumber, CmpNumber, AddNumber8, OrNumber8, AndNumber8, SubNumber8, XorNumber8, CmpNumber8, MovWord, Cqo, Jump, Jump8, JumpIf, JumpIf8, Syscall}
+use Rattle.sch_insn.specs.declared.insn.Insn.TheVariants.{MovTo, AddTo, OrTo, AndTo, SubTo, XorTo, CmpTo, TestTo, MovFrom, Lea, AddFrom, OrFrom, AndFrom, SubFrom, XorFrom, CmpFrom, MovWord, Cqo, Jump, Jump8, JumpIf, JumpIf8, Syscall}
 
 -- with W, one byte of opcode, and the register as its second operand
 abbrev pub IsTo : Insn → Type 0
@@ -25,26 +25,6 @@ IsFrom (SubFrom r m) = Unit {0}
 IsFrom (XorFrom r m) = Unit {0}
 IsFrom (CmpFrom r m) = Unit {0}
 IsFrom _ = ⊥
-
--- with the opcode 81
-abbrev pub IsNumber : Insn → Type 0
-IsNumber (AddNumber m n) = Unit {0}
-IsNumber (OrNumber m n) = Unit {0}
-IsNumber (AndNumber m n) = Unit {0}
-IsNumber (SubNumber m n) = Unit {0}
-IsNumber (XorNumber m n) = Unit {0}
-IsNumber (CmpNumber m n) = Unit {0}
-IsNumber _ = ⊥
-
--- with the opcode 83
-abbrev pub IsNumberOf1 : Insn → Type 0
-IsNumberOf1 (AddNumber8 m n) = Unit {0}
-IsNumberOf1 (OrNumber8 m n) = Unit {0}
-IsNumberOf1 (AndNumber8 m n) = Unit {0}
-IsNumberOf1 (SubNumber8 m n) = Unit {0}
-IsNumberOf1 (XorNumber8 m n) = Unit {0}
-IsNumberOf1 (CmpNumber8 m n) = Unit {0}
-IsNumberOf1 _ = ⊥
 
 -- without an operand that may lie in memory
 abbrev pub IsBare : Insn → Type 0

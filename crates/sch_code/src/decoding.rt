@@ -3,10 +3,10 @@
 ghost use Rattle.std.specs.Prelude.{◌≡◌, ◌≢◌, ◌+◌, ◌++◌, ◌<◌, ◌≤◌, ℕ, List, length, take, drop, IfSome, Some, None};
 ghost use Rattle.sch_insn.specs.declared.insn.Insn.{Insn};
 ghost use Rattle.sch_insn.specs.Spelling.{in_memory as in_memory_of, spelling, IsValid};
-ghost use Rattle.sch_insn.specs.Decode.{number_of_1, number_of_4, number_of_8, count_of, sib_size, arg_of, operand_of, wide_of, narrow_of, long_of, whole_word_of, full_of, rexed_of};
-ghost use Rattle.sch_code.specs.Forms.{is_rex as is_rex_of, jump_of, without_operand_of, far_of, near_of, at_next_of, at_base_of};
-ghost use Rattle.sch_code.specs.Forms.{number_form_of, with_number_of, number_8_form_of, with_number_of_1_of, shift_form_of, shift_of, mov_number_of, plain_form_of};
-ghost use Rattle.sch_insn.specs.Decode.{escaped_of, is_jump_if as is_jump_if_of, decode as decode_of};
+ghost use Rattle.sch_insn.specs.Decode.{number_of_1, number_of_4, number_of_8, count_of, sib_size, at_base_32_of, at_base_8_of, at_base_of, at_rip_of, arg_of, operand_of};
+ghost use Rattle.sch_insn.specs.Decode.{with_number_of_4, with_number_of_1, with_count, number_form_of_4, number_form_of_1, shift_form, mov_number_of, plain_form, wide_of};
+ghost use Rattle.sch_insn.specs.Decode.{narrow_of, long_of, whole_word_of, without_operand_of, full_of, rexed_of, escaped_of, jump_of};
+ghost use Rattle.sch_insn.specs.Decode.{is_jump_if as is_jump_if_of, is_rex as is_rex_of, decode as decode_of};
 
 use sch_insn::{Arg, Insn};
 
@@ -72,7 +72,7 @@ fn jump(op: u8, bytes: &[u8]) -> Option<(Insn, usize)>
     ensures { result ≡ jump_of op bytes.now }
 {
     rows! { op, bytes, 1; {
-        0xE9 => Insn::Jump(d), d = number + 4;
+        0xE9 => Insn::Jump(d), d = number_of_4 + 4;
         0xEB => Insn::Jump8(d), d = number_of_1 + 1;
         _ if is_jump_if(7, op) => Insn::JumpIf8(op % 16, d), d = number_of_1 + 1;
     } }
@@ -90,7 +90,7 @@ fn escaped(bytes: &[u8]) -> Option<(Insn, usize)>
     let op = bytes[0];
     rows! { op, &bytes[1..], 2; {
         0x05 => Insn::Syscall;
-        _ if is_jump_if(8, op) => Insn::JumpIf(op % 16, d), d = number + 4;
+        _ if is_jump_if(8, op) => Insn::JumpIf(op % 16, d), d = number_of_4 + 4;
     } }
 }
 
@@ -103,7 +103,6 @@ fn is_jump_if(high: u8, op: u8) -> bool
 }
 
 /// What stands after REX with the bits W, R and B.
-#[tactic(auto, unfolding(sch_insn::specs::Decode::rexed_of))]
 #[inline(always)]
 fn rexed(w: u8, r: u8, b: u8, bytes: &[u8]) -> Option<(Insn, usize)>
     requires r { r < 2 }
@@ -193,19 +192,19 @@ fn long(r: u8, b: u8, bytes: &[u8]) -> Option<(Insn, usize)>
 
 /// The forms with W and the opcode 81: a number of four bytes stands behind the operand, which takes `size` bytes.
 #[inline(always)]
-fn with_number(r: u8, m: Arg, size: usize, bytes: &[u8]) -> Option<(Insn, usize)>
+fn with_number_of_4(r: u8, m: Arg, size: usize, bytes: &[u8]) -> Option<(Insn, usize)>
     requires { size + 1 ≤ length bytes.now }
-    ensures { result ≡ with_number_of r m (size + 2) (drop (size + 1) bytes.now) }
+    ensures { result ≡ with_number_of_4 (number_form_of_4 r m) (size + 2) (drop (size + 1) bytes.now) }
 {
-    let n = number(&bytes[size + 1..])?;
-    let i = number_form(r, m, n)?;
+    let n = number_of_4(&bytes[size + 1..])?;
+    let i = number_form_of_4(r, m, n)?;
     Some((i, size + 6))
 }
 
 /// The form with a number of four bytes that the register field of ModRM says.
 #[inline(always)]
-fn number_form(r: u8, m: Arg, n: i32) -> Option<Insn>
-    ensures { result ≡ number_form_of r m n }
+fn number_form_of_4(r: u8, m: Arg, n: i32) -> Option<Insn>
+    ensures { result ≡ number_form_of_4 r m n }
 {
     match r {
         0 => Some(Insn::AddNumber(m, n)),
@@ -222,17 +221,17 @@ fn number_form(r: u8, m: Arg, n: i32) -> Option<Insn>
 #[inline(always)]
 fn with_number_of_1(r: u8, m: Arg, size: usize, bytes: &[u8]) -> Option<(Insn, usize)>
     requires { size + 1 ≤ length bytes.now }
-    ensures { result ≡ with_number_of_1_of r m (size + 2) (drop (size + 1) bytes.now) }
+    ensures { result ≡ with_number_of_1 (number_form_of_1 r m) (size + 2) (drop (size + 1) bytes.now) }
 {
     let n = number_of_1(&bytes[size + 1..])?;
-    let i = number_8_form(r, m, n)?;
+    let i = number_form_of_1(r, m, n)?;
     Some((i, size + 3))
 }
 
 /// The form with a number of one byte that the register field of ModRM says.
 #[inline(always)]
-fn number_8_form(r: u8, m: Arg, n: i8) -> Option<Insn>
-    ensures { result ≡ number_8_form_of r m n }
+fn number_form_of_1(r: u8, m: Arg, n: i8) -> Option<Insn>
+    ensures { result ≡ number_form_of_1 r m n }
 {
     match r {
         0 => Some(Insn::AddNumber8(m, n)),
@@ -249,7 +248,7 @@ fn number_8_form(r: u8, m: Arg, n: i8) -> Option<Insn>
 #[inline(always)]
 fn shift(r: u8, m: Arg, size: usize, bytes: &[u8]) -> Option<(Insn, usize)>
     requires { size + 1 ≤ length bytes.now }
-    ensures { result ≡ shift_of r m (size + 2) (drop (size + 1) bytes.now) }
+    ensures { result ≡ with_count (shift_form r m) (size + 2) (drop (size + 1) bytes.now) }
 {
     let k = count(&bytes[size + 1..])?;
     let i = shift_form(r, m, k)?;
@@ -259,7 +258,7 @@ fn shift(r: u8, m: Arg, size: usize, bytes: &[u8]) -> Option<(Insn, usize)>
 /// The shift that the register field of ModRM says.
 #[inline(always)]
 fn shift_form(r: u8, m: Arg, k: u8) -> Option<Insn>
-    ensures { result ≡ shift_form_of r m k }
+    ensures { result ≡ shift_form r m k }
 {
     match r {
         4 => Some(Insn::Shl(m, k)),
@@ -278,18 +277,19 @@ fn mov_number(r: u8, m: Arg, size: usize, bytes: &[u8]) -> Option<(Insn, usize)>
     if r != 0 {
         return None;
     }
-    let n = number(&bytes[size + 1..])?;
+    let n = number_of_4(&bytes[size + 1..])?;
     Some((Insn::MovNumber(m, n), size + 6))
 }
 
 /// The forms with W and an opcode of one byte, behind which the operand takes `size` bytes.
+#[tactic(auto, unfolding(sch_insn::specs::Decode::wide_of))]
 #[inline(always)]
 fn wide(op: u8, r: u8, m: Arg, size: usize, bytes: &[u8]) -> Option<(Insn, usize)>
     requires { size + 1 ≤ length bytes.now }
     ensures { result ≡ wide_of op r m (size + 2) (drop (size + 1) bytes.now) }
 {
     match op {
-        0x81 => with_number(r, m, size, bytes),
+        0x81 => with_number_of_4(r, m, size, bytes),
         0x83 => with_number_of_1(r, m, size, bytes),
         0xC1 => shift(r, m, size, bytes),
         0xC7 => mov_number(r, m, size, bytes),
@@ -303,7 +303,7 @@ fn wide(op: u8, r: u8, m: Arg, size: usize, bytes: &[u8]) -> Option<(Insn, usize
 /// The form with W and an opcode of one byte, where no number stands behind the operand.
 #[inline(always)]
 fn plain_form(op: u8, r: u8, m: Arg) -> Option<Insn>
-    ensures { result ≡ plain_form_of op r m }
+    ensures { result ≡ plain_form op r m }
 {
     match op {
         0x01 => Some(Insn::AddTo(m, r)),
@@ -335,7 +335,6 @@ fn in_memory(m: Arg) -> bool
 }
 
 /// The register of the form, the operand, and the bytes that they take from ModRM on.
-#[tactic(auto, unfolding(sch_insn::specs::Decode::operand_of))]
 #[inline(always)]
 fn operand(r: u8, b: u8, bytes: &[u8]) -> Option<(u8, Arg, usize)>
     requires r { r < 2 }
@@ -362,49 +361,49 @@ fn arg(mode: u8, high: u8, low: u8, bytes: &[u8]) -> Option<(Arg, usize)>
     let register = 8 * high + low;
     match mode {
         3 => Some((Arg::Reg(register), 0)),
-        2 => far(register, low, bytes),
-        1 => near(register, low, bytes),
-        _ if low == 5 => at_next(high, bytes),
+        2 => at_base_32(register, low, bytes),
+        1 => at_base_8(register, low, bytes),
+        _ if low == 5 => at_rip(high, bytes),
         _ => at_base(register, low, bytes),
     }
 }
 
-/// A register and a displacement of four bytes.
+/// At a base register, with a displacement of four bytes.
 #[inline(always)]
-fn far(register: u8, low: u8, bytes: &[u8]) -> Option<(Arg, usize)>
+fn at_base_32(register: u8, low: u8, bytes: &[u8]) -> Option<(Arg, usize)>
     ensures within { IfSome result (λ p. (p.1 ≤ length bytes.now) × (p.1 < 7)) }
-    ensures value { result ≡ far_of register low bytes.now }
+    ensures value { result ≡ at_base_32_of register low bytes.now }
 {
     let size = sib(low, bytes)?;
-    let displacement = number(&bytes[size..])?;
+    let displacement = number_of_4(&bytes[size..])?;
     Some((Arg::Base32(register, displacement), size + 4))
 }
 
-/// A register and a displacement of one byte.
+/// At a base register, with a displacement of one byte.
 #[inline(always)]
-fn near(register: u8, low: u8, bytes: &[u8]) -> Option<(Arg, usize)>
+fn at_base_8(register: u8, low: u8, bytes: &[u8]) -> Option<(Arg, usize)>
     ensures within { IfSome result (λ p. (p.1 ≤ length bytes.now) × (p.1 < 7)) }
-    ensures value { result ≡ near_of register low bytes.now }
+    ensures value { result ≡ at_base_8_of register low bytes.now }
 {
     let size = sib(low, bytes)?;
     let displacement = number_of_1(&bytes[size..])?;
     Some((Arg::Base8(register, displacement), size + 1))
 }
 
-/// A displacement from the next instruction, whose bit B is 0.
+/// Relative to RIP. The bit B is 0.
 #[inline(always)]
-fn at_next(high: u8, bytes: &[u8]) -> Option<(Arg, usize)>
+fn at_rip(high: u8, bytes: &[u8]) -> Option<(Arg, usize)>
     ensures within { IfSome result (λ p. (p.1 ≤ length bytes.now) × (p.1 < 7)) }
-    ensures value { result ≡ at_next_of high bytes.now }
+    ensures value { result ≡ at_rip_of high bytes.now }
 {
     if high != 0 {
         return None;
     }
-    let displacement = number(bytes)?;
+    let displacement = number_of_4(bytes)?;
     Some((Arg::Rip(displacement), 4))
 }
 
-/// A register alone.
+/// At a base register, without a displacement.
 #[inline(always)]
 fn at_base(register: u8, low: u8, bytes: &[u8]) -> Option<(Arg, usize)>
     ensures within { IfSome result (λ p. (p.1 ≤ length bytes.now) × (p.1 < 7)) }
@@ -443,7 +442,7 @@ fn number_of_1(bytes: &[u8]) -> Option<i8>
 
 /// Four bytes as a number.
 #[inline(always)]
-fn number(bytes: &[u8]) -> Option<i32>
+fn number_of_4(bytes: &[u8]) -> Option<i32>
     ensures within { IfSome result (λ n. 4 ≤ length bytes.now) }
     ensures value { result ≡ number_of_4 bytes.now }
 {

@@ -2,7 +2,8 @@
 
 ghost use Rattle.std.specs.Prelude.{◌≡◌, ℕ, ◌+◌, ◌<◌, ◌≤◌, List, [], ◌∷◌, ◌++◌, length};
 ghost use Rattle.sch_insn.specs.Spelling.{rex, modrm, operand, wide, sib, spelling, one_byte, four_bytes, IsArg, IsValid};
-ghost use Rattle.sch_code.specs.Kinds.{IsTo, IsFrom, IsNumber, IsNumberOf1, IsBare};
+ghost use Rattle.sch_insn.specs.Kinds.{EndsInNumber};
+ghost use Rattle.sch_code.specs.Kinds.{IsTo, IsFrom, IsBare};
 
 use crate::code::Code;
 use sch_insn::{Arg, Insn};
@@ -18,7 +19,7 @@ pub fn encode(i: &Insn, to: &mut Code) -> usize
     to.bytes().len()
 }
 
-/// The forms of five kinds have tables of their own. Each other form has a row here.
+/// The forms of four kinds have tables of their own. Each other form has a row here.
 fn put_spelling(i: &Insn, to: &mut Code)
     requires valid { IsValid i.now }
     ensures { to.new ≡ spelling i.now }
@@ -45,13 +46,13 @@ fn put_spelling(i: &Insn, to: &mut Code)
         | Insn::AndNumber(_, _)
         | Insn::SubNumber(_, _)
         | Insn::XorNumber(_, _)
-        | Insn::CmpNumber(_, _) => put_number(i, to),
-        Insn::AddNumber8(_, _)
+        | Insn::CmpNumber(_, _)
+        | Insn::AddNumber8(_, _)
         | Insn::OrNumber8(_, _)
         | Insn::AndNumber8(_, _)
         | Insn::SubNumber8(_, _)
         | Insn::XorNumber8(_, _)
-        | Insn::CmpNumber8(_, _) => put_number_of_1(i, to),
+        | Insn::CmpNumber8(_, _) => put_number(i, to),
         Insn::MovWord(_, _)
         | Insn::Cqo
         | Insn::Jump(_)
@@ -110,9 +111,9 @@ fn put_from(i: &Insn, to: &mut Code)
     }
 }
 
-/// The forms with the opcode 81.
+/// The forms that end in a number, of four bytes with the opcode 81 and of one byte with 83.
 fn put_number(i: &Insn, to: &mut Code)
-    requires kind { IsNumber i.now }
+    requires kind { EndsInNumber i.now }
     requires valid { IsValid i.now }
     ensures { to.new ≡ spelling i.now }
 {
@@ -123,17 +124,6 @@ fn put_number(i: &Insn, to: &mut Code)
         Insn::SubNumber(m, n) => put_wide_and_4(to, 0x81, 5, m, *n),
         Insn::XorNumber(m, n) => put_wide_and_4(to, 0x81, 6, m, *n),
         Insn::CmpNumber(m, n) => put_wide_and_4(to, 0x81, 7, m, *n),
-        _ => unreachable!(),
-    }
-}
-
-/// The forms with the opcode 83.
-fn put_number_of_1(i: &Insn, to: &mut Code)
-    requires kind { IsNumberOf1 i.now }
-    requires valid { IsValid i.now }
-    ensures { to.new ≡ spelling i.now }
-{
-    match i {
         Insn::AddNumber8(m, n) => put_wide_and_1(to, 0, m, *n),
         Insn::OrNumber8(m, n) => put_wide_and_1(to, 1, m, *n),
         Insn::AndNumber8(m, n) => put_wide_and_1(to, 4, m, *n),

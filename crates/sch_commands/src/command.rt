@@ -1,6 +1,6 @@
 //! Reads the words of a command.
 
-ghost use Rattle.std.specs.Prelude.{◌≡◌, List, ℕ, codes, false, IfOk, map, Some, None, IfSome, is_some, string_bytes, if◌then◌else◌};
+ghost use Rattle.std.specs.Prelude.{◌≡◌, List, codes, false, IfOk, map, Some, None, is_some, string_bytes, if◌then◌else◌};
 ghost use Rattle.std.specs.Char.{is_ascii_digit};
 ghost use Rattle.std.specs.List.{list_all};
 ghost use Rattle.std.specs.Option.{option_map};

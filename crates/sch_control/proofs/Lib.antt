@@ -14,6 +14,7 @@ mod FlowExamples
 mod PlaceExamples
 pub mod ExactPlaces
 pub mod ExactSets
+pub mod SameBodies
 pub mod NumberLists
 pub mod ReadSteps
 pub mod SetTests

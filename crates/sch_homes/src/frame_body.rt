@@ -3,7 +3,6 @@
 ghost use Rattle.std.specs.Prelude.{◌≡◌, ◌≤◌, ◌<◌, ◌+◌, ◌*◌, ◌^◌, IfOk, IsTrue};
 ghost use Rattle.sch_word.specs.trees.Shape.{max_operands};
 ghost use Rattle.sch_control.specs.Covered as control_covered;
-ghost use Rattle.sch_control.specs.flow.RestoredView.{restored};
 ghost use Rattle.sch_frames.specs.Covered.{code_begins, is_covered_code};
 ghost use Rattle.sch_control.specs.Work as control_work;
 ghost use Rattle.sch_frames.specs.Does.{FrameOf};
@@ -15,7 +14,7 @@ ghost use Rattle.sch_homes.specs.FewKept.{BodyKeepsFew};
 ghost use Rattle.sch_homes.specs.Homes.{homes_code};
 ghost use Rattle.sch_homes.specs.Laws.{AreDense};
 ghost use Rattle.sch_paths.specs.EachSoonRestored.{EachSoonRestored};
-ghost use Rattle.sch_homes.specs.View.{bare_code};
+ghost use Rattle.sch_homes.specs.View.{bare_code, entry_of, tree_of};
 
 use crate::frame_places::{FramePlaces, Homes};
 use crate::frame_room::room_for;
@@ -46,20 +45,20 @@ impl<const N: usize> Restores<Restoring<N>> for OwnRestores {
 /// Time and memory are linear in the body and in what is written, as `write_body` says, but for calls: the time of a call grows
 /// with the square of the number of its operands, of which there are at most 200.
 pub fn frame<const N: usize>(alloc: Global, b: &PlacedBody<'_, N>) -> Result<FrameBody, Mem>
-    requires soon { EachSoonRestored (restored b.now.body.now.exp) }
-    requires labels { labels (restored b.now.body.now.exp) < 2 ^ 32 }
+    requires soon { EachSoonRestored (tree_of b.now) }
+    requires labels { labels (tree_of b.now) < 2 ^ 32 }
     // What laying out is defined to make.
-    ensures made { IfOk result (λ f. code_of f ≡ homes_code b.now.body.now.entry (restored b.now.body.now.exp) b.now.places) }
+    ensures made { IfOk result (λ f. code_of f ≡ homes_code (entry_of b.now) (tree_of b.now) b.now.places) }
     ensures same { IfOk result (λ f. FrameOf (bare_code b.now) (code_of f)) }
     ensures begins { IfOk result (λ f. IsTrue (code_begins (code_of f))) }
     ensures stand { IfOk result (λ f. IsTrue (code_marks_stand (code_of f))) }
     ensures covered { IfOk result (λ f.
         IsTrue (control_covered.is_covered_code (bare_code b.now)) → IsTrue (is_covered_code (code_of f))) }
     // Where slots are not left out, a frame has beside its variables at most as many words as a call may have operands.
-    ensures words { IfOk result (λ f. AreDense b.now.places → f.words ≤ max_operands + b.now.body.now.variables) }
+    ensures words { IfOk result (λ f. AreDense b.now.places → f.words ≤ max_operands + b.now.restored.now.body.now.variables) }
     // Where regions and calls keep few variables, its text, 64 bytes for what there is to do and 8 for each copy, is within
     // 72 bytes for each unit of work of the body.
-    ensures fits { IfOk result (λ f. BodyKeepsFew b.now.body.now.entry (restored b.now.body.now.exp) b.now.places
+    ensures fits { IfOk result (λ f. BodyKeepsFew (entry_of b.now) (tree_of b.now) b.now.places
         → 64 * code_work (code_of f) + 8 * copies_of f.instructions ≤ 72 * control_work.code_work (bare_code b.now)) }
 {
     let room = room_for(alloc, b)?;
@@ -77,9 +76,9 @@ pub fn frame<const N: usize>(alloc: Global, b: &PlacedBody<'_, N>) -> Result<Fra
         places,
         restores: OwnRestores,
     };
-    let out = write_body(alloc, &allocation, b.body.entry, &b.body.exp)?;
+    let out = write_body(alloc, &allocation, b.restored.body.entry, &b.restored.exp)?;
     Ok(FrameBody {
-        entry: b.body.entry,
+        entry: b.restored.body.entry,
         words,
         labels: out.labels,
         instructions: out.instructions,

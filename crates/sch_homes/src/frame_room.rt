@@ -7,6 +7,7 @@ ghost use Rattle.sch_writer.specs.FewOperands.{FewOperands};
 ghost use Rattle.sch_homes.specs.Homes as homes;
 ghost use Rattle.sch_homes.specs.Homes.{first_home, has_home, homes_end, homes_words};
 ghost use Rattle.sch_homes.specs.HomeTable.{home_slots, place_in};
+ghost use Rattle.sch_homes.specs.View.{entry_of, tree_of};
 
 use crate::call_moves::call_end;
 use crate::frame_places::FramePlaces;
@@ -98,17 +99,17 @@ fn calls_end<const N: usize>(
 /// The room that a body needs.
 pub(crate) fn room_for<const N: usize>(alloc: Global, b: &PlacedBody<'_, N>) -> Result<Room, Mem>
     ensures homes { IfOk result (λ r. r.homes.homes ≡ home_slots
-        (first_home b.now.body.now.entry (restored b.now.body.now.exp) b.now.places)
-        (has_home b.now.body.now.entry (restored b.now.body.now.exp) b.now.places) (length b.now.places)) }
-    ensures end { IfOk result (λ r. r.homes.end ≡ homes_end b.now.body.now.entry (restored b.now.body.now.exp) b.now.places) }
-    ensures words { IfOk result (λ r. r.words ≡ homes_words b.now.body.now.entry (restored b.now.body.now.exp) b.now.places) }
+        (first_home (entry_of b.now) (tree_of b.now) b.now.places)
+        (has_home (entry_of b.now) (tree_of b.now) b.now.places) (length b.now.places)) }
+    ensures end { IfOk result (λ r. r.homes.end ≡ homes_end (entry_of b.now) (tree_of b.now) b.now.places) }
+    ensures words { IfOk result (λ r. r.words ≡ homes_words (entry_of b.now) (tree_of b.now) b.now.places) }
 {
     let mut saved = Set::new();
-    mark_saved(&b.body.exp, &mut saved);
+    mark_saved(&b.restored.exp, &mut saved);
     let places = b.places.as_slice();
-    let first = slots_end(late_slots(b.body.entry), places);
+    let first = slots_end(late_slots(b.restored.body.entry), places);
     let homes = give_homes(alloc, places, &saved, first)?;
     let lives = FramePlaces { places };
-    let words = calls_end(alloc, &lives, homes.end, &b.body.exp)?;
+    let words = calls_end(alloc, &lives, homes.end, &b.restored.exp)?;
     Ok(Room { homes, words })
 }

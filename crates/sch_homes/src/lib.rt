@@ -1,9 +1,8 @@
 //! From placed bodies to frames: where the slots of variables go in a frame, and where those in registers are saved.
 #![tactic(auto)]
 
-ghost use Rattle.sch_control.specs.flow.RestoredView.{restored};
 ghost use Rattle.sch_homes.specs.Laws.{HomesFramed, HomesPlaced, IsPlaced, MovesAreFew};
-ghost use Rattle.sch_homes.specs.View.{bare_code};
+ghost use Rattle.sch_homes.specs.View.{bare_code, tree_of};
 
 mod call_arguments;
 mod call_moves;
@@ -32,7 +31,7 @@ pub fn homes_are_framed()
 
 /// The law that the type of bodies with places keeps what these laws ask for.
 pub fn bodies_are_placed<const N: usize>(b: &PlacedBody<'_, N>)
-    ensures { IsPlaced (bare_code b.now) (restored b.now.body.now.exp) b.now.places }
+    ensures { IsPlaced (bare_code b.now) (tree_of b.now) b.now.places }
 {
     let _ = &b.places;
 }

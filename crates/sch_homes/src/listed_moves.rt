@@ -7,6 +7,7 @@ ghost use Rattle.sch_orders.specs.ListedCalls as tree;
 ghost use Rattle.sch_writer.specs.FewOperands.{FewOperands};
 ghost use Rattle.sch_homes.specs.HomeTable.{place_in};
 ghost use Rattle.sch_homes.specs.ListedMoves as listed;
+ghost use Rattle.sch_homes.specs.View.{entry_of, tree_of};
 
 use crate::call_arguments::arguments;
 use crate::frame_places::FramePlaces;
@@ -130,10 +131,10 @@ pub fn list_moves<const N: usize>(
     b: &PlacedBody<'_, N>,
     calls: &mut List<ListedCall>,
 ) -> Result<(), Mem>
-    ensures { OnOk result (calls.new ≡ calls.old ++ listed.homes_calls b.now.body.now.entry (restored b.now.body.now.exp) b.now.places) }
+    ensures { OnOk result (calls.new ≡ calls.old ++ listed.homes_calls (entry_of b.now) (tree_of b.now) b.now.places) }
 {
     let lives = FramePlaces {
         places: b.places.as_slice(),
     };
-    list_calls(alloc, &lives, &b.body.exp, calls)
+    list_calls(alloc, &lives, &b.restored.exp, calls)
 }

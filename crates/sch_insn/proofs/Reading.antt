@@ -248,7 +248,7 @@ decode_spelling (SubFrom r m) rest h = wide_read 43 m r rest refl refl refl h.0 
 decode_spelling (XorFrom r m) rest h = wide_read 51 m r rest refl refl refl h.0 h.1 ∙ sized (XorFrom r m) (plus_2 (length (operand r m)))
 decode_spelling (CmpFrom r m) rest h = wide_read 59 m r rest refl refl refl h.0 h.1 ∙ sized (CmpFrom r m) (plus_2 (length (operand r m)))
 decode_spelling (MovFrom r m) rest h = wide_read 139 m r rest refl refl refl h.0 h.1 ∙ sized (MovFrom r m) (plus_2 (length (operand r m)))
-decode_spelling (Lea r m) rest h = wide_read 141 m r rest refl refl refl h.0 h.1 ∙ ap (λ b. cond b (Some (Lea r m, length (operand r m) + 2)) None) h.2
+decode_spelling (Lea r m) rest h = wide_read 141 m r rest refl refl refl h.0 h.1 ∙ ap (λ b. when_some (cond b (Some (Lea r m)) None) (λ i. Some (i, length (operand r m) + 2))) h.2
     ∙ sized (Lea r m) (plus_2 (length (operand r m)))
 decode_spelling (AddNumber m n) rest h = ended (AddNumber m n) 129 0 m (four_bytes n) rest refl refl refl refl (omega arith) h.0
     (ap (λ o. when_some o (λ n. Some (AddNumber m n, length (operand 0 m) + 2 + 4))) (number_of_4_read n rest h.1))

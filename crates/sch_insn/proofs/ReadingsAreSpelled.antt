@@ -1,5 +1,5 @@
 -- What is read was spelled so: where `decode` answers, the bytes begin with the spelling of its answer.
-use Rattle.std.proofs.Common.{◌≡◌, ℕ, zero, suc, ◌+◌, ◌*◌, ◌/◌, ◌%◌, ◌^◌, ◌<◌, ◌≤◌, List, [], ◌∷◌, ◌++◌, length, take, drop, get_or, Bool, true, false, cond, Option, Some, None, refl, sym, ap, ◌∙◌, subst, arith, length-drop, append-nil, nat_lt, ◌==◌, ◌&&◌, lit<, take-add}
+use Rattle.std.proofs.Common.{◌≡◌, ℕ, zero, suc, ◌+◌, ◌*◌, ◌/◌, ◌%◌, ◌^◌, ◌<◌, ◌≤◌, List, [], ◌∷◌, ◌++◌, length, take, drop, get_or, true, false, cond, Option, Some, refl, sym, ap, ◌∙◌, subst, arith, length-drop, append-nil, nat_lt, ◌==◌, ◌&&◌, lit<, take-add}
 use Rattle.std.specs.Prelude.{ℤ, not}
 use Rattle.std.specs.Int.{w8, w32, w64, cast_signed, to_le_bytes, from_le_bytes}
 use Rattle.std.specs.Int.RustNames.{FitsSigned}
@@ -15,7 +15,7 @@ use Rattle.sch_insn.specs.declared.insn.Arg.TheVariants.{Reg, Base, Base8, Base3
 use Rattle.sch_insn.specs.declared.insn.Insn.{Insn}
 use Rattle.sch_insn.specs.declared.insn.Insn.TheVariants.{MovTo, MovFrom, MovNumber, MovWord, StoreByte, LoadByte, Lea, AddTo, OrTo, AndTo, SubTo, XorTo, CmpTo, AddFrom, OrFrom, AndFrom, SubFrom, XorFrom, CmpFrom, AddNumber, OrNumber, AndNumber, SubNumber, XorNumber, CmpNumber, AddNumber8, OrNumber8, AndNumber8, SubNumber8, XorNumber8, CmpNumber8, TestTo, Imul, Neg, Idiv, Cqo, Shl, Shr, Sar, Jump, Jump8, JumpTo, JumpIf, JumpIf8, Syscall}
 use Rattle.sch_insn.specs.Spelling.{one_byte, four_bytes, eight_bytes, high_bit, rex, wide, modrm, sib, operand, IsArg, in_memory, spelling, IsCondition, IsValid}
-use Rattle.sch_insn.specs.Decode.{number_of_1, number_of_4, number_of_8, sib_size, arg_of, operand_of, with_count, wide_of, narrow_of, long_of, full_of, rexed_of, is_jump_if, escaped_of, decode}
+use Rattle.sch_insn.specs.Decode.{number_of_1, number_of_4, number_of_8, sib_size, arg_of, operand_of, count_of, with_count, number_form_of_4, number_form_of_1, shift_form, mov_number_of, plain_form, wide_of, narrow_of, long_of, full_of, rexed_of, is_jump_if, escaped_of, decode}
 use Rattle.sch_word.specs.values.Options.{when_some}
 use Rattle.sch_insn.proofs.Lists.{take_1, take_2, take_3, drop_1}
 use Rattle.sch_insn.proofs.OnAnswer.{OnAnswer, nothing, gives, branch, sequence}
@@ -103,6 +103,20 @@ number_of_8_back (a ∷ b ∷ c ∷ d ∷ e ∷ f ∷ g ∷ k ∷ bs) h =
       same = sym (le_bytes_8 (a ∷ b ∷ c ∷ d ∷ e ∷ f ∷ g ∷ k ∷ []) n refl (small8 a b c d e f g k h0 h1 h2 h3 h4 h5 h6 h7) refl) ∙ ap (to_le_bytes w64) (sym (of_z-to_z w64 n low));
       fits = sfits_to_z (record { fits = low });
     }))
+
+not_over : (x : ℕ) → nat_lt 63 x ≡ false → x < 64
+not_over x e = grind (arith, nat_tests)
+
+-- The first byte is the count.
+record Count (bs : List ℕ) (x : ℕ) : Type 0 where
+  pub long : 1 ≤ length bs
+  pub same : take 1 bs ≡ x ∷ []
+  pub small : x < 64
+
+count_back : (bs : List ℕ) → OnAnswer (Count bs) (count_of bs)
+count_back [] = nothing
+count_back (x ∷ bs) =
+    branch (nat_lt (length (x ∷ bs)) 1) (λ _. nothing) (λ _. branch (nat_lt 63 x) (λ _. nothing) (λ e. gives x (record { long = omega arith; same = refl; small = not_over x e })))
 
 -- ---- operands
 -- The first n bytes are what SIB is after ModRM with these low bits.
@@ -221,6 +235,67 @@ operand_back r b (x ∷ bs) hr hb h =
     })))
 
 -- ---- forms with W
+-- The instruction is spelled by W, this opcode, the operand, and these bytes at its end.
+record Ended (op r : ℕ) (m : Arg) (tail : List ℕ) (i : Insn) : Type 0 where
+  pub same : spelling i ≡ wide op r m ++ tail
+  pub is : IsValid i
+
+-- The kinds of rows: the register field is a digit of the opcode; nothing stands at the end; both.
+digit : (i : Insn) (op d r : ℕ) (m : Arg) (tail : List ℕ) → spelling i ≡ wide op d m ++ tail → IsValid i → (r == d) ≡ true → OnAnswer (Ended op r m tail) (Some i)
+digit i op d r m tail e v t = gives i (record { same = e ∙ ap (λ n. wide op n m ++ tail) (sym (eqb-true r d t)); is = v })
+
+plain : (i : Insn) (o op r : ℕ) (m : Arg) → spelling i ≡ wide o r m → IsValid i → (op == o) ≡ true → OnAnswer (Ended op r m []) (Some i)
+plain i o op r m e v t = gives i (record { same = e ∙ ap (λ z. wide z r m) (sym (eqb-true op o t)) ∙ sym (append-nil (wide op r m)); is = v })
+
+plain_digit : (i : Insn) (o d op r : ℕ) (m : Arg) → spelling i ≡ wide o d m → IsValid i → ((op == o) ≡ true) × ((r == d) ≡ true) → OnAnswer (Ended op r m []) (Some i)
+plain_digit i o d op r m e v t = plain i o op r m (e ∙ ap (λ n. wide o n m) (sym (eqb-true r d t.1))) v t.0
+
+-- One line for each row.
+form_of_4_back : (r : ℕ) (m : Arg) (n : ℤ) → IsArg m → FitsSigned w32 n → OnAnswer (Ended 129 r m (four_bytes n)) (number_form_of_4 r m n)
+form_of_4_back r m n hm fits =
+    branch (r == 0) (digit (AddNumber m n) 129 0 r m (four_bytes n) refl (hm, fits)) (λ _.
+    branch (r == 1) (digit (OrNumber m n) 129 1 r m (four_bytes n) refl (hm, fits)) (λ _.
+    branch (r == 4) (digit (AndNumber m n) 129 4 r m (four_bytes n) refl (hm, fits)) (λ _.
+    branch (r == 5) (digit (SubNumber m n) 129 5 r m (four_bytes n) refl (hm, fits)) (λ _.
+    branch (r == 6) (digit (XorNumber m n) 129 6 r m (four_bytes n) refl (hm, fits)) (λ _.
+    branch (r == 7) (digit (CmpNumber m n) 129 7 r m (four_bytes n) refl (hm, fits)) (λ _. nothing))))))
+
+form_of_1_back : (r : ℕ) (m : Arg) (n : ℤ) → IsArg m → FitsSigned w8 n → OnAnswer (Ended 131 r m (one_byte n)) (number_form_of_1 r m n)
+form_of_1_back r m n hm fits =
+    branch (r == 0) (digit (AddNumber8 m n) 131 0 r m (one_byte n) refl (hm, fits)) (λ _.
+    branch (r == 1) (digit (OrNumber8 m n) 131 1 r m (one_byte n) refl (hm, fits)) (λ _.
+    branch (r == 4) (digit (AndNumber8 m n) 131 4 r m (one_byte n) refl (hm, fits)) (λ _.
+    branch (r == 5) (digit (SubNumber8 m n) 131 5 r m (one_byte n) refl (hm, fits)) (λ _.
+    branch (r == 6) (digit (XorNumber8 m n) 131 6 r m (one_byte n) refl (hm, fits)) (λ _.
+    branch (r == 7) (digit (CmpNumber8 m n) 131 7 r m (one_byte n) refl (hm, fits)) (λ _. nothing))))))
+
+shift_form_back : (r : ℕ) (m : Arg) (x : ℕ) → IsArg m → x < 64 → OnAnswer (Ended 193 r m (x ∷ [])) (shift_form r m x)
+shift_form_back r m x hm small =
+    branch (r == 4) (digit (Shl m x) 193 4 r m (x ∷ []) refl (hm, small)) (λ _.
+    branch (r == 5) (digit (Shr m x) 193 5 r m (x ∷ []) refl (hm, small)) (λ _.
+    branch (r == 7) (digit (Sar m x) 193 7 r m (x ∷ []) refl (hm, small)) (λ _. nothing)))
+
+plain_form_back : (op r : ℕ) (m : Arg) → IsArg m → r < 16 → OnAnswer (Ended op r m []) (plain_form op r m)
+plain_form_back op r m hm hr =
+    branch (op == 1) (plain (AddTo m r) 1 op r m refl (hm, hr)) (λ _.
+    branch (op == 3) (plain (AddFrom r m) 3 op r m refl (hm, hr)) (λ _.
+    branch (op == 9) (plain (OrTo m r) 9 op r m refl (hm, hr)) (λ _.
+    branch (op == 11) (plain (OrFrom r m) 11 op r m refl (hm, hr)) (λ _.
+    branch (op == 33) (plain (AndTo m r) 33 op r m refl (hm, hr)) (λ _.
+    branch (op == 35) (plain (AndFrom r m) 35 op r m refl (hm, hr)) (λ _.
+    branch (op == 41) (plain (SubTo m r) 41 op r m refl (hm, hr)) (λ _.
+    branch (op == 43) (plain (SubFrom r m) 43 op r m refl (hm, hr)) (λ _.
+    branch (op == 49) (plain (XorTo m r) 49 op r m refl (hm, hr)) (λ _.
+    branch (op == 51) (plain (XorFrom r m) 51 op r m refl (hm, hr)) (λ _.
+    branch (op == 57) (plain (CmpTo m r) 57 op r m refl (hm, hr)) (λ _.
+    branch (op == 59) (plain (CmpFrom r m) 59 op r m refl (hm, hr)) (λ _.
+    branch (op == 133) (plain (TestTo m r) 133 op r m refl (hm, hr)) (λ _.
+    branch (op == 137) (plain (MovTo m r) 137 op r m refl (hm, hr)) (λ _.
+    branch (op == 139) (plain (MovFrom r m) 139 op r m refl (hm, hr)) (λ _.
+    branch ((op == 141) && in_memory m) (λ e. let t = and_parts (op == 141) (in_memory m) e in plain (Lea r m) 141 op r m refl (hm, hr, t.1) t.0) (λ _.
+    branch ((op == 247) && (r == 3)) (λ e. plain_digit (Neg m) 247 3 op r m refl hm (and_parts (op == 247) (r == 3) e)) (λ _.
+    branch ((op == 247) && (r == 7)) (λ e. plain_digit (Idiv m) 247 7 op r m refl hm (and_parts (op == 247) (r == 7) e)) (λ _. nothing))))))))))))))))))
+
 -- Behind the operand, `size` bytes make up the spelling of an instruction with W.
 record Form (op r : ℕ) (m : Arg) (k : ℕ) (bs : List ℕ) (p : Insn × ℕ) : Type 0 where
   pub size : ℕ
@@ -229,95 +304,38 @@ record Form (op r : ℕ) (m : Arg) (k : ℕ) (bs : List ℕ) (p : Insn × ℕ) :
   pub same : spelling p.0 ≡ rex 1 r m ∷ op ∷ (operand r m ++ take size bs)
   pub is : IsValid p.0
 
--- The kinds of rows: nothing more is asked; the register field is a digit of the opcode; a number or a
--- count follows.
-plain : (i : Insn) (o op r k : ℕ) (m : Arg) (bs : List ℕ) → spelling i ≡ wide o r m → IsValid i → (op == o) ≡ true → OnAnswer (Form op r m k bs) (Some (i, k))
-plain i o op r k m bs e v t = gives (i, k) (record {
-  size = 0;
-  total = omega arith;
-  within = omega arith;
-  same = e ∙ ap (λ z. rex 1 r m ∷ z ∷ operand r m) (sym (eqb-true op o t)) ∙ ap (λ l. rex 1 r m ∷ op ∷ l) (sym (append-nil (operand r m)));
-  is = v;
-})
+module _ (r : ℕ) (m : Arg) (k : ℕ) (bs : List ℕ) where
+  ended : (op size n : ℕ) (tail : List ℕ) (o : Option Insn) → n ≡ k + size → size ≤ length bs → take size bs ≡ tail → OnAnswer (Ended op r m tail) o
+      → OnAnswer (Form op r m k bs) (when_some o (λ i. Some (i, n)))
+  ended op size n tail o total long same back = sequence o (λ i ei.
+      let f = back.by i ei in
+      gives (i, n) (record { size = size; total = total; within = long; same = f.same ∙ ap (λ l. wide op r m ++ l) (sym same); is = f.is }))
 
-digit : (i : Insn) (o d op r k : ℕ) (m : Arg) (bs : List ℕ) → spelling i ≡ wide o d m → IsValid i → ((op == o) ≡ true) × ((r == d) ≡ true) → OnAnswer (Form op r m k bs) (Some (i, k))
-digit i o d op r k m bs e v t = plain i o op r k m bs (e ∙ ap (λ n. wide o n m) (sym (eqb-true r d t.1))) v t.0
+  numbered : (op size : ℕ) (bytes_of : ℤ → List ℕ) (Fits : ℤ → Type 0) (form : ℤ → Option Insn) (read : Option ℤ) → OnAnswer (Number size bytes_of Fits bs) read
+      → ((n : ℤ) → Fits n → OnAnswer (Ended op r m (bytes_of n)) (form n)) → OnAnswer (Form op r m k bs) (when_some read (λ n. when_some (form n) (λ i. Some (i, k + size))))
+  numbered op size bytes_of Fits form read back forms = sequence read (λ n en.
+      let num = back.by n en in ended op size (k + size) (bytes_of n) (form n) refl num.long num.same (forms n num.fits))
 
-numbered : (size : ℕ) (bytes_of : ℤ → List ℕ) (Fits : ℤ → Type 0) (form : ℤ → Insn) (o d op r k : ℕ) (m : Arg) (bs : List ℕ) (read : Option ℤ) → OnAnswer (Number size bytes_of Fits bs) read
-    → ((n : ℤ) → spelling (form n) ≡ wide o d m ++ bytes_of n) → ((n : ℤ) → Fits n → IsValid (form n)) → ((op == o) ≡ true) × ((r == d) ≡ true)
-    → OnAnswer (Form op r m k bs) (when_some read (λ n. Some (form n, k + size)))
-numbered size bytes_of Fits form o d op r k m bs read back e v t = sequence read (λ n en.
-    let num = back.by n en in
-    gives (form n, k + size) (record {
-      size = size;
-      total = refl;
-      within = num.long;
-      same = e n ∙ ap (λ x. wide x d m ++ bytes_of n) (sym (eqb-true op o t.0)) ∙ ap (λ x. wide op x m ++ bytes_of n) (sym (eqb-true r d t.1)) ∙ ap (λ l. wide op r m ++ l) (sym num.same);
-      is = v n num.fits;
-    }))
+  shifted : IsArg m → OnAnswer (Form 193 r m k bs) (with_count (shift_form r m) k bs)
+  shifted hm = sequence (count_of bs) (λ x ex.
+      let n = (count_back bs).by x ex in ended 193 1 (k + 1) (x ∷ []) (shift_form r m x) refl n.long n.same (shift_form_back r m x hm n.small))
 
-not_over : (x : ℕ) → nat_lt 63 x ≡ false → x < 64
-not_over x e = grind (arith, nat_tests)
+  moved : IsArg m → Bytes bs → OnAnswer (Form 199 r m k bs) (mov_number_of r m k bs)
+  moved hm h = branch (r == 0) (λ e. numbered 199 4 four_bytes (FitsSigned w32) (λ n. Some (MovNumber m n)) (number_of_4 bs) (number_of_4_back bs h)
+      (λ n fits. digit (MovNumber m n) 199 0 r m (four_bytes n) refl (hm, fits) e)) (λ _. nothing)
 
-counted : (form : ℕ → Insn) (o d op r k : ℕ) (m : Arg) (bs : List ℕ) → ((x : ℕ) → spelling (form x) ≡ wide o d m ++ x ∷ []) → ((x : ℕ) → x < 64 → IsValid (form x))
-    → ((op == o) ≡ true) × ((r == d) ≡ true) → OnAnswer (Form op r m k bs) (with_count form k bs)
-counted form o d op r k m [] e v t = nothing
-counted form o d op r k m (x ∷ bs) e v t = count (nat_lt (length (x ∷ bs)) 1) (nat_lt 63 x) refl
-  where
-    count : (few over : Bool) → nat_lt 63 x ≡ over → OnAnswer (Form op r m k (x ∷ bs)) (when_some (cond few None (cond over None (Some x))) (λ n. Some (form n, k + 1)))
-    count true over s = nothing
-    count false true s = nothing
-    count false false s = gives (form x, k + 1) (record {
-      size = 1;
-      total = refl;
-      within = omega arith;
-      same = e x ∙ ap (λ y. wide y d m ++ x ∷ []) (sym (eqb-true op o t.0)) ∙ ap (λ y. wide op y m ++ x ∷ []) (sym (eqb-true r d t.1));
-      is = v x (not_over x s);
-    })
+  -- a row is chosen by its opcode
+  chosen : (op o : ℕ) (answer : Option (Insn × ℕ)) → OnAnswer (Form o r m k bs) answer → (op == o) ≡ true → OnAnswer (Form op r m k bs) answer
+  chosen op o answer f e = subst (λ z. OnAnswer (Form z r m k bs) answer) (sym (eqb-true op o e)) f
 
--- One line for each row.
-wide_back : (op r : ℕ) (m : Arg) (k : ℕ) (bs : List ℕ) → IsArg m → r < 16 → Bytes bs → OnAnswer (Form op r m k bs) (wide_of op r m k bs)
-unfolding wide_of
-wide_back op r m k bs hm hr h =
-    let one = number_of_1 bs in
-    let one_back = number_of_1_back bs h in
-    let four = number_of_4 bs in
-    let four_back = number_of_4_back bs h in
-    branch (op == 1) (λ e. plain (AddTo m r) 1 op r k m bs refl (hm, hr) e) (λ _.
-    branch (op == 3) (λ e. plain (AddFrom r m) 3 op r k m bs refl (hm, hr) e) (λ _.
-    branch (op == 9) (λ e. plain (OrTo m r) 9 op r k m bs refl (hm, hr) e) (λ _.
-    branch (op == 11) (λ e. plain (OrFrom r m) 11 op r k m bs refl (hm, hr) e) (λ _.
-    branch (op == 33) (λ e. plain (AndTo m r) 33 op r k m bs refl (hm, hr) e) (λ _.
-    branch (op == 35) (λ e. plain (AndFrom r m) 35 op r k m bs refl (hm, hr) e) (λ _.
-    branch (op == 41) (λ e. plain (SubTo m r) 41 op r k m bs refl (hm, hr) e) (λ _.
-    branch (op == 43) (λ e. plain (SubFrom r m) 43 op r k m bs refl (hm, hr) e) (λ _.
-    branch (op == 49) (λ e. plain (XorTo m r) 49 op r k m bs refl (hm, hr) e) (λ _.
-    branch (op == 51) (λ e. plain (XorFrom r m) 51 op r k m bs refl (hm, hr) e) (λ _.
-    branch (op == 57) (λ e. plain (CmpTo m r) 57 op r k m bs refl (hm, hr) e) (λ _.
-    branch (op == 59) (λ e. plain (CmpFrom r m) 59 op r k m bs refl (hm, hr) e) (λ _.
-    branch ((op == 129) && (r == 0)) (λ e. numbered 4 four_bytes (FitsSigned w32) (AddNumber m) 129 0 op r k m bs four four_back (λ n. refl) (λ n fits. (hm, fits)) (and_parts (op == 129) (r == 0) e)) (λ _.
-    branch ((op == 129) && (r == 1)) (λ e. numbered 4 four_bytes (FitsSigned w32) (OrNumber m) 129 1 op r k m bs four four_back (λ n. refl) (λ n fits. (hm, fits)) (and_parts (op == 129) (r == 1) e)) (λ _.
-    branch ((op == 129) && (r == 4)) (λ e. numbered 4 four_bytes (FitsSigned w32) (AndNumber m) 129 4 op r k m bs four four_back (λ n. refl) (λ n fits. (hm, fits)) (and_parts (op == 129) (r == 4) e)) (λ _.
-    branch ((op == 129) && (r == 5)) (λ e. numbered 4 four_bytes (FitsSigned w32) (SubNumber m) 129 5 op r k m bs four four_back (λ n. refl) (λ n fits. (hm, fits)) (and_parts (op == 129) (r == 5) e)) (λ _.
-    branch ((op == 129) && (r == 6)) (λ e. numbered 4 four_bytes (FitsSigned w32) (XorNumber m) 129 6 op r k m bs four four_back (λ n. refl) (λ n fits. (hm, fits)) (and_parts (op == 129) (r == 6) e)) (λ _.
-    branch ((op == 129) && (r == 7)) (λ e. numbered 4 four_bytes (FitsSigned w32) (CmpNumber m) 129 7 op r k m bs four four_back (λ n. refl) (λ n fits. (hm, fits)) (and_parts (op == 129) (r == 7) e)) (λ _.
-    branch ((op == 131) && (r == 0)) (λ e. numbered 1 one_byte (FitsSigned w8) (AddNumber8 m) 131 0 op r k m bs one one_back (λ n. refl) (λ n fits. (hm, fits)) (and_parts (op == 131) (r == 0) e)) (λ _.
-    branch ((op == 131) && (r == 1)) (λ e. numbered 1 one_byte (FitsSigned w8) (OrNumber8 m) 131 1 op r k m bs one one_back (λ n. refl) (λ n fits. (hm, fits)) (and_parts (op == 131) (r == 1) e)) (λ _.
-    branch ((op == 131) && (r == 4)) (λ e. numbered 1 one_byte (FitsSigned w8) (AndNumber8 m) 131 4 op r k m bs one one_back (λ n. refl) (λ n fits. (hm, fits)) (and_parts (op == 131) (r == 4) e)) (λ _.
-    branch ((op == 131) && (r == 5)) (λ e. numbered 1 one_byte (FitsSigned w8) (SubNumber8 m) 131 5 op r k m bs one one_back (λ n. refl) (λ n fits. (hm, fits)) (and_parts (op == 131) (r == 5) e)) (λ _.
-    branch ((op == 131) && (r == 6)) (λ e. numbered 1 one_byte (FitsSigned w8) (XorNumber8 m) 131 6 op r k m bs one one_back (λ n. refl) (λ n fits. (hm, fits)) (and_parts (op == 131) (r == 6) e)) (λ _.
-    branch ((op == 131) && (r == 7)) (λ e. numbered 1 one_byte (FitsSigned w8) (CmpNumber8 m) 131 7 op r k m bs one one_back (λ n. refl) (λ n fits. (hm, fits)) (and_parts (op == 131) (r == 7) e)) (λ _.
-    branch (op == 133) (λ e. plain (TestTo m r) 133 op r k m bs refl (hm, hr) e) (λ _.
-    branch (op == 137) (λ e. plain (MovTo m r) 137 op r k m bs refl (hm, hr) e) (λ _.
-    branch (op == 139) (λ e. plain (MovFrom r m) 139 op r k m bs refl (hm, hr) e) (λ _.
-    branch ((op == 141) && in_memory m) (λ e. let t = and_parts (op == 141) (in_memory m) e in plain (Lea r m) 141 op r k m bs refl (hm, hr, t.1) t.0) (λ _.
-    branch ((op == 193) && (r == 4)) (λ e. counted (Shl m) 193 4 op r k m bs (λ n. refl) (λ n small. (hm, small)) (and_parts (op == 193) (r == 4) e)) (λ _.
-    branch ((op == 193) && (r == 5)) (λ e. counted (Shr m) 193 5 op r k m bs (λ n. refl) (λ n small. (hm, small)) (and_parts (op == 193) (r == 5) e)) (λ _.
-    branch ((op == 193) && (r == 7)) (λ e. counted (Sar m) 193 7 op r k m bs (λ n. refl) (λ n small. (hm, small)) (and_parts (op == 193) (r == 7) e)) (λ _.
-    branch ((op == 199) && (r == 0)) (λ e. numbered 4 four_bytes (FitsSigned w32) (MovNumber m) 199 0 op r k m bs four four_back (λ n. refl) (λ n fits. (hm, fits)) (and_parts (op == 199) (r == 0) e)) (λ _.
-    branch ((op == 247) && (r == 3)) (λ e. digit (Neg m) 247 3 op r k m bs refl hm (and_parts (op == 247) (r == 3) e)) (λ _.
-    branch ((op == 247) && (r == 7)) (λ e. digit (Idiv m) 247 7 op r k m bs refl hm (and_parts (op == 247) (r == 7) e)) (λ _.
-    nothing))))))))))))))))))))))))))))))))))
+  wide_back : (op : ℕ) → IsArg m → r < 16 → Bytes bs → OnAnswer (Form op r m k bs) (wide_of op r m k bs)
+  unfolding wide_of
+  wide_back op hm hr h =
+      branch (op == 129) (chosen op 129 _ (numbered 129 4 four_bytes (FitsSigned w32) (number_form_of_4 r m) (number_of_4 bs) (number_of_4_back bs h) (λ n. form_of_4_back r m n hm))) (λ _.
+      branch (op == 131) (chosen op 131 _ (numbered 131 1 one_byte (FitsSigned w8) (number_form_of_1 r m) (number_of_1 bs) (number_of_1_back bs h) (λ n. form_of_1_back r m n hm))) (λ _.
+      branch (op == 193) (chosen op 193 _ (shifted hm)) (λ _.
+      branch (op == 199) (chosen op 199 _ (moved hm h)) (λ _.
+      ended op 0 k [] (plain_form op r m) (omega arith) (omega arith) refl (plain_form_back op r m hm hr)))))
 
 -- ---- whole instructions
 -- The first bytes are the spelling of an instruction that there is.
@@ -417,7 +435,7 @@ rexed_back w r b (op ∷ bs) hw hr hb h =
     let was = drop_1 p.2 op bs in
     record {
       by = λ v ev.
-          let f = (wide_back op p.0 p.1 (p.2 + 2) more q.is q.low (dropped (p.2 + 1) (op ∷ bs) h)).by v ev in
+          let f = (wide_back p.0 p.1 (p.2 + 2) more op q.is q.low (dropped (p.2 + 1) (op ∷ bs) h)).by v ev in
           let in1 = q.within in
           let in2 = f.within in
           let len = length-drop (p.2 + 1) (op ∷ bs) in

@@ -27,14 +27,29 @@ sib_size low bs =
     if low == 4 then (if nat_lt (length bs) 1 then None else if slice_index bs 0 == 0x24 then Some 1 else None)
     else Some 0
 
+-- An operand at a base register: with a displacement of four bytes, with one of one byte, and with none; and
+-- how many bytes it takes after ModRM with these low bits.
+abbrev pub at_base_32_of : ℕ → ℕ → List ℕ → Option (Arg × ℕ)
+at_base_32_of base low bs = when_some (sib_size low bs) (λ n. when_some (number_of_4 (drop n bs)) (λ d. Some (Base32 base d, n + 4)))
+
+abbrev pub at_base_8_of : ℕ → ℕ → List ℕ → Option (Arg × ℕ)
+at_base_8_of base low bs = when_some (sib_size low bs) (λ n. when_some (number_of_1 (drop n bs)) (λ d. Some (Base8 base d, n + 1)))
+
+abbrev pub at_base_of : ℕ → ℕ → List ℕ → Option (Arg × ℕ)
+at_base_of base low bs = when_some (sib_size low bs) (λ n. Some (Base base, n))
+
+-- An operand relative to RIP. The bit B is 0.
+abbrev pub at_rip_of : ℕ → List ℕ → Option (Arg × ℕ)
+at_rip_of b bs = if b == 0 then when_some (number_of_4 bs) (λ d. Some (Rip d, 4)) else None
+
 -- The operand of a mode, the bit B and low bits, and how many bytes it takes after ModRM.
 abbrev pub arg_of : ℕ → ℕ → ℕ → List ℕ → Option (Arg × ℕ)
 arg_of mode b low bs =
     if mode == 3 then Some (Reg (8 * b + low), 0)
-    else if mode == 2 then when_some (sib_size low bs) (λ n. when_some (number_of_4 (drop n bs)) (λ d. Some (Base32 (8 * b + low) d, n + 4)))
-    else if mode == 1 then when_some (sib_size low bs) (λ n. when_some (number_of_1 (drop n bs)) (λ d. Some (Base8 (8 * b + low) d, n + 1)))
-    else if low == 5 then (if b == 0 then when_some (number_of_4 bs) (λ d. Some (Rip d, 4)) else None)
-    else when_some (sib_size low bs) (λ n. Some (Base (8 * b + low), n))
+    else if mode == 2 then at_base_32_of (8 * b + low) low bs
+    else if mode == 1 then at_base_8_of (8 * b + low) low bs
+    else if low == 5 then at_rip_of b bs
+    else at_base_of (8 * b + low) low bs
 
 -- The register of the form, the operand, and how many bytes they take, from ModRM on. The bits R and B
 -- come from REX.
@@ -47,54 +62,79 @@ operand_of r b bs =
 abbrev pub count_of : List ℕ → Option ℕ
 count_of bs = if nat_lt (length bs) 1 then None else if nat_lt 63 (slice_index bs 0) then None else Some (slice_index bs 0)
 
--- A form that ends with a number of four bytes or of one, or with a count, behind k bytes.
-abbrev pub with_number : (ℤ → Insn) → ℕ → List ℕ → Option (Insn × ℕ)
-with_number form k bs = when_some (number_of_4 bs) (λ n. Some (form n, k + 4))
+-- A form that ends in a number of four bytes, in one of one byte, or in a count, behind k bytes.
+abbrev pub with_number_of_4 : (ℤ → Option Insn) → ℕ → List ℕ → Option (Insn × ℕ)
+with_number_of_4 form k bs = when_some (number_of_4 bs) (λ n. when_some (form n) (λ i. Some (i, k + 4)))
 
-abbrev pub with_number_8 : (ℤ → Insn) → ℕ → List ℕ → Option (Insn × ℕ)
-with_number_8 form k bs = when_some (number_of_1 bs) (λ n. Some (form n, k + 1))
+abbrev pub with_number_of_1 : (ℤ → Option Insn) → ℕ → List ℕ → Option (Insn × ℕ)
+with_number_of_1 form k bs = when_some (number_of_1 bs) (λ n. when_some (form n) (λ i. Some (i, k + 1)))
 
-abbrev pub with_count : (ℕ → Insn) → ℕ → List ℕ → Option (Insn × ℕ)
-with_count form k bs = when_some (count_of bs) (λ n. Some (form n, k + 1))
+abbrev pub with_count : (ℕ → Option Insn) → ℕ → List ℕ → Option (Insn × ℕ)
+with_count form k bs = when_some (count_of bs) (λ n. when_some (form n) (λ i. Some (i, k + 1)))
+
+-- The forms that the register field of ModRM tells apart: those with a number, of four bytes or of one, and shifts.
+abbrev pub number_form_of_4 : ℕ → Arg → ℤ → Option Insn
+number_form_of_4 r m n =
+    if r == 0 then Some (AddNumber m n)
+    else if r == 1 then Some (OrNumber m n)
+    else if r == 4 then Some (AndNumber m n)
+    else if r == 5 then Some (SubNumber m n)
+    else if r == 6 then Some (XorNumber m n)
+    else if r == 7 then Some (CmpNumber m n)
+    else None
+
+abbrev pub number_form_of_1 : ℕ → Arg → ℤ → Option Insn
+number_form_of_1 r m n =
+    if r == 0 then Some (AddNumber8 m n)
+    else if r == 1 then Some (OrNumber8 m n)
+    else if r == 4 then Some (AndNumber8 m n)
+    else if r == 5 then Some (SubNumber8 m n)
+    else if r == 6 then Some (XorNumber8 m n)
+    else if r == 7 then Some (CmpNumber8 m n)
+    else None
+
+abbrev pub shift_form : ℕ → Arg → ℕ → Option Insn
+shift_form r m n =
+    if r == 4 then Some (Shl m n)
+    else if r == 5 then Some (Shr m n)
+    else if r == 7 then Some (Sar m n)
+    else None
+
+-- `mov` of a number into an operand, for which that field is 0.
+abbrev pub mov_number_of : ℕ → Arg → ℕ → List ℕ → Option (Insn × ℕ)
+mov_number_of r m k bs = if r == 0 then with_number_of_4 (λ n. Some (MovNumber m n)) k bs else None
+
+-- The form of an opcode of one byte with W that ends with its operand.
+abbrev pub plain_form : ℕ → ℕ → Arg → Option Insn
+plain_form op r m =
+    if op == 0x01 then Some (AddTo m r)
+    else if op == 0x03 then Some (AddFrom r m)
+    else if op == 0x09 then Some (OrTo m r)
+    else if op == 0x0B then Some (OrFrom r m)
+    else if op == 0x21 then Some (AndTo m r)
+    else if op == 0x23 then Some (AndFrom r m)
+    else if op == 0x29 then Some (SubTo m r)
+    else if op == 0x2B then Some (SubFrom r m)
+    else if op == 0x31 then Some (XorTo m r)
+    else if op == 0x33 then Some (XorFrom r m)
+    else if op == 0x39 then Some (CmpTo m r)
+    else if op == 0x3B then Some (CmpFrom r m)
+    else if op == 0x85 then Some (TestTo m r)
+    else if op == 0x89 then Some (MovTo m r)
+    else if op == 0x8B then Some (MovFrom r m)
+    else if (op == 0x8D) && in_memory m then Some (Lea r m)
+    else if (op == 0xF7) && (r == 3) then Some (Neg m)
+    else if (op == 0xF7) && (r == 7) then Some (Idiv m)
+    else None
 
 -- The form of an opcode of one byte with W, where k bytes stand before its number.
 unfoldable pub wide_of : ℕ → ℕ → Arg → ℕ → List ℕ → Option (Insn × ℕ)
 wide_of op r m k bs =
-    if op == 0x01 then Some (AddTo m r, k)
-    else if op == 0x03 then Some (AddFrom r m, k)
-    else if op == 0x09 then Some (OrTo m r, k)
-    else if op == 0x0B then Some (OrFrom r m, k)
-    else if op == 0x21 then Some (AndTo m r, k)
-    else if op == 0x23 then Some (AndFrom r m, k)
-    else if op == 0x29 then Some (SubTo m r, k)
-    else if op == 0x2B then Some (SubFrom r m, k)
-    else if op == 0x31 then Some (XorTo m r, k)
-    else if op == 0x33 then Some (XorFrom r m, k)
-    else if op == 0x39 then Some (CmpTo m r, k)
-    else if op == 0x3B then Some (CmpFrom r m, k)
-    else if (op == 0x81) && (r == 0) then with_number (AddNumber m) k bs
-    else if (op == 0x81) && (r == 1) then with_number (OrNumber m) k bs
-    else if (op == 0x81) && (r == 4) then with_number (AndNumber m) k bs
-    else if (op == 0x81) && (r == 5) then with_number (SubNumber m) k bs
-    else if (op == 0x81) && (r == 6) then with_number (XorNumber m) k bs
-    else if (op == 0x81) && (r == 7) then with_number (CmpNumber m) k bs
-    else if (op == 0x83) && (r == 0) then with_number_8 (AddNumber8 m) k bs
-    else if (op == 0x83) && (r == 1) then with_number_8 (OrNumber8 m) k bs
-    else if (op == 0x83) && (r == 4) then with_number_8 (AndNumber8 m) k bs
-    else if (op == 0x83) && (r == 5) then with_number_8 (SubNumber8 m) k bs
-    else if (op == 0x83) && (r == 6) then with_number_8 (XorNumber8 m) k bs
-    else if (op == 0x83) && (r == 7) then with_number_8 (CmpNumber8 m) k bs
-    else if op == 0x85 then Some (TestTo m r, k)
-    else if op == 0x89 then Some (MovTo m r, k)
-    else if op == 0x8B then Some (MovFrom r m, k)
-    else if (op == 0x8D) && in_memory m then Some (Lea r m, k)
-    else if (op == 0xC1) && (r == 4) then with_count (Shl m) k bs
-    else if (op == 0xC1) && (r == 5) then with_count (Shr m) k bs
-    else if (op == 0xC1) && (r == 7) then with_count (Sar m) k bs
-    else if (op == 0xC7) && (r == 0) then with_number (MovNumber m) k bs
-    else if (op == 0xF7) && (r == 3) then Some (Neg m, k)
-    else if (op == 0xF7) && (r == 7) then Some (Idiv m, k)
-    else None
+    if op == 0x81 then with_number_of_4 (number_form_of_4 r m) k bs
+    else if op == 0x83 then with_number_of_1 (number_form_of_1 r m) k bs
+    else if op == 0xC1 then with_count (shift_form r m) k bs
+    else if op == 0xC7 then mov_number_of r m k bs
+    else when_some (plain_form op r m) (λ i. Some (i, k))
 
 -- The forms without W.
 unfoldable pub narrow_of : ℕ → ℕ → ℕ → List ℕ → Option (Insn × ℕ)
@@ -117,11 +157,15 @@ long_of r b bs =
 abbrev pub whole_word_of : ℕ → ℕ → List ℕ → Option (Insn × ℕ)
 whole_word_of r register bs = if r == 0 then when_some (number_of_8 bs) (λ n. Some (MovWord register n, 10)) else None
 
+-- The form with W that has no operand. The bits R and B are 0.
+abbrev pub without_operand_of : ℕ → ℕ → Option (Insn × ℕ)
+without_operand_of r b = if (r == 0) && (b == 0) then Some (Cqo, 2) else None
+
 -- What stands after REX with W.
 abbrev pub full_of : ℕ → ℕ → List ℕ → Option (Insn × ℕ)
 full_of r b bs =
     if slice_index bs 0 / 8 == 0xB8 / 8 then whole_word_of r (8 * b + slice_index bs 0 % 8) (drop 1 bs)
-    else if slice_index bs 0 == 0x99 then (if (r == 0) && (b == 0) then Some (Cqo, 2) else None)
+    else if slice_index bs 0 == 0x99 then without_operand_of r b
     else if slice_index bs 0 == 0x0F then long_of r b (drop 1 bs)
     else when_some (operand_of r b (drop 1 bs)) (λ p. wide_of (slice_index bs 0) p.0 p.1 (p.2 + 2) (drop (p.2 + 1) bs))
 
@@ -142,15 +186,24 @@ unfoldable pub escaped_of : List ℕ → Option (Insn × ℕ)
 escaped_of bs =
     if nat_lt (length bs) 1 then None
     else if slice_index bs 0 == 0x05 then Some (Syscall, 2)
-    else if is_jump_if 8 (slice_index bs 0) then with_number (JumpIf (slice_index bs 0 % 16)) 2 (drop 1 bs)
+    else if is_jump_if 8 (slice_index bs 0) then with_number_of_4 (λ d. Some (JumpIf (slice_index bs 0 % 16) d)) 2 (drop 1 bs)
     else None
+
+-- A jump whose opcode is the first byte.
+abbrev pub jump_of : ℕ → List ℕ → Option (Insn × ℕ)
+jump_of op bs =
+    if op == 0xE9 then with_number_of_4 (λ d. Some (Jump d)) 1 bs
+    else if op == 0xEB then with_number_of_1 (λ d. Some (Jump8 d)) 1 bs
+    else if is_jump_if 7 op then with_number_of_1 (λ d. Some (JumpIf8 (op % 16) d)) 1 bs
+    else None
+
+-- Whether a byte is REX with the bit X 0.
+abbrev pub is_rex : ℕ → Bool
+is_rex first = (first / 16 == 4) && (first / 2 % 2 == 0)
 
 abbrev pub decode : List ℕ → Option (Insn × ℕ)
 decode bs =
     if nat_lt (length bs) 1 then None
-    else if (slice_index bs 0 / 16 == 4) && (slice_index bs 0 / 2 % 2 == 0) then rexed_of (slice_index bs 0 / 8 % 2) (slice_index bs 0 / 4 % 2) (slice_index bs 0 % 2) (drop 1 bs)
+    else if is_rex (slice_index bs 0) then rexed_of (slice_index bs 0 / 8 % 2) (slice_index bs 0 / 4 % 2) (slice_index bs 0 % 2) (drop 1 bs)
     else if slice_index bs 0 == 0x0F then escaped_of (drop 1 bs)
-    else if slice_index bs 0 == 0xE9 then with_number Jump 1 (drop 1 bs)
-    else if slice_index bs 0 == 0xEB then with_number_8 Jump8 1 (drop 1 bs)
-    else if is_jump_if 7 (slice_index bs 0) then with_number_8 (JumpIf8 (slice_index bs 0 % 16)) 1 (drop 1 bs)
-    else None
+    else jump_of (slice_index bs 0) (drop 1 bs)

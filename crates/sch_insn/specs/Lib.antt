@@ -1,5 +1,6 @@
 pub mod Spelling
 pub mod Propositions
+pub mod Kinds
 pub mod Decode
 pub mod Machine
 pub mod Step

@@ -1,7 +1,8 @@
 //! A disk over the files of the host.
 
-ghost use Rattle.std.specs.Prelude.{◌≡◌, ◌≢◌, ◌≤◌, ◌<◌, Some, length, IfOk, IfSome, IsErr, IsErrOf, IsOk, IsSomeAnd, OnErr, OnOk};
+ghost use Rattle.std.specs.Prelude.{◌≡◌, ◌≢◌, ◌≤◌, ◌<◌, ◌↔◌, Some, length, IfOk, IfSome, IsErr, IsErrOf, IsOk, IsSomeAnd, OnErr, OnOk};
 ghost use Rattle.std.specs.FinMap.{get};
+ghost use Rattle.std.specs.IoError.{error_kind};
 ghost use Rattle.sch_io.specs.Counters.{Rose, raised};
 ghost use Rattle.sch_io.specs.Files.{Replaces, Spoils};
 ghost use Rattle.sch_io.specs.Told.{Tells};
@@ -110,9 +111,10 @@ fn fetched<R: Files>(host: &R, alloc: Global, name: &str, limit: u64) -> Result<
     Ok(Bytes::from_vec(bytes))
 }
 
-// What the host's error is to a reader. All but out of memory is a failure.
+// What the host's error is to a reader: out of memory, or else a failure.
 fn cause(error: &Error) -> DiskRead
-    ensures { result ≢ DiskRead.TooLarge }
+    ensures memory { (result ≡ DiskRead.Memory) ↔ (error_kind error.now ≡ ErrorKind.OutOfMemory) }
+    ensures too_large { result ≢ DiskRead.TooLarge }
 {
     if error.kind() == ErrorKind::OutOfMemory {
         DiskRead::Memory

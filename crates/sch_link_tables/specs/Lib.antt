@@ -1,5 +1,6 @@
 pub mod Named
 pub mod Listed
+pub mod Walked
 pub mod Quoted
 pub mod Room
 pub mod Assigned

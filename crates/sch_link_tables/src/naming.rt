@@ -5,8 +5,9 @@ ghost use Rattle.sch_read.specs.Views.{tree_of};
 ghost use Rattle.sch_names.specs.NamesView.{names_of, with_name};
 ghost use Rattle.sch_sketch.specs.DraftView.{draft_of, drafts_of};
 ghost use Rattle.sch_sketch.specs.Kinds.{IsCall, IsIf, IsLet, IsLetrec};
-ghost use Rattle.sch_link_tables.specs.Listed.{IsListed, AreListed};
-ghost use Rattle.sch_link_tables.specs.Named.{firsts, global_of, globals_in, globals_in_each, symbols_in, symbols_in_each, symbols_at, symbols_of_datum};
+ghost use Rattle.sch_link_tables.specs.Listed.{IsListed};
+ghost use Rattle.sch_link_tables.specs.Named.{firsts, global_of, symbols_at, symbols_of_datum};
+ghost use Rattle.sch_link_tables.specs.Walked.{NamesDraft, NamesEach};
 
 use crate::tables::{Table, Tables, write_global};
 use sch_names::Names;
@@ -55,11 +56,7 @@ fn name_global(alloc: Global, own: &Names, x: &[u8], tables: &mut Tables) -> Res
 /// Adds the globals and the symbols that a draft names, in a text that has these globals of its own.
 #[cycle(naming)]
 pub fn name_draft(alloc: Global, own: &Names, e: &Draft<'_>, tables: &mut Tables) -> Result<(), Mem>
-    ensures globals { OnOk result (names_of tables.new.globals.names
-        ≡ firsts (names_of tables.old.globals.names) (globals_in (names_of own.now) (draft_of e.now))) }
-    ensures symbols { OnOk result (names_of tables.new.symbols.names
-        ≡ firsts (names_of tables.old.symbols.names) (symbols_in (draft_of e.now))) }
-    ensures listed { OnOk result (AreListed tables.old → AreListed tables.new) }
+    ensures { OnOk result (NamesDraft (names_of own.now) (draft_of e.now) tables.old tables.new) }
 {
     match e {
         Draft::Constant(_) => Ok(()),
@@ -92,11 +89,7 @@ pub fn name_draft(alloc: Global, own: &Names, e: &Draft<'_>, tables: &mut Tables
 #[cycle(naming)]
 fn name_if(alloc: Global, own: &Names, e: &Draft<'_>, tables: &mut Tables) -> Result<(), Mem>
     requires kind { IsIf (draft_of e.now) }
-    ensures globals { OnOk result (names_of tables.new.globals.names
-        ≡ firsts (names_of tables.old.globals.names) (globals_in (names_of own.now) (draft_of e.now))) }
-    ensures symbols { OnOk result (names_of tables.new.symbols.names
-        ≡ firsts (names_of tables.old.symbols.names) (symbols_in (draft_of e.now))) }
-    ensures listed { OnOk result (AreListed tables.old → AreListed tables.new) }
+    ensures { OnOk result (NamesDraft (names_of own.now) (draft_of e.now) tables.old tables.new) }
 {
     let Draft::If(test, yes, no) = e else {
         unreachable!();
@@ -111,11 +104,7 @@ fn name_if(alloc: Global, own: &Names, e: &Draft<'_>, tables: &mut Tables) -> Re
 #[cycle(naming)]
 fn name_let(alloc: Global, own: &Names, e: &Draft<'_>, tables: &mut Tables) -> Result<(), Mem>
     requires kind { IsLet (draft_of e.now) }
-    ensures globals { OnOk result (names_of tables.new.globals.names
-        ≡ firsts (names_of tables.old.globals.names) (globals_in (names_of own.now) (draft_of e.now))) }
-    ensures symbols { OnOk result (names_of tables.new.symbols.names
-        ≡ firsts (names_of tables.old.symbols.names) (symbols_in (draft_of e.now))) }
-    ensures listed { OnOk result (AreListed tables.old → AreListed tables.new) }
+    ensures { OnOk result (NamesDraft (names_of own.now) (draft_of e.now) tables.old tables.new) }
 {
     let Draft::Let(_, inits, body) = e else {
         unreachable!();
@@ -129,11 +118,7 @@ fn name_let(alloc: Global, own: &Names, e: &Draft<'_>, tables: &mut Tables) -> R
 #[cycle(naming)]
 fn name_letrec(alloc: Global, own: &Names, e: &Draft<'_>, tables: &mut Tables) -> Result<(), Mem>
     requires kind { IsLetrec (draft_of e.now) }
-    ensures globals { OnOk result (names_of tables.new.globals.names
-        ≡ firsts (names_of tables.old.globals.names) (globals_in (names_of own.now) (draft_of e.now))) }
-    ensures symbols { OnOk result (names_of tables.new.symbols.names
-        ≡ firsts (names_of tables.old.symbols.names) (symbols_in (draft_of e.now))) }
-    ensures listed { OnOk result (AreListed tables.old → AreListed tables.new) }
+    ensures { OnOk result (NamesDraft (names_of own.now) (draft_of e.now) tables.old tables.new) }
 {
     let Draft::Letrec(_, _, inits, body) = e else {
         unreachable!();
@@ -147,11 +132,7 @@ fn name_letrec(alloc: Global, own: &Names, e: &Draft<'_>, tables: &mut Tables) -
 #[cycle(naming)]
 fn name_call(alloc: Global, own: &Names, e: &Draft<'_>, tables: &mut Tables) -> Result<(), Mem>
     requires kind { IsCall (draft_of e.now) }
-    ensures globals { OnOk result (names_of tables.new.globals.names
-        ≡ firsts (names_of tables.old.globals.names) (globals_in (names_of own.now) (draft_of e.now))) }
-    ensures symbols { OnOk result (names_of tables.new.symbols.names
-        ≡ firsts (names_of tables.old.symbols.names) (symbols_in (draft_of e.now))) }
-    ensures listed { OnOk result (AreListed tables.old → AreListed tables.new) }
+    ensures { OnOk result (NamesDraft (names_of own.now) (draft_of e.now) tables.old tables.new) }
 {
     let Draft::Call(_, operator, operands) = e else {
         unreachable!();
@@ -169,11 +150,7 @@ pub fn name_each(
     es: &[Draft<'_>],
     tables: &mut Tables,
 ) -> Result<(), Mem>
-    ensures globals { OnOk result (names_of tables.new.globals.names
-        ≡ firsts (names_of tables.old.globals.names) (globals_in_each (names_of own.now) (drafts_of es.now))) }
-    ensures symbols { OnOk result (names_of tables.new.symbols.names
-        ≡ firsts (names_of tables.old.symbols.names) (symbols_in_each (drafts_of es.now))) }
-    ensures listed { OnOk result (AreListed tables.old → AreListed tables.new) }
+    ensures { OnOk result (NamesEach (names_of own.now) (drafts_of es.now) tables.old tables.new) }
 {
     for e in es {
         name_draft(alloc, own, e, tables)?;

@@ -1,16 +1,15 @@
 -- A body, and its tree with what is live after each call.
-use Rattle.std.proofs.Common.{◌≡◌, ℕ, Bool, true, List, refl, ap, sym, ◌∙◌, subst}
+use Rattle.std.proofs.Common.{◌≡◌, true, refl, ap, sym, ◌∙◌, subst}
 use Rattle.std.specs.FinSet as set
 use Rattle.sch_sets.specs.Members.{NumberSet}
 use Rattle.sch_control.specs.declared.body.Body.{Body}
 use Rattle.sch_control.specs.declared.tree.Exp.{Exp, Do, Bind', Seq', If', Fix', Call, TailCall, Return', End', Save'}
-use Rattle.sch_control.specs.Tree.{Expression, Code}
-use Rattle.sch_control.specs.View.{expression, code}
+use Rattle.sch_control.specs.Tree.{Expression}
+use Rattle.sch_control.specs.View.{expression}
 use Rattle.sch_control.specs.Meaning.{plain, do_body}
 use Rattle.sch_control.specs.flow.Bare.{unlisted}
 use Rattle.sch_control.specs.flow.Live.{nothing_later}
 use Rattle.sch_control.specs.flow.LiveSets.{HasLiveSets}
-use Rattle.sch_control.specs.flow.Middle.{code_with}
 use Rattle.sch_paths.specs.PlainlySame.{PlainlySame}
 use Rattle.sch_paths.proofs.runs.SameWithoutMarks.{plainly_unlisted}
 use Rattle.sch_live.specs.BackwardSets.{later_of, ListsAllLive}
@@ -44,15 +43,11 @@ module _ (b : Body) (e0 e1 r : Expression) (s : NumberSet) (blank : e0 ≡ expre
       subst HasLiveSets (sym made)
       (reached_sets e1 true (Unit {0}) (λ h. tt, λ w. refl) nothing_later (lists_same e1 (later_of s s) nothing_later (none_later s none) lists))
 
+  pub bare : ∥ unlisted r ≡ expression b.exp ∥₁
+  bare = ∣ same ∣₁
+
   pub truncated : ∥ HasLiveSets r ∥₁
   truncated = ∣ sets ∣₁
-
-  -- what is true of the body's tree is true of this one without its lists
-  pub kept : (name : List ℕ) → name ≡ b.name → (test : Code → Bool) → test (code b.name b.entry b.variables b.exp) ≡ true
-      → test (code_with name b.entry b.variables (unlisted r)) ≡ true
-  kept name is test h =
-      subst (λ z. test (code_with z b.entry b.variables (unlisted r)) ≡ true) (sym is)
-      (subst (λ z. test (code_with b.name b.entry b.variables z) ≡ true) (sym same) h)
 
   pub runs : PlainlySame (expression b.exp) r
   runs callee depth environment w =

@@ -13,30 +13,25 @@ use crate::blank::with_no_sets;
 use crate::reached::keep_reached;
 use sch_control::{Body, LiveBody};
 use sch_sets::Set;
-use sch_word::{List, Mem};
+use sch_word::Mem;
 use std::alloc::Global;
 
 /// The body with a set at each call: at one that some path through the body reaches, exactly the variables that are live
 /// after it, and at any other none. That fixes the sets, and all else is the body's.
-pub fn live<const N: usize>(alloc: Global, b: &Body) -> Result<LiveBody<N>, Mem>
+pub fn live<const N: usize>(alloc: Global, b: &Body) -> Result<LiveBody<'_, N>, Mem>
     requires fits { b.now.variables ≤ 64 * N }
-    ensures name { IfOk result (λ r. r.name ≡ b.now.name) }
-    ensures entry { IfOk result (λ r. r.entry ≡ b.now.entry) }
-    ensures variables { IfOk result (λ r. r.variables ≡ b.now.variables) }
+    ensures body { IfOk result (λ r. r.body.now ≡ b.now) }
     ensures same { IfOk result (λ r. unlisted (listed r.exp) ≡ expression b.now.exp) }
     ensures made { IfOk result (λ r. lists_in_order b.now.variables (listed r.exp) ≡ live_listed b.now.variables (expression b.now.exp)) }
     ensures live { IfOk result (λ r. HasLiveSets (listed r.exp)) }
     ensures meaning { IfOk result (λ r. PlainlySame (expression b.now.exp) (listed r.exp)) }
 {
-    let name = List::from_slice(alloc, b.name.as_slice())?;
     let mut exp = with_no_sets(alloc, &b.exp)?;
     let nothing = Set::new();
     list_live(&mut exp, &nothing, &nothing, &mut Set::new());
     keep_reached(&mut exp, true);
     Ok(LiveBody {
-        name,
-        entry: b.entry,
-        variables: b.variables,
+        body: b,
         exp: Box::into_inner(exp),
     })
 }

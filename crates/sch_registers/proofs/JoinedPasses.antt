@@ -43,10 +43,8 @@ use Rattle.sch_registers.proofs.MadeOne.{IsExact}
 
 -- what the passes say of what they made, from what is live after the calls on
 pub record IsJoined {N : ℕ} (b : Body) (live : Expression) (s : SavedBody N) (r : RestoredBody N) (ps : List Place) : Type 0 where
-  pub name : r.name ≡ b.name
-  pub entry : r.entry ≡ b.entry
-  pub variables : r.variables ≡ b.variables
-  pub saved_variables : s.variables ≡ b.variables
+  pub body : r.body.now ≡ b
+  pub saved_body : s.body.now ≡ b
   pub bare : unlisted live ≡ expression b.exp
   pub made_live : lists_in_order b.variables live ≡ live_listed b.variables (expression b.exp)
   pub without_regions : unsaved (listed s.exp) ≡ live
@@ -70,12 +68,12 @@ tree_kept n live saved tree e bare without made =
 pub labels_kept : (n : ℕ) (live saved tree e : Expression) → unlisted live ≡ e → unsaved saved ≡ live → tree ≡ eagerly_restored n saved → labels tree ≡ 2 * tests_in e
 labels_kept n live saved tree e bare without made = labels_counted tree ∙ ap (λ e. 2 * tests_in e) (tree_kept n live saved tree e bare without made)
 
-module _ {N : ℕ} (b : Body) (live : Expression) (s : SavedBody N) (p : PlacedBody N) (j : IsJoined b live s p.body.now p.places) where
+module _ {N : ℕ} (b : Body) (live : Expression) (s : SavedBody N) (p : PlacedBody N) (j : IsJoined b live s p.restored.now p.places) where
   abbrev c : Code
   c = code_of b
 
   abbrev r : RestoredBody N
-  r = p.body.now
+  r = p.restored.now
 
   abbrev saved : Expression
   saved = listed s.exp
@@ -90,15 +88,13 @@ module _ {N : ℕ} (b : Body) (live : Expression) (s : SavedBody N) (p : PlacedB
   well = record {
     valid = record { body = body; scopes = b.scoped; numbers = b.numbered; ending = b.ended; stand = j.stand; sets = exact saved s.live; saves = j.lazy };
     followed = j.followed;
-    apart = ap (λ n. regions_apart n saved no_region) (sym j.saved_variables) ∙ s.apart;
+    apart = ap (λ (b : Body). regions_apart b.variables saved no_region) (sym j.saved_body) ∙ s.apart;
   }
 
   bare_is : bare_code p ≡ c
   bare_is =
-      ap (λ name. code_with name r.entry r.variables (erased (restored r.exp))) j.name
-      ∙ (ap (λ entry. code_with b.name entry r.variables (erased (restored r.exp))) j.entry
-      ∙ (ap (λ n. code_with b.name b.entry n (erased (restored r.exp))) j.variables
-      ∙ ap (code_with b.name b.entry b.variables) (tree_kept b.variables live saved (restored r.exp) (expression b.exp) j.bare j.without_regions j.made_restored)))
+      ap (λ (b : Body). code_with b.name b.entry b.variables (erased (restored r.exp))) j.body
+      ∙ ap (code_with b.name b.entry b.variables) (tree_kept b.variables live saved (restored r.exp) (expression b.exp) j.bare j.without_regions j.made_restored)
 
   placed : IsPlaced c tree (places b.entry b.variables tree)
   placed =
@@ -122,12 +118,12 @@ module _ {N : ℕ} (b : Body) (live : Expression) (s : SavedBody N) (p : PlacedB
   unfolding registers_code
   code_is = ap (λ z. homes_code b.entry z (places b.entry b.variables z)) tree_is
 
-  frame_is : homes_code r.entry (restored r.exp) p.places ≡ homes_code b.entry tree (places b.entry b.variables tree)
+  frame_is : homes_code r.body.now.entry (restored r.exp) p.places ≡ homes_code b.entry tree (places b.entry b.variables tree)
   frame_is =
-      ap (λ entry. homes_code entry (restored r.exp) p.places) j.entry
+      ap (λ (b : Body). homes_code b.entry (restored r.exp) p.places) j.body
       ∙ (ap (homes_code b.entry (restored r.exp)) j.made_places ∙ ap (λ z. homes_code b.entry z (places b.entry b.variables z)) j.made_restored)
 
-  pub joined_body : (f : frames.Code) → f ≡ homes_code r.entry (restored r.exp) p.places → IsFramedBody c f
+  pub joined_body : (f : frames.Code) → f ≡ homes_code r.body.now.entry (restored r.exp) p.places → IsFramedBody c f
   joined_body f is =
       subst (IsFramedBody c) (sym (is ∙ frame_is)) (framed_body c saved well placed (subst EachSoonRestored j.made_restored j.soon) exactly code_is)
 
@@ -135,8 +131,8 @@ module _ {N : ℕ} (b : Body) (live : Expression) (s : SavedBody N) (p : PlacedB
   unfolding registers_calls
   calls_are = ap (λ z. homes_calls b.entry z (places b.entry b.variables z)) tree_is
 
-  pub joined_calls : homes_calls r.entry (restored r.exp) p.places ≡ registers_calls c
+  pub joined_calls : homes_calls r.body.now.entry (restored r.exp) p.places ≡ registers_calls c
   joined_calls =
-      ap (λ entry. homes_calls entry (restored r.exp) p.places) j.entry
+      ap (λ (b : Body). homes_calls b.entry (restored r.exp) p.places) j.body
       ∙ (ap (homes_calls b.entry (restored r.exp)) j.made_places
       ∙ (ap (λ z. homes_calls b.entry z (places b.entry b.variables z)) j.made_restored ∙ sym calls_are))

@@ -3,11 +3,11 @@
 ghost use Rattle.std.specs.Prelude.{◌≡◌, ◌≤◌, ◌<◌, ◌*◌, ◌^◌, ◌++◌, IfOk, OnOk};
 ghost use Rattle.sch_control.specs.Sizes.{tests_in};
 ghost use Rattle.sch_control.specs.SourceView as control;
-ghost use Rattle.sch_control.specs.flow.RestoredView.{restored};
 ghost use Rattle.sch_frames.specs.SourceView.{code_of};
 ghost use Rattle.sch_layout.specs.BodyLayout.{labels};
 ghost use Rattle.sch_homes.specs.Homes.{homes_code};
 ghost use Rattle.sch_homes.specs.ListedMoves.{homes_calls};
+ghost use Rattle.sch_homes.specs.View.{entry_of, tree_of};
 ghost use Rattle.sch_paths.specs.EachSoonRestored.{EachSoonRestored};
 ghost use Rattle.sch_registers.specs.FramedBodies.{IsFramedBody};
 ghost use Rattle.sch_registers.specs.Registers.{registers_calls};
@@ -29,10 +29,10 @@ fn frame_listed<const N: usize>(
     b: &PlacedBody<'_, N>,
     calls: &mut List<ListedCall>,
 ) -> Result<FrameBody, Mem>
-    requires soon { EachSoonRestored (restored b.now.body.now.exp) }
-    requires labels { labels (restored b.now.body.now.exp) < 2 ^ 32 }
-    ensures made { IfOk result (λ f. code_of f ≡ homes_code b.now.body.now.entry (restored b.now.body.now.exp) b.now.places) }
-    ensures calls { OnOk result (calls.new ≡ calls.old ++ homes_calls b.now.body.now.entry (restored b.now.body.now.exp) b.now.places) }
+    requires soon { EachSoonRestored (tree_of b.now) }
+    requires labels { labels (tree_of b.now) < 2 ^ 32 }
+    ensures made { IfOk result (λ f. code_of f ≡ homes_code (entry_of b.now) (tree_of b.now) b.now.places) }
+    ensures calls { OnOk result (calls.new ≡ calls.old ++ homes_calls (entry_of b.now) (tree_of b.now) b.now.places) }
 {
     let f = frame(alloc, b)?;
     list_moves(alloc, b, calls)?;

@@ -18,7 +18,7 @@ use Rattle.sch_paths.proofs.runs.SameWithoutMarks.{silently}
 use Rattle.sch_paths.specs.EachSoonRestored.{EachSoonRestored}
 use Rattle.sch_paths.proofs.saves.SavedAndRestored.{restored_kept}
 use Rattle.sch_regs.specs.Promises.{KeepsRuns}
-use Rattle.sch_regs.proofs.PlacedBodies.{code_of}
+use Rattle.sch_regs.proofs.PlacedBodies.{code_of, numbering, scope}
 use Rattle.sch_regs.proofs.SavedWhereRestored.{saved}
 
 module _ (c : Code) (e : Expression) (is : erased e ≡ c.expression) (i : in_scope_whole c ≡ true) (n : numbered c ≡ true) (v : restores_saved e no_region ≡ true) (r : EachSoonRestored e) where
@@ -32,4 +32,4 @@ module _ (c : Code) (e : Expression) (is : erased e ≡ c.expression) (i : in_sc
       ∙ silently keeps callee depth no_region e (whatever keeps) (restored_kept keeps e (Unit {0}) nothing_later nothing_later r) (valid_fresh c e is i n) environment w
 
 pub keeps_runs : {N : ℕ} (b : RestoredBody N) → EachSoonRestored (restored b.exp) → (places : List Place) → KeepsRuns (restored b.exp) (restored b.exp) places
-keeps_runs b r places = same_runs (code_of b) (restored b.exp) refl b.scoped b.numbered b.saved r (λ x. is_slot (place_of places x))
+keeps_runs b r places = same_runs (code_of b) (restored b.exp) refl (scope b) (numbering b) b.saved r (λ x. is_slot (place_of places x))

@@ -18,14 +18,14 @@ use sch_word::{List, Mem, Place};
 use std::alloc::Global;
 
 // The places of a body's variables, in the order of their numbers.
-fn places_of<const N: usize>(alloc: Global, b: &RestoredBody<N>) -> Result<List<Place>, Mem>
-    ensures { IfOk result (λ ps. ps ≡ places b.now.entry b.now.variables (restored b.now.exp)) }
+fn places_of<const N: usize>(alloc: Global, b: &RestoredBody<'_, N>) -> Result<List<Place>, Mem>
+    ensures { IfOk result (λ ps. ps ≡ places b.now.body.now.entry b.now.body.now.variables (restored b.now.exp)) }
 {
-    let mut noted = empty_sets(alloc, b.variables)?;
+    let mut noted = empty_sets(alloc, b.body.variables)?;
     let none = Set::new();
     let mut before = Set::new();
     note(&b.exp, &none, &none, &mut before, &mut noted);
-    let mut placing = all_arrived(alloc, b.variables, formals(b.entry))?;
+    let mut placing = all_arrived(alloc, b.body.variables, formals(b.body.entry))?;
     assign(&mut placing, noted.as_slice(), &b.exp);
     let Placing { places, .. } = placing;
     Ok(List::from_vec(places))
@@ -35,17 +35,20 @@ fn places_of<const N: usize>(alloc: Global, b: &RestoredBody<N>) -> Result<List<
 /// formals. Any other variable that is bound has the first of six registers that holds nothing that is live directly after it
 /// is bound, and where each of them holds something live, the next slot; of a group those come first that are live. Each call
 /// has to restore what is live after it and wanted before the next one.
-pub fn assign_places<const N: usize>(
+pub fn assign_places<'a, const N: usize>(
     alloc: Global,
-    b: &RestoredBody<N>,
-) -> Result<PlacedBody<'_, N>, Mem>
+    b: &'a RestoredBody<'a, N>,
+) -> Result<PlacedBody<'a, N>, Mem>
     requires enough { EachSoonRestored (restored b.now.exp) }
-    ensures body { IfOk result (λ r. r.body.now ≡ b.now) }
-    ensures made { IfOk result (λ r. r.places ≡ places b.now.entry b.now.variables (restored b.now.exp)) }
-    ensures slots { IfOk result (λ r. SlotsWhenFull (place_of r.places) (restored r.body.now.exp)) }
-    ensures formals { IfOk result (λ r. (k : ℕ) → k < formals_of r.body.now.entry → place_of r.places (2 + k) ≡ arrival k) }
-    ensures meaning { IfOk result (λ r. KeepsRuns (restored b.now.exp) (restored r.body.now.exp) r.places) }
+    ensures restored { IfOk result (λ r. r.restored.now ≡ b.now) }
+    ensures made { IfOk result (λ r. r.places ≡ places b.now.body.now.entry b.now.body.now.variables (restored b.now.exp)) }
+    ensures slots { IfOk result (λ r. SlotsWhenFull (place_of r.places) (restored r.restored.now.exp)) }
+    ensures formals { IfOk result (λ r. (k : ℕ) → k < formals_of r.restored.now.body.now.entry → place_of r.places (2 + k) ≡ arrival k) }
+    ensures meaning { IfOk result (λ r. KeepsRuns (restored b.now.exp) (restored r.restored.now.exp) r.places) }
 {
     let places = places_of(alloc, b)?;
-    Ok(PlacedBody { body: b, places })
+    Ok(PlacedBody {
+        restored: b,
+        places,
+    })
 }

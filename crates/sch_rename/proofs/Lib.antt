@@ -1,4 +1,5 @@
 pub mod AssignedKept
+pub mod BindingNodes
 pub mod BodiesKept
 pub mod BoundVariables
 pub mod FreeKept

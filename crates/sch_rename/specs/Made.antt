@@ -90,30 +90,30 @@ renamed_source p = record {
 }
 
 -- What a walk has made, and how the scope and the next number stand before and after it.
-abbrev pub Renames : Expression → (scope scope' : List ℕ) → (x x' : ℕ) → to.Tree → Type 0
-Renames e scope scope' x x' q = record {
-  made : q ≡ renamed e (reverse scope) x;
-  next : x' ≡ x + binds e;
-  scope : scope' ≡ scope;
+abbrev pub Renames : Expression → (scope_before scope_after : List ℕ) → (next_before next_after : ℕ) → to.Tree → Type 0
+Renames e scope_before scope_after next_before next_after q = record {
+  made : q ≡ renamed e (reverse scope_before) next_before;
+  next : next_after ≡ next_before + binds e;
+  scope : scope_after ≡ scope_before;
 }
 
-abbrev pub RenamesEach : Expressions → (scope scope' : List ℕ) → (x x' : ℕ) → to.Trees → Type 0
-RenamesEach es scope scope' x x' qs = record {
-  made : qs ≡ renamed_each es (reverse scope) x;
-  next : x' ≡ x + binds_each es;
-  scope : scope' ≡ scope;
+abbrev pub RenamesEach : Expressions → (scope_before scope_after : List ℕ) → (next_before next_after : ℕ) → to.Trees → Type 0
+RenamesEach es scope_before scope_after next_before next_after qs = record {
+  made : qs ≡ renamed_each es (reverse scope_before) next_before;
+  next : next_after ≡ next_before + binds_each es;
+  scope : scope_after ≡ scope_before;
 }
 
-abbrev pub RenamesLambda : Function → (scope scope' : List ℕ) → (x x' : ℕ) → to.Function → Type 0
-RenamesLambda f scope scope' x x' q = record {
-  made : q ≡ renamed_function f (reverse scope) x;
-  next : x' ≡ x + (f.formals + binds f.body);
-  scope : scope' ≡ scope;
+abbrev pub RenamesLambda : Function → (scope_before scope_after : List ℕ) → (next_before next_after : ℕ) → to.Function → Type 0
+RenamesLambda f scope_before scope_after next_before next_after q = record {
+  made : q ≡ renamed_function f (reverse scope_before) next_before;
+  next : next_after ≡ next_before + (f.formals + binds f.body);
+  scope : scope_after ≡ scope_before;
 }
 
-abbrev pub RenamesLambdas : Lambdas → (scope scope' : List ℕ) → (x x' : ℕ) → to.Lambdas → Type 0
-RenamesLambdas ls scope scope' x x' qs = record {
-  made : qs ≡ renamed_lambdas ls (reverse scope) x;
-  next : x' ≡ x + binds_lambdas ls;
-  scope : scope' ≡ scope;
+abbrev pub RenamesLambdas : Lambdas → (scope_before scope_after : List ℕ) → (next_before next_after : ℕ) → to.Lambdas → Type 0
+RenamesLambdas ls scope_before scope_after next_before next_after qs = record {
+  made : qs ≡ renamed_lambdas ls (reverse scope_before) next_before;
+  next : next_after ≡ next_before + binds_lambdas ls;
+  scope : scope_after ≡ scope_before;
 }

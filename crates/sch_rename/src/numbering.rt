@@ -280,7 +280,8 @@ pub(crate) fn rename_each(
 ) -> Result<List<cells::Exp>, Mem>
     requires inside { EachInScope (expressions_of es.now) (length scope.old.items) }
     requires few { next.old + binds_each (expressions_of es.now) < 2 ^ 32 }
-    ensures { IfOk result (λ qs. RenamesEach (expressions_of es.now) scope.old.items scope.new.items next.old next.new (view.trees_of qs)) }
+    ensures { IfOk result (λ qs. RenamesEach (expressions_of es.now)
+        scope.old.items scope.new.items next.old next.new (view.trees_of qs)) }
 {
     let mut all = List::from_vec(Vec::with_capacity(alloc, es.len())?);
     for e in es.as_slice() {
@@ -329,7 +330,8 @@ pub(crate) fn rename_lambdas(
 ) -> Result<List<cells::Lambda>, Mem>
     requires inside { LambdasInScope (lambdas_of ls.now) (length scope.old.items) }
     requires few { next.old + binds_lambdas (lambdas_of ls.now) < 2 ^ 32 }
-    ensures { IfOk result (λ qs. RenamesLambdas (lambdas_of ls.now) scope.old.items scope.new.items next.old next.new (view.lambdas_of qs)) }
+    ensures { IfOk result (λ qs. RenamesLambdas (lambdas_of ls.now)
+        scope.old.items scope.new.items next.old next.new (view.lambdas_of qs)) }
 {
     let mut all = List::from_vec(Vec::with_capacity(alloc, ls.len())?);
     for l in ls.as_slice() {

@@ -1,19 +1,23 @@
 -- A body with regions, and its tree with what each call restores.
-use Rattle.std.proofs.Common.{◌≡◌, ℕ, ◌<◌, ◌*◌, List, Bool, true, ap, sym, ◌∙◌, refl, subst}
+use Rattle.std.proofs.Common.{◌≡◌, ℕ, ◌<◌, ◌*◌, true, ap, sym, ◌∙◌, refl, subst}
 use Rattle.std.specs.FinSet as set
+use Rattle.std.proofs.Math.Logic.{∥∥₁_map}
 use Rattle.std.proofs.Math.Path.{fun_ext}
 use Rattle.sch_sets.specs.Members.{NumberSet}
 use Rattle.sch_sets.proofs.Membership.{contains-empty}
 use Rattle.sch_control.specs.declared.saved_body.SavedBody.{SavedBody}
 use Rattle.sch_control.specs.Meaning.{no_region}
 use Rattle.sch_control.specs.Tree.{Expression, Code}
+use Rattle.sch_control.specs.Valid.{in_scope_whole, numbered}
+use Rattle.sch_control.specs.View.{expression}
 use Rattle.sch_control.specs.flow.Bare.{erased}
 use Rattle.sch_control.specs.flow.LiveSets.{HasLiveSets}
 use Rattle.sch_control.specs.flow.LiveTests.{behind}
-use Rattle.sch_control.specs.flow.Middle.{code_with, listed}
+use Rattle.sch_control.specs.flow.Middle.{listed}
 use Rattle.sch_control.specs.flow.Reads.{VariablesBelow}
 use Rattle.sch_control.specs.flow.Regions.{regions_apart, restores_saved, SavesBelow}
 use Rattle.sch_control.proofs.ExactSets.{exact}
+use Rattle.sch_control.proofs.SameBodies.{numbers, scoped, with_tree}
 use Rattle.sch_control.proofs.SetTests.{one_set}
 use Rattle.sch_paths.specs.EachLiveSaved.{EachLiveSaved}
 use Rattle.sch_paths.specs.EachSoonRestored.{EachSoonRestored}
@@ -37,39 +41,38 @@ of_none n e r s t none none' made =
 
 module _ {N : ℕ} (b : SavedBody N) where
   abbrev code_of : Code
-  code_of = code_with b.name b.entry b.variables (erased (listed b.exp))
+  code_of = with_tree b.body.now (erased (listed b.exp)) b.bare
+
+  scope : in_scope_whole code_of ≡ true
+  scope = scoped b.body.now (erased (listed b.exp)) b.bare
+
+  numbering : numbered code_of ≡ true
+  numbering = numbers b.body.now (erased (listed b.exp)) b.bare
 
   pub some_words : 0 < 64 * N
-  some_words = some_below code_of b.numbered (64 * N) b.fits
+  some_words = some_below code_of numbering (64 * N) b.fits
 
   pub variables_within : VariablesBelow (64 * N) (listed b.exp)
-  variables_within = listed_below code_of b.numbered (64 * N) b.fits (listed b.exp) refl b.scoped
+  variables_within = listed_below code_of numbering (64 * N) b.fits (listed b.exp) refl scope
 
   pub saves_within : SavesBelow (64 * N) (listed b.exp)
-  saves_within = apart_below b.variables (64 * N) b.fits (listed b.exp) no_region b.apart
+  saves_within = apart_below b.body.now.variables (64 * N) b.fits (listed b.exp) no_region b.apart
 
-module _ {N : ℕ} (b : SavedBody N) (r : Expression) (made : r ≡ eagerly_restored b.variables (listed b.exp)) where
-  same_erased : erased r ≡ erased (listed b.exp)
-  same_erased = ap erased made ∙ erased_eager b.variables no_region (listed b.exp) _
+module _ {N : ℕ} (b : SavedBody N) (r : Expression) (made : r ≡ eagerly_restored b.body.now.variables (listed b.exp)) where
+  pub bare : ∥ erased r ≡ expression b.body.now.exp ∥₁
+  bare = ∥∥₁_map b.bare (λ is. ap erased made ∙ (erased_eager b.body.now.variables no_region (listed b.exp) _ ∙ is))
 
-  -- what is true of the body's tree without its regions is true of this one
-  pub kept : (name : List ℕ) → name ≡ b.name → (test : Code → Bool)
-      → test (code_with b.name b.entry b.variables (erased (listed b.exp))) ≡ true → test (code_with name b.entry b.variables (erased r)) ≡ true
-  kept name is test h =
-      subst (λ z. test (code_with z b.entry b.variables (erased r)) ≡ true) (sym is)
-      (subst (λ z. test (code_with b.name b.entry b.variables z) ≡ true) (sym same_erased) h)
-
-  pub apart : regions_apart b.variables r no_region ≡ true
-  apart = ap (λ z. regions_apart b.variables z no_region) made ∙ (apart_eager b.variables (listed b.exp) no_region no_region _ ∙ b.apart)
+  pub apart : regions_apart b.body.now.variables r no_region ≡ true
+  apart = ap (λ z. regions_apart b.body.now.variables z no_region) made ∙ (apart_eager b.body.now.variables (listed b.exp) no_region no_region _ ∙ b.apart)
 
   pub saved : restores_saved r no_region ≡ true
-  saved = ap (λ z. restores_saved z no_region) made ∙ saved_eager b.variables (listed b.exp) no_region _
+  saved = ap (λ z. restores_saved z no_region) made ∙ saved_eager b.body.now.variables (listed b.exp) no_region _
 
   pub eagerly : EagerRestores r
-  eagerly = all_eager (code_of b) (listed b.exp) r refl b.scoped b.numbered (exact (listed b.exp) b.live) made
+  eagerly = all_eager (code_of b) (listed b.exp) r refl (scope b) (numbering b) (exact (listed b.exp) b.live) made
 
   pub enough : EachLiveSaved (listed b.exp) → EachSoonRestored r
-  enough saves = soon_restored (code_of b) (listed b.exp) r refl b.scoped b.numbered (exact (listed b.exp) b.live) made saves
+  enough saves = soon_restored (code_of b) (listed b.exp) r refl (scope b) (numbering b) (exact (listed b.exp) b.live) made saves
 
   pub runs : EachLiveSaved (listed b.exp) → RestoresSuffice (listed b.exp) r
-  runs saves = suffices (code_of b) (listed b.exp) r refl b.scoped b.numbered (exact (listed b.exp) b.live) made saves
+  runs saves = suffices (code_of b) (listed b.exp) r refl (scope b) (numbering b) (exact (listed b.exp) b.live) made saves

@@ -15,7 +15,7 @@ use crate::outermost::keep_outermost;
 use crate::variables::{Variables, first_variables};
 use sch_control::{Exp, LiveBody, SavedBody};
 use sch_sets::Set;
-use sch_word::{List, Mem};
+use sch_word::Mem;
 use std::alloc::Global;
 
 fn lazily_saved<const N: usize>(
@@ -38,24 +38,22 @@ fn lazily_saved<const N: usize>(
 
 /// The body with regions that save, each round the body or an arm of a test: of what each path through it has a call
 /// after which it is live, without what a region round it saves. The live sets stay.
-pub fn place_saves<const N: usize>(alloc: Global, b: &LiveBody<N>) -> Result<SavedBody<N>, Mem>
-    ensures name { IfOk result (λ r. r.name ≡ b.now.name) }
-    ensures entry { IfOk result (λ r. r.entry ≡ b.now.entry) }
-    ensures variables { IfOk result (λ r. r.variables ≡ b.now.variables) }
+pub fn place_saves<'a, const N: usize>(
+    alloc: Global,
+    b: &LiveBody<'a, N>,
+) -> Result<SavedBody<'a, N>, Mem>
+    ensures body { IfOk result (λ r. r.body.now ≡ b.now.body.now) }
     ensures same { IfOk result (λ r. unsaved (listed r.exp) ≡ listed b.now.exp) }
-    ensures made { IfOk result (λ r. listed r.exp ≡ lazily.lazily_saved b.now.variables (listed b.now.exp)) }
+    ensures made { IfOk result (λ r. listed r.exp ≡ lazily.lazily_saved b.now.body.now.variables (listed b.now.exp)) }
     ensures lazy { IfOk result (λ r. LazySaves (listed r.exp)) }
     ensures stand { IfOk result (λ r. IsTrue (regions_stand true (listed r.exp))) }
     ensures saved { IfOk result (λ r. EachLiveSaved (listed r.exp)) }
     ensures followed { IfOk result (λ r. EachSaveFollowed (listed r.exp)) }
     ensures meaning { IfOk result (λ r. PlainlySame (listed b.now.exp) (listed r.exp)) }
 {
-    let name = List::from_slice(alloc, b.name.as_slice())?;
-    let exp = lazily_saved(alloc, b.variables, &b.exp)?;
+    let exp = lazily_saved(alloc, b.body.variables, &b.exp)?;
     Ok(SavedBody {
-        name,
-        entry: b.entry,
-        variables: b.variables,
+        body: b.body,
         exp: Box::into_inner(exp),
     })
 }

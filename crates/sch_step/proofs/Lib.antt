@@ -1,10 +1,11 @@
-pub mod Memory
+mod Memory
 pub mod Outlets
-pub mod KernelRows
-pub mod ProcessorSteps
+mod KernelRows
+mod ProcessorSteps
 pub mod MachineRuns
-pub mod ImageMemory
-pub mod EndedMachines
-pub mod FetchedStays
-pub mod FetchedExamples
-pub mod Words
+mod ImageMemory
+mod EndedMachines
+mod FetchedStays
+mod FetchedExamples
+mod RowsOfWords
+mod StuckRows

@@ -1,23 +1,7 @@
 -- The kinds of instructions whose rows are functions of their own.
 use Rattle.sch_insn.specs.declared.insn.Insn.{Insn}
 use Rattle.sch_insn.specs.declared.insn.Insn.TheVariants.{AddTo, OrTo, AndTo, SubTo, XorTo, CmpTo, TestTo, AddFrom, OrFrom, AndFrom, SubFrom, XorFrom, CmpFrom}
-use Rattle.sch_insn.specs.declared.insn.Insn.TheVariants.{AddNumber, OrNumber, AndNumber, SubNumber, XorNumber, CmpNumber, AddNumber8, OrNumber8, AndNumber8, SubNumber8, XorNumber8, CmpNumber8}
-
--- The second word is a number.
-abbrev pub IsWithNumber : Insn → Type 0
-IsWithNumber (AddNumber m n) = Unit {0}
-IsWithNumber (OrNumber m n) = Unit {0}
-IsWithNumber (AndNumber m n) = Unit {0}
-IsWithNumber (SubNumber m n) = Unit {0}
-IsWithNumber (XorNumber m n) = Unit {0}
-IsWithNumber (CmpNumber m n) = Unit {0}
-IsWithNumber (AddNumber8 m n) = Unit {0}
-IsWithNumber (OrNumber8 m n) = Unit {0}
-IsWithNumber (AndNumber8 m n) = Unit {0}
-IsWithNumber (SubNumber8 m n) = Unit {0}
-IsWithNumber (XorNumber8 m n) = Unit {0}
-IsWithNumber (CmpNumber8 m n) = Unit {0}
-IsWithNumber _ = ⊥
+use Rattle.sch_insn.specs.Kinds.{EndsInNumber}
 
 -- An add, a subtraction or a comparison, or one that goes bit by bit, of two words.
 abbrev pub IsOnTwo : Insn → Type 0
@@ -34,4 +18,4 @@ IsOnTwo (AndFrom r m) = Unit {0}
 IsOnTwo (SubFrom r m) = Unit {0}
 IsOnTwo (XorFrom r m) = Unit {0}
 IsOnTwo (CmpFrom r m) = Unit {0}
-IsOnTwo i = IsWithNumber i
+IsOnTwo i = EndsInNumber i

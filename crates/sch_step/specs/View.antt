@@ -1,5 +1,5 @@
 -- A processor of the program as a core of the definitions.
-use Rattle.std.specs.Prelude.{ℕ, Result, Ok, Err}
+use Rattle.std.specs.Prelude.{◌≡◌, ℕ, Result, Ok, Err, OnErr}
 use Rattle.sch_insn.specs.declared.state.Flags.{Flags}
 use Rattle.sch_insn.specs.declared.state.StuckCause.{StuckCause}
 use Rattle.sch_insn.specs.declared.insn.Insn.{Insn}
@@ -27,6 +27,12 @@ core_of m = record { registers = registers_of m.regs; flags = flags_of m.flags; 
 abbrev pub gone_on : Result ℕ StuckCause → Core → Result Core StuckCause
 gone_on (Ok place) c = Ok (with_place place c)
 gone_on (Err cause) c = Err cause
+
+-- A row was done, where the next instruction has this address: what comes of the core is this, and where the row is
+-- stuck the core is as it was.
+pub record Goes (result : Result ℕ StuckCause) (next : ℕ) (before after : Core) (does : Core → Result Core StuckCause) : Type 0 where
+  pub value : gone_on result after ≡ does (with_place next before)
+  pub same : OnErr result (after ≡ before)
 
 -- The core after a change that was made, or why it was not.
 abbrev pub changed : Result Unit StuckCause → Core → Result Core StuckCause

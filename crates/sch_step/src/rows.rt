@@ -1,12 +1,13 @@
 //! What each instruction does, a row for each form.
 
-ghost use Rattle.std.specs.Prelude.{◌≡◌, ◌+◌, ◌*◌, ◌/◌, ◌%◌, ◌<◌, ◌≤◌, ◌^◌, ◌∷◌, [], OnErr, Ok, bit_and, bit_or, bit_xor};
+ghost use Rattle.std.specs.Prelude.{◌≡◌, ◌+◌, ◌*◌, ◌/◌, ◌%◌, ◌<◌, ◌≤◌, ◌^◌, ◌∷◌, [], Ok, bit_and, bit_or, bit_xor};
 ghost use Rattle.sch_word.specs.values.Options.{when_ok};
 ghost use Rattle.sch_insn.specs.Spelling.{IsArg, IsValid};
-ghost use Rattle.sch_insn.specs.Machine.{with_register, with_flags, with_place, byte_at, write_bytes, address_of, load as load_of, store as store_of};
+ghost use Rattle.sch_insn.specs.Machine.{with_register, with_flags, byte_at, write_bytes, address_of, load as load_of, store as store_of};
 ghost use Rattle.sch_insn.specs.Machine.{sum_of, difference_of, bits_of, product_of, shifted, shift_right_signed as shift_right_signed_of};
 ghost use Rattle.sch_insn.specs.Machine.{word as word_of_number, condition as condition_of};
-ghost use Rattle.sch_step.specs.Kinds.{IsOnTwo, IsWithNumber};
+ghost use Rattle.sch_insn.specs.Kinds.{EndsInNumber};
+ghost use Rattle.sch_step.specs.Kinds.{IsOnTwo};
 ghost use Rattle.sch_insn.specs.Step.{change, gather, compare, divide, sign_word, jump_if};
 
 use crate::division::divided;
@@ -30,14 +31,13 @@ macro_rules! rows {
 }
 
 impl Processor {
-    ghost use Rattle.sch_step.specs.View.{core_of, gone_on, flags_of, act as act_of};
+    ghost use Rattle.sch_step.specs.View.{core_of, flags_of, act as act_of, Goes};
 
     /// What an instruction does, and the place where it goes on, where the next instruction has the
     /// address `next`. A call of the kernel is not done here.
     pub(crate) fn act(&mut self, insn: &Insn, next: u64) -> Result<u64, StuckCause>
         requires valid { IsValid insn.now }
-        ensures value { gone_on result (core_of self.new) ≡ act_of insn.now (with_place next (core_of self.old)) }
-        ensures same { OnErr result (core_of self.new ≡ core_of self.old) }
+        ensures { Goes result next (core_of self.old) (core_of self.new) (act_of insn.now) }
     {
         rows! { insn, self, next; {
             Insn::MovTo(m, r) => mov_to(m, self.reg(*r));
@@ -71,8 +71,7 @@ impl Processor {
     fn act_on_two(&mut self, insn: &Insn, next: u64) -> Result<u64, StuckCause>
         requires kind { IsOnTwo insn.now }
         requires valid { IsValid insn.now }
-        ensures value { gone_on result (core_of self.new) ≡ act_of insn.now (with_place next (core_of self.old)) }
-        ensures same { OnErr result (core_of self.new ≡ core_of self.old) }
+        ensures { Goes result next (core_of self.old) (core_of self.new) (act_of insn.now) }
     {
         rows! { insn, self, next; {
             Insn::AddTo(m, r) => add_to(m, self.reg(*r));
@@ -96,10 +95,9 @@ impl Processor {
     /// The same for one of these whose second word is a number.
     #[inline(always)]
     fn act_with_number(&mut self, insn: &Insn, next: u64) -> Result<u64, StuckCause>
-        requires kind { IsWithNumber insn.now }
+        requires kind { EndsInNumber insn.now }
         requires valid { IsValid insn.now }
-        ensures value { gone_on result (core_of self.new) ≡ act_of insn.now (with_place next (core_of self.old)) }
-        ensures same { OnErr result (core_of self.new ≡ core_of self.old) }
+        ensures { Goes result next (core_of self.old) (core_of self.new) (act_of insn.now) }
     {
         rows! { insn, self, next; {
             Insn::AddNumber(m, n) => add_to(m, word_in(n));
@@ -123,8 +121,7 @@ impl Processor {
     #[inline(always)]
     fn mov_to(&mut self, m: &Arg, value: u64, next: u64) -> Result<u64, StuckCause>
         requires arg { IsArg m.now }
-        ensures value { gone_on result (core_of self.new) ≡ store_of (with_place next (core_of self.old)) m.now value }
-        ensures same { OnErr result (core_of self.new ≡ core_of self.old) }
+        ensures { Goes result next (core_of self.old) (core_of self.new) (λ d. store_of d m.now value) }
     {
         self.store(m, value, next)?;
         Ok(next)
@@ -135,8 +132,7 @@ impl Processor {
     fn mov_from(&mut self, r: u8, m: &Arg, next: u64) -> Result<u64, StuckCause>
         requires arg { IsArg m.now }
         requires reg { r < 16 }
-        ensures value { gone_on result (core_of self.new) ≡ when_ok (load_of (with_place next (core_of self.old)) m.now) (λ v. Ok (with_register r v (with_place next (core_of self.old)))) }
-        ensures same { OnErr result (core_of self.new ≡ core_of self.old) }
+        ensures { Goes result next (core_of self.old) (core_of self.new) (λ d. when_ok (load_of d m.now) (λ v. Ok (with_register r v d))) }
     {
         let value = self.load(m, next)?;
         self.set_reg(r, value);
@@ -147,8 +143,7 @@ impl Processor {
     #[inline(always)]
     fn set(&mut self, r: u8, value: u64, next: u64) -> Result<u64, StuckCause>
         requires reg { r < 16 }
-        ensures value { gone_on result (core_of self.new) ≡ Ok (with_register r value (with_place next (core_of self.old))) }
-        ensures same { OnErr result (core_of self.new ≡ core_of self.old) }
+        ensures { Goes result next (core_of self.old) (core_of self.new) (λ d. Ok (with_register r value d)) }
     {
         self.set_reg(r, value);
         Ok(next)
@@ -159,9 +154,8 @@ impl Processor {
     fn store_byte(&mut self, m: &Arg, r: u8, next: u64) -> Result<u64, StuckCause>
         requires arg { IsArg m.now }
         requires reg { r < 16 }
-        ensures value { gone_on result (core_of self.new)
-            ≡ write_bytes (with_place next (core_of self.old)) (address_of (with_place next (core_of self.old)) m.now) ((core_of self.old).registers r % 256 ∷ []) }
-        ensures same { OnErr result (core_of self.new ≡ core_of self.old) }
+        ensures { Goes result next (core_of self.old) (core_of self.new)
+            (λ d. write_bytes d (address_of d m.now) (d.registers r % 256 ∷ [])) }
     {
         let address = self.address(m, next);
         let value = (self.reg(r) % 256) as u8;
@@ -174,9 +168,8 @@ impl Processor {
     fn load_byte(&mut self, r: u8, m: &Arg, next: u64) -> Result<u64, StuckCause>
         requires arg { IsArg m.now }
         requires reg { r < 16 }
-        ensures value { gone_on result (core_of self.new)
-            ≡ when_ok (byte_at (core_of self.old).segments (address_of (with_place next (core_of self.old)) m.now)) (λ v. Ok (with_register r v (with_place next (core_of self.old)))) }
-        ensures same { OnErr result (core_of self.new ≡ core_of self.old) }
+        ensures { Goes result next (core_of self.old) (core_of self.new)
+            (λ d. when_ok (byte_at d.segments (address_of d m.now)) (λ v. Ok (with_register r v d))) }
     {
         let value = self.byte(self.address(m, next))?;
         self.set_reg(r, value);
@@ -193,8 +186,8 @@ impl Processor {
         next: u64,
     ) -> Result<u64, StuckCause>
         requires arg { IsArg m.now }
-        ensures value { gone_on result (core_of self.new) ≡ when_ok (store_of (with_place next (core_of self.old)) m.now value) (λ d. Ok (with_flags (flags_of flags) d)) }
-        ensures same { OnErr result (core_of self.new ≡ core_of self.old) }
+        ensures { Goes result next (core_of self.old) (core_of self.new)
+            (λ d. when_ok (store_of d m.now value) (λ e. Ok (with_flags (flags_of flags) e))) }
     {
         self.store(m, value, next)?;
         self.set_flags(flags);
@@ -205,8 +198,7 @@ impl Processor {
     #[inline(always)]
     fn put_in(&mut self, r: u8, value: u64, flags: LastFlags, next: u64) -> Result<u64, StuckCause>
         requires reg { r < 16 }
-        ensures value { gone_on result (core_of self.new) ≡ Ok (with_flags (flags_of flags) (with_register r value (with_place next (core_of self.old)))) }
-        ensures same { OnErr result (core_of self.new ≡ core_of self.old) }
+        ensures { Goes result next (core_of self.old) (core_of self.new) (λ d. Ok (with_flags (flags_of flags) (with_register r value d))) }
     {
         self.set_reg(r, value);
         self.set_flags(flags);
@@ -217,8 +209,7 @@ impl Processor {
     #[inline(always)]
     fn add_to(&mut self, m: &Arg, b: u64, next: u64) -> Result<u64, StuckCause>
         requires arg { IsArg m.now }
-        ensures value { gone_on result (core_of self.new) ≡ change (with_place next (core_of self.old)) m.now (λ v. sum_of v b) }
-        ensures same { OnErr result (core_of self.new ≡ core_of self.old) }
+        ensures { Goes result next (core_of self.old) (core_of self.new) (λ d. change d m.now (λ v. sum_of v b)) }
     {
         let a = self.load(m, next)?;
         self.put_back(m, a.wrapping_add(b), LastFlags::Sum(a, b), next)
@@ -228,8 +219,7 @@ impl Processor {
     #[inline(always)]
     fn sub_to(&mut self, m: &Arg, b: u64, next: u64) -> Result<u64, StuckCause>
         requires arg { IsArg m.now }
-        ensures value { gone_on result (core_of self.new) ≡ change (with_place next (core_of self.old)) m.now (λ v. difference_of v b) }
-        ensures same { OnErr result (core_of self.new ≡ core_of self.old) }
+        ensures { Goes result next (core_of self.old) (core_of self.new) (λ d. change d m.now (λ v. difference_of v b)) }
     {
         let a = self.load(m, next)?;
         self.put_back(m, a.wrapping_sub(b), LastFlags::Difference(a, b), next)
@@ -239,8 +229,7 @@ impl Processor {
     #[inline(always)]
     fn or_to(&mut self, m: &Arg, b: u64, next: u64) -> Result<u64, StuckCause>
         requires arg { IsArg m.now }
-        ensures value { gone_on result (core_of self.new) ≡ change (with_place next (core_of self.old)) m.now (λ v. bits_of (bit_or v b)) }
-        ensures same { OnErr result (core_of self.new ≡ core_of self.old) }
+        ensures { Goes result next (core_of self.old) (core_of self.new) (λ d. change d m.now (λ v. bits_of (bit_or v b))) }
     {
         let a = self.load(m, next)?;
         self.put_back(m, a | b, LastFlags::Bits(a | b), next)
@@ -250,8 +239,7 @@ impl Processor {
     #[inline(always)]
     fn and_to(&mut self, m: &Arg, b: u64, next: u64) -> Result<u64, StuckCause>
         requires arg { IsArg m.now }
-        ensures value { gone_on result (core_of self.new) ≡ change (with_place next (core_of self.old)) m.now (λ v. bits_of (bit_and v b)) }
-        ensures same { OnErr result (core_of self.new ≡ core_of self.old) }
+        ensures { Goes result next (core_of self.old) (core_of self.new) (λ d. change d m.now (λ v. bits_of (bit_and v b))) }
     {
         let a = self.load(m, next)?;
         self.put_back(m, a & b, LastFlags::Bits(a & b), next)
@@ -261,8 +249,7 @@ impl Processor {
     #[inline(always)]
     fn xor_to(&mut self, m: &Arg, b: u64, next: u64) -> Result<u64, StuckCause>
         requires arg { IsArg m.now }
-        ensures value { gone_on result (core_of self.new) ≡ change (with_place next (core_of self.old)) m.now (λ v. bits_of (bit_xor v b)) }
-        ensures same { OnErr result (core_of self.new ≡ core_of self.old) }
+        ensures { Goes result next (core_of self.old) (core_of self.new) (λ d. change d m.now (λ v. bits_of (bit_xor v b))) }
     {
         let a = self.load(m, next)?;
         self.put_back(m, a ^ b, LastFlags::Bits(a ^ b), next)
@@ -273,8 +260,7 @@ impl Processor {
     fn add_from(&mut self, r: u8, m: &Arg, next: u64) -> Result<u64, StuckCause>
         requires arg { IsArg m.now }
         requires reg { r < 16 }
-        ensures value { gone_on result (core_of self.new) ≡ gather (with_place next (core_of self.old)) r m.now (λ v. sum_of ((core_of self.old).registers r) v) }
-        ensures same { OnErr result (core_of self.new ≡ core_of self.old) }
+        ensures { Goes result next (core_of self.old) (core_of self.new) (λ d. gather d r m.now (λ v. sum_of (d.registers r) v)) }
     {
         let a = self.reg(r);
         let b = self.load(m, next)?;
@@ -286,8 +272,7 @@ impl Processor {
     fn sub_from(&mut self, r: u8, m: &Arg, next: u64) -> Result<u64, StuckCause>
         requires arg { IsArg m.now }
         requires reg { r < 16 }
-        ensures value { gone_on result (core_of self.new) ≡ gather (with_place next (core_of self.old)) r m.now (λ v. difference_of ((core_of self.old).registers r) v) }
-        ensures same { OnErr result (core_of self.new ≡ core_of self.old) }
+        ensures { Goes result next (core_of self.old) (core_of self.new) (λ d. gather d r m.now (λ v. difference_of (d.registers r) v)) }
     {
         let a = self.reg(r);
         let b = self.load(m, next)?;
@@ -299,8 +284,7 @@ impl Processor {
     fn or_from(&mut self, r: u8, m: &Arg, next: u64) -> Result<u64, StuckCause>
         requires arg { IsArg m.now }
         requires reg { r < 16 }
-        ensures value { gone_on result (core_of self.new) ≡ gather (with_place next (core_of self.old)) r m.now (λ v. bits_of (bit_or ((core_of self.old).registers r) v)) }
-        ensures same { OnErr result (core_of self.new ≡ core_of self.old) }
+        ensures { Goes result next (core_of self.old) (core_of self.new) (λ d. gather d r m.now (λ v. bits_of (bit_or (d.registers r) v))) }
     {
         let a = self.reg(r);
         let b = self.load(m, next)?;
@@ -312,8 +296,8 @@ impl Processor {
     fn and_from(&mut self, r: u8, m: &Arg, next: u64) -> Result<u64, StuckCause>
         requires arg { IsArg m.now }
         requires reg { r < 16 }
-        ensures value { gone_on result (core_of self.new) ≡ gather (with_place next (core_of self.old)) r m.now (λ v. bits_of (bit_and ((core_of self.old).registers r) v)) }
-        ensures same { OnErr result (core_of self.new ≡ core_of self.old) }
+        ensures { Goes result next (core_of self.old) (core_of self.new)
+            (λ d. gather d r m.now (λ v. bits_of (bit_and (d.registers r) v))) }
     {
         let a = self.reg(r);
         let b = self.load(m, next)?;
@@ -325,8 +309,8 @@ impl Processor {
     fn xor_from(&mut self, r: u8, m: &Arg, next: u64) -> Result<u64, StuckCause>
         requires arg { IsArg m.now }
         requires reg { r < 16 }
-        ensures value { gone_on result (core_of self.new) ≡ gather (with_place next (core_of self.old)) r m.now (λ v. bits_of (bit_xor ((core_of self.old).registers r) v)) }
-        ensures same { OnErr result (core_of self.new ≡ core_of self.old) }
+        ensures { Goes result next (core_of self.old) (core_of self.new)
+            (λ d. gather d r m.now (λ v. bits_of (bit_xor (d.registers r) v))) }
     {
         let a = self.reg(r);
         let b = self.load(m, next)?;
@@ -338,8 +322,7 @@ impl Processor {
     fn imul(&mut self, r: u8, m: &Arg, next: u64) -> Result<u64, StuckCause>
         requires arg { IsArg m.now }
         requires reg { r < 16 }
-        ensures value { gone_on result (core_of self.new) ≡ gather (with_place next (core_of self.old)) r m.now (λ v. product_of ((core_of self.old).registers r) v) }
-        ensures same { OnErr result (core_of self.new ≡ core_of self.old) }
+        ensures { Goes result next (core_of self.old) (core_of self.new) (λ d. gather d r m.now (λ v. product_of (d.registers r) v)) }
     {
         let a = self.reg(r);
         let b = self.load(m, next)?;
@@ -350,8 +333,7 @@ impl Processor {
     #[inline(always)]
     fn cmp_to(&mut self, m: &Arg, b: u64, next: u64) -> Result<u64, StuckCause>
         requires arg { IsArg m.now }
-        ensures value { gone_on result (core_of self.new) ≡ compare (with_place next (core_of self.old)) m.now (λ v. difference_of v b) }
-        ensures same { OnErr result (core_of self.new ≡ core_of self.old) }
+        ensures { Goes result next (core_of self.old) (core_of self.new) (λ d. compare d m.now (λ v. difference_of v b)) }
     {
         let a = self.load(m, next)?;
         self.set_flags(LastFlags::Difference(a, b));
@@ -362,8 +344,7 @@ impl Processor {
     #[inline(always)]
     fn cmp_from(&mut self, a: u64, m: &Arg, next: u64) -> Result<u64, StuckCause>
         requires arg { IsArg m.now }
-        ensures value { gone_on result (core_of self.new) ≡ compare (with_place next (core_of self.old)) m.now (λ v. difference_of a v) }
-        ensures same { OnErr result (core_of self.new ≡ core_of self.old) }
+        ensures { Goes result next (core_of self.old) (core_of self.new) (λ d. compare d m.now (λ v. difference_of a v)) }
     {
         let b = self.load(m, next)?;
         self.set_flags(LastFlags::Difference(a, b));
@@ -374,8 +355,7 @@ impl Processor {
     #[inline(always)]
     fn test_to(&mut self, m: &Arg, b: u64, next: u64) -> Result<u64, StuckCause>
         requires arg { IsArg m.now }
-        ensures value { gone_on result (core_of self.new) ≡ compare (with_place next (core_of self.old)) m.now (λ v. bits_of (bit_and v b)) }
-        ensures same { OnErr result (core_of self.new ≡ core_of self.old) }
+        ensures { Goes result next (core_of self.old) (core_of self.new) (λ d. compare d m.now (λ v. bits_of (bit_and v b))) }
     {
         let a = self.load(m, next)?;
         self.set_flags(LastFlags::Bits(a & b));
@@ -386,8 +366,7 @@ impl Processor {
     #[inline(always)]
     fn neg(&mut self, m: &Arg, next: u64) -> Result<u64, StuckCause>
         requires arg { IsArg m.now }
-        ensures value { gone_on result (core_of self.new) ≡ change (with_place next (core_of self.old)) m.now (λ v. difference_of 0 v) }
-        ensures same { OnErr result (core_of self.new ≡ core_of self.old) }
+        ensures { Goes result next (core_of self.old) (core_of self.new) (λ d. change d m.now (λ v. difference_of 0 v)) }
     {
         let a = self.load(m, next)?;
         let zero: u64 = 0;
@@ -399,8 +378,7 @@ impl Processor {
     fn shl(&mut self, m: &Arg, k: u8, next: u64) -> Result<u64, StuckCause>
         requires arg { IsArg m.now }
         requires count { k < 64 }
-        ensures value { gone_on result (core_of self.new) ≡ change (with_place next (core_of self.old)) m.now (λ v. shifted (v * 2 ^ k % 2 ^ 64)) }
-        ensures same { OnErr result (core_of self.new ≡ core_of self.old) }
+        ensures { Goes result next (core_of self.old) (core_of self.new) (λ d. change d m.now (λ v. shifted (v * 2 ^ k % 2 ^ 64))) }
     {
         let a = self.load(m, next)?;
         self.put_back(m, a << k, LastFlags::Unknown, next)
@@ -411,8 +389,7 @@ impl Processor {
     fn shr(&mut self, m: &Arg, k: u8, next: u64) -> Result<u64, StuckCause>
         requires arg { IsArg m.now }
         requires count { k < 64 }
-        ensures value { gone_on result (core_of self.new) ≡ change (with_place next (core_of self.old)) m.now (λ v. shifted (v / 2 ^ k)) }
-        ensures same { OnErr result (core_of self.new ≡ core_of self.old) }
+        ensures { Goes result next (core_of self.old) (core_of self.new) (λ d. change d m.now (λ v. shifted (v / 2 ^ k))) }
     {
         let a = self.load(m, next)?;
         self.put_back(m, a >> k, LastFlags::Unknown, next)
@@ -423,8 +400,7 @@ impl Processor {
     fn sar(&mut self, m: &Arg, k: u8, next: u64) -> Result<u64, StuckCause>
         requires arg { IsArg m.now }
         requires count { k < 64 }
-        ensures value { gone_on result (core_of self.new) ≡ change (with_place next (core_of self.old)) m.now (λ v. shifted (shift_right_signed_of v k)) }
-        ensures same { OnErr result (core_of self.new ≡ core_of self.old) }
+        ensures { Goes result next (core_of self.old) (core_of self.new) (λ d. change d m.now (λ v. shifted (shift_right_signed_of v k))) }
     {
         let a = self.load(m, next)?;
         self.put_back(m, shift_right_signed(a, k), LastFlags::Unknown, next)
@@ -433,8 +409,7 @@ impl Processor {
     /// `cqo`.
     #[inline(always)]
     fn cqo(&mut self, next: u64) -> Result<u64, StuckCause>
-        ensures value { gone_on result (core_of self.new) ≡ Ok (with_register RDX (sign_word ((core_of self.old).registers RAX)) (with_place next (core_of self.old))) }
-        ensures same { OnErr result (core_of self.new ≡ core_of self.old) }
+        ensures { Goes result next (core_of self.old) (core_of self.new) (λ d. Ok (with_register RDX (sign_word (d.registers RAX)) d)) }
     {
         let value = if is_negative(self.reg(RAX)) {
             u64::MAX
@@ -449,8 +424,7 @@ impl Processor {
     #[inline(always)]
     fn idiv(&mut self, m: &Arg, next: u64) -> Result<u64, StuckCause>
         requires arg { IsArg m.now }
-        ensures value { gone_on result (core_of self.new) ≡ when_ok (load_of (with_place next (core_of self.old)) m.now) (divide (with_place next (core_of self.old))) }
-        ensures same { OnErr result (core_of self.new ≡ core_of self.old) }
+        ensures { Goes result next (core_of self.old) (core_of self.new) (λ d. when_ok (load_of d m.now) (divide d)) }
     {
         let v = self.load(m, next)?;
         let (quotient, remainder) = divided(self.reg(RDX), self.reg(RAX), v)?;
@@ -462,13 +436,12 @@ impl Processor {
 
     /// A jump where a condition holds.
     #[inline(always)]
-    fn jump_if(&mut self, c: u8, d: i32, next: u64) -> Result<u64, StuckCause>
-        ensures value { gone_on result (core_of self.new) ≡ jump_if (with_place next (core_of self.old)) d (condition_of (core_of self.old).flags c) }
-        ensures same { OnErr result (core_of self.new ≡ core_of self.old) }
+    fn jump_if(&mut self, c: u8, displacement: i32, next: u64) -> Result<u64, StuckCause>
+        ensures { Goes result next (core_of self.old) (core_of self.new) (λ d. jump_if d displacement (condition_of d.flags c)) }
     {
         match self.flags.condition(c) {
             None => Err(StuckCause::Flag),
-            Some(true) => Ok(next.wrapping_add(word_of(d))),
+            Some(true) => Ok(next.wrapping_add(word_of(displacement))),
             Some(false) => Ok(next),
         }
     }

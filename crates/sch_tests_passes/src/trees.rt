@@ -121,7 +121,7 @@ fn write_line<C: Said + Drop>(name: &[u8], e: &Exp<C>, out: &mut Bytes) -> Resul
 
 // Two lines: what the calls of a body restore, and the places of its variables.
 fn write_placed<const N: usize>(placed: &PlacedBody<'_, N>, out: &mut Bytes) -> Result<(), Mem> {
-    write_line(b"restores", &placed.body.exp, out)?;
+    write_line(b"restores", &placed.restored.exp, out)?;
     out.extend_from_slice(b"places")?;
     write_places(placed.places.as_slice(), out)?;
     out.push(b'\n')
@@ -130,7 +130,7 @@ fn write_placed<const N: usize>(placed: &PlacedBody<'_, N>, out: &mut Bytes) -> 
 // The same two lines, of a body that saves.
 fn write_restored<const N: usize>(
     alloc: Global,
-    saved: &SavedBody<N>,
+    saved: &SavedBody<'_, N>,
     out: &mut Bytes,
 ) -> Result<(), Mem>
     requires words { N < 2 ^ 32 }
@@ -142,7 +142,11 @@ fn write_restored<const N: usize>(
 }
 
 // Four lines: what is live after the calls of a body, where it saves, what its calls restore, and the places of its variables.
-fn write_live<const N: usize>(alloc: Global, live: &LiveBody<N>, out: &mut Bytes) -> Result<(), Mem>
+fn write_live<const N: usize>(
+    alloc: Global,
+    live: &LiveBody<'_, N>,
+    out: &mut Bytes,
+) -> Result<(), Mem>
     requires words { N < 2 ^ 32 }
 {
     write_line(b"live", &live.exp, out)?;
@@ -152,7 +156,7 @@ fn write_live<const N: usize>(alloc: Global, live: &LiveBody<N>, out: &mut Bytes
 }
 
 // A body with what is live after its calls, in sets that have room for its variables.
-fn live_body<const N: usize>(alloc: Global, b: &Body) -> Result<LiveBody<N>, Mem> {
+fn live_body<const N: usize>(alloc: Global, b: &Body) -> Result<LiveBody<'_, N>, Mem> {
     if b.variables as usize / 64 >= N {
         return Err(Mem);
     }

@@ -1,5 +1,5 @@
 -- What a text's readings have found. It is read once more only where it assigns a name that it does not define.
-use Rattle.std.proofs.Common.{◌≡◌, ◌+◌, ◌≤◌, ℕ, Bool, true, false, cond, List, [], ◌∷◌, ◌++◌, length, Option, None, refl, sym, ap, ◌∙◌, subst, arith, length-append}
+use Rattle.std.proofs.Common.{◌≡◌, ◌≤◌, ℕ, Bool, true, false, cond, List, [], ◌∷◌, ◌++◌, length, Option, None, refl, sym, ap, ◌∙◌, subst, arith, length-append}
 use Rattle.sch_read.specs.Grammar.{Data}
 use Rattle.sch_names.specs.NamesView.{with_name}
 use Rattle.sch_names.specs.Scope.{Globals, is_among}

@@ -3,7 +3,7 @@
 //! The marks of the variables that bindings and lambdas bind come on a stack. The text is walked from its end, so
 //! that those of its first binding are on top.
 
-ghost use Rattle.std.specs.Prelude.{◌≡◌, ◌+◌, [], nat_eq, map, reverse, List as Listed, Bool, ℕ, IfOk, OnOk};
+ghost use Rattle.std.specs.Prelude.{◌≡◌, ◌+◌, [], map, reverse, List as Listed, Bool, ℕ, IfOk, OnOk};
 ghost use Rattle.std.specs.Prelude.{◌++◌};
 ghost use Rattle.sch_word.specs.trees.Bindings.{numbers};
 ghost use Rattle.sch_lang.specs.Variables.{assigns, assigns_each, assigns_lambdas};

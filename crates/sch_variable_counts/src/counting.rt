@@ -9,7 +9,7 @@ ghost use Rattle.sch_lang.specs.Tree.{Expression};
 ghost use Rattle.sch_lang.specs.Variables.{assigns};
 ghost use Rattle.sch_word.specs.values.Options.{or_false};
 ghost use Rattle.sch_word.specs.trees.VariableCounts.{one_unless, twice_if, three_each};
-ghost use Rattle.sch_lang.specs.Measures.{body_variables, counts_nothing, bound_count, onto_assigned, onto_all, variables, variables_each, variables_operands, variables_parts};
+ghost use Rattle.sch_lang.specs.Measures.{body_variables, counts_nothing, bound_count, onto_assigned, variables, variables_each, variables_operands, variables_parts};
 ghost use Rattle.sch_lang.specs.View.{expression, expressions_of, lambdas_of};
 ghost use Rattle.sch_variable_counts.specs.Counts.{Counts};
 ghost use Rattle.sch_lang.specs.Kinds.{IsLet, IsFix, IsRec};

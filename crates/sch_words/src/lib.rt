@@ -14,7 +14,7 @@ use std::alloc::Global;
 
 /// The texts that the words give, each where it is there: up to three positionals, and an option's text for
 /// each of `--listing`, `--heap`, `--depth` and `--steps`. They lie in the words.
-#[derive(Clone, Copy)]
+#[derive(Drop)]
 pub struct Words<'a> {
     pub verb: Option<&'a str>,
     pub name: Option<&'a str>,
@@ -70,8 +70,8 @@ fn command<'a>(alloc: Global) -> Result<Command<'a>, Mem>
     ensures { IfOk result (λ command. app_of command ≡ schc) }
 {
     let command = positionals(alloc)?;
-    let command = with_options(alloc, command, "listing", "heap")?;
-    with_options(alloc, command, "depth", "steps")
+    let command = with_two_options(alloc, command, "listing", "heap")?;
+    with_two_options(alloc, command, "depth", "steps")
 }
 
 // The command with its positionals alone.
@@ -104,7 +104,7 @@ fn with_positional<'a>(
 }
 
 // The command with two more options.
-fn with_options<'a>(
+fn with_two_options<'a>(
     alloc: Global,
     command: Command<'a>,
     first: &'a str,

@@ -90,7 +90,7 @@ fn write_store<P: VariablePlaces, R>(
     write_bound(places, &around.regions, x, out)
 }
 
-/// The instruction that makes a group.
+/// The instruction that makes a group, with those of its members that live in slots.
 fn group_at<P: VariablePlaces>(
     alloc: Global,
     places: &P,

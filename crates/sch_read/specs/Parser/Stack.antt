@@ -41,11 +41,8 @@ is_waiting _ = false
 
 -- it after a datum was put into it; a quote has other rules
 abbrev pub with_datum : Frame → Datum → Frame
-with_datum (Items at xs) d = Items at (join xs (one d))
 with_datum (AfterDot at xs) d = Tail at xs d
-with_datum (Tail at xs last) d = Tail at xs last
-with_datum (Elements at xs) d = Elements at (join xs (one d))
-with_datum (Waiting at) d = Waiting at
+with_datum f d = with_item f d
 
 -- whether the innermost is a list with the datum after its dot
 abbrev pub is_behind_tail : List Frame → Bool

@@ -8,7 +8,7 @@ use Rattle.sch_anf_laws.specs.LabelsFit.{LabelsFitEach}
 use Rattle.sch_anf_laws.specs.Normal.{binds, binds_parts, operands_bind, inits_bind, operands_at, init_numbers, normal_parts, with_operands, with_inits}
 use Rattle.sch_anf.specs.ScopeTable.{scope_of}
 use Rattle.sch_anf.specs.Steps.{after}
-use Rattle.sch_anf.specs.Walked.{NormalizesParts}
+use Rattle.sch_anf.specs.Walked.{NormalizesSequence}
 use Rattle.sch_anf.specs.Round.{bound_before, dropped_before}
 use Rattle.sch_anf_laws.proofs.Items.{left, no_items}
 use Rattle.sch_anf.proofs.NewSteps.{adds_one}
@@ -85,7 +85,7 @@ normalize_inits-loop-e-init t c =
 pub normalize_parts-returns-then-count-eq0 : goal.normalize_parts-returns-then-count-eq0
 normalize_parts-returns-then-count-eq0 t c =
     let none = no_items c.as_slice-items.result.now c.args.es.now c.as_slice-items.ensures (omega arith) in
-    subst (λ ts. IfOk c.read_atom.result (λ q. NormalizesParts c.args.starts.now c.args.tail ts c.args.v.now c.args.v.now (expression q.value))) (sym none)
+    subst (λ ts. IfOk c.read_atom.result (λ q. NormalizesSequence c.args.starts.now c.args.tail ts c.args.v.now c.args.v.now (expression q.value))) (sym none)
     (parts_none c.args.starts.now c.args.tail c.args.v.now (λ q. expression q.value) c.read_atom.result c.read_atom.ensures)
 
 pub normalize_parts-loop-i-init : goal.normalize_parts-loop-i-init

@@ -1,6 +1,7 @@
 use Rattle.std.proofs.Common.{refl, length, ◌∙◌, rules}
 use Rattle.sch_cells.specs.declared.tree.Exp.TheFolds.{the_lemmas}
-use Rattle.sch_assign.proofs.Loops.{set_size, mark_start, mark_lambdas_start, within_start, within_lambdas_start}
+use Rattle.std.proofs.lemmas.List.{length-set}
+use Rattle.sch_assign.proofs.Loops.{mark_start, mark_lambdas_start, within_start, within_lambdas_start}
 use Rattle.sch_assign.proofs.marking.+marking.Goals as goal
 
 pub mark_each-loop-e-init : goal.mark_each-loop-e-init
@@ -24,7 +25,7 @@ mark_lambdas-loop-l-init t c =
 -- ## What calls ask for
 
 pub mark-mark-requires : goal.mark-mark-requires
-mark-mark-requires t c = (search (rules, the_lemmas), (rw (c.deref.ensures, set_size) (rw c.in-SetVar.is at c.requires.within).1, rw (set_size) c.requires.small))
+mark-mark-requires t c = (search (rules, the_lemmas), (rw (c.deref.ensures, length-set) (rw c.in-SetVar.is at c.requires.within).1, rw (length-set) c.requires.small))
 
 pub mark-mark-requires-in-If-2 : goal.mark-mark-requires-in-If-2
 mark-mark-requires-in-If-2 t c = (search (rules, the_lemmas), (rw (c.deref-in-If-2.ensures, c.mark-in-If.ensures.size) (rw c.in-If.is at c.requires.within).1, rw (c.mark-in-If.ensures.size) c.requires.small))

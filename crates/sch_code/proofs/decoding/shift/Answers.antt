@@ -1,7 +1,7 @@
 use Rattle.std.proofs.Common.{◌≡◌, ◌+◌, sym, ap, drop, Some, ◌∙◌, arith}
 use Rattle.std.proofs.lemmas.List.{take_rest}
 use Rattle.sch_insn.specs.Decode.{count_of}
-use Rattle.sch_code.proofs.OneByte.{chosen}
+use Rattle.sch_code.proofs.EndedForms.{chosen}
 use Rattle.sch_code.proofs.decoding.shift.Goals as goal
 
 pub returns : goal.returns

@@ -1,7 +1,7 @@
 use Rattle.std.proofs.Common.{◌∙◌, ◌++◌, ap, arith, rules}
 use Rattle.std.proofs.lemmas.Grind.{common_steps}
 use Rattle.std.proofs.lemmas.Result.{on_ok_weaker}
-use Rattle.sch_control.specs.flow.RestoredView.{restored}
+use Rattle.sch_homes.specs.View.{entry_of, tree_of}
 use Rattle.sch_orders.specs.ListedCalls.{listed_calls}
 use Rattle.sch_homes.specs.HomeTable.{place_in}
 use Rattle.sch_homes.specs.Homes.{homes_end}
@@ -15,8 +15,7 @@ list_calls-requires g c = (first_of (search rules, grind (arith, common_steps), 
 pub returns : goal.returns
 returns g c =
     let p = c.args.b.now in
-    let b = p.body.now in
-    let end = homes_end b.entry (restored b.exp) p.places in
+    let end = homes_end (entry_of p) (tree_of p) p.places in
     on_ok_weaker c.list_calls.result
-    (λ h. h end ∙ ap (λ places. c.args.calls.now ++ listed_calls (listed_call end (place_in places)) (restored b.exp)) c.as_slice.ensures)
+    (λ h. h end ∙ ap (λ places. c.args.calls.now ++ listed_calls (listed_call end (place_in places)) (tree_of p)) c.as_slice.ensures)
     c.list_calls.ensures

@@ -7,29 +7,50 @@ use Rattle.std.proofs.Common.{ap}
 use Rattle.sch_link_tables.proofs.NameSteps.{branch_globals, bind_globals, letrec_globals, call_globals, branch_symbols, bind_symbols, letrec_symbols, call_symbols, next_named}
 use Rattle.sch_link_tables.proofs.naming.+naming.Goals as goal
 
-pub name_if-returns-clause-globals : goal.name_if-returns-clause-globals
-name_if-returns-clause-globals t c = branch_globals (names_of c.args.own.now) _ (branch_view _ _ _ c.in-If.is c.deref.ensures c.deref-2.ensures c.deref-3.ensures) c.in_ok-name_draft.ensures.globals c.in_ok-name_draft-2.ensures.globals c.in_ok-name_draft-3.ensures.globals
+pub name_if-returns : goal.name_if-returns
+name_if-returns t c =
+    let v = branch_view _ _ _ c.in-If.is c.deref.ensures c.deref-2.ensures c.deref-3.ensures in
+    let a = c.in_ok-name_draft.ensures in
+    let b = c.in_ok-name_draft-2.ensures in
+    let d = c.in_ok-name_draft-3.ensures in
+    record {
+      globals = branch_globals (names_of c.args.own.now) _ v a.globals b.globals d.globals;
+      symbols = branch_symbols _ v a.symbols b.symbols d.symbols;
+      listed = λ h. d.listed (b.listed (a.listed h));
+    }
 
-pub name_let-returns-clause-globals : goal.name_let-returns-clause-globals
-name_let-returns-clause-globals t c = bind_globals (names_of c.args.own.now) _ (bind_view _ _ _ c.in-Let.is refl c.as_slice.ensures c.deref.ensures) c.in_ok-name_each.ensures.globals c.in_ok-name_draft.ensures.globals
+pub name_let-returns : goal.name_let-returns
+name_let-returns t c =
+    let v = bind_view _ _ _ c.in-Let.is refl c.as_slice.ensures c.deref.ensures in
+    let a = c.in_ok-name_each.ensures in
+    let b = c.in_ok-name_draft.ensures in
+    record {
+      globals = bind_globals (names_of c.args.own.now) _ v a.globals b.globals;
+      symbols = bind_symbols _ v a.symbols b.symbols;
+      listed = λ h. b.listed (a.listed h);
+    }
 
-pub name_letrec-returns-clause-globals : goal.name_letrec-returns-clause-globals
-name_letrec-returns-clause-globals t c = letrec_globals (names_of c.args.own.now) _ (letrec_view _ _ _ _ c.in-Letrec.is refl c.as_slice.ensures c.deref.ensures) c.in_ok-name_each.ensures.globals c.in_ok-name_draft.ensures.globals
+pub name_letrec-returns : goal.name_letrec-returns
+name_letrec-returns t c =
+    let v = letrec_view _ _ _ _ c.in-Letrec.is refl c.as_slice.ensures c.deref.ensures in
+    let a = c.in_ok-name_each.ensures in
+    let b = c.in_ok-name_draft.ensures in
+    record {
+      globals = letrec_globals (names_of c.args.own.now) _ v a.globals b.globals;
+      symbols = letrec_symbols _ v a.symbols b.symbols;
+      listed = λ h. b.listed (a.listed h);
+    }
 
-pub name_call-returns-clause-globals : goal.name_call-returns-clause-globals
-name_call-returns-clause-globals t c = call_globals (names_of c.args.own.now) _ (call_view _ _ _ c.in-Call.is refl c.deref.ensures c.as_slice.ensures) c.in_ok-name_draft.ensures.globals c.in_ok-name_each.ensures.globals
-
-pub name_if-returns-clause-symbols : goal.name_if-returns-clause-symbols
-name_if-returns-clause-symbols t c = branch_symbols _ (branch_view _ _ _ c.in-If.is c.deref.ensures c.deref-2.ensures c.deref-3.ensures) c.in_ok-name_draft.ensures.symbols c.in_ok-name_draft-2.ensures.symbols c.in_ok-name_draft-3.ensures.symbols
-
-pub name_let-returns-clause-symbols : goal.name_let-returns-clause-symbols
-name_let-returns-clause-symbols t c = bind_symbols _ (bind_view _ _ _ c.in-Let.is refl c.as_slice.ensures c.deref.ensures) c.in_ok-name_each.ensures.symbols c.in_ok-name_draft.ensures.symbols
-
-pub name_letrec-returns-clause-symbols : goal.name_letrec-returns-clause-symbols
-name_letrec-returns-clause-symbols t c = letrec_symbols _ (letrec_view _ _ _ _ c.in-Letrec.is refl c.as_slice.ensures c.deref.ensures) c.in_ok-name_each.ensures.symbols c.in_ok-name_draft.ensures.symbols
-
-pub name_call-returns-clause-symbols : goal.name_call-returns-clause-symbols
-name_call-returns-clause-symbols t c = call_symbols _ (call_view _ _ _ c.in-Call.is refl c.deref.ensures c.as_slice.ensures) c.in_ok-name_draft.ensures.symbols c.in_ok-name_each.ensures.symbols
+pub name_call-returns : goal.name_call-returns
+name_call-returns t c =
+    let v = call_view _ _ _ c.in-Call.is refl c.deref.ensures c.as_slice.ensures in
+    let a = c.in_ok-name_draft.ensures in
+    let b = c.in_ok-name_each.ensures in
+    record {
+      globals = call_globals (names_of c.args.own.now) _ v a.globals b.globals;
+      symbols = call_symbols _ v a.symbols b.symbols;
+      listed = λ h. b.listed (a.listed h);
+    }
 
 pub name_each-loop-e-preserved : goal.name_each-loop-e-preserved
 name_each-loop-e-preserved t c =

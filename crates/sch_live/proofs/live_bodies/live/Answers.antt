@@ -1,6 +1,5 @@
 use Rattle.std.proofs.Common.{rules, arith, ap, sym, ◌∙◌, subst, ◌*◌, ◌<◌, true}
 use Rattle.std.proofs.lemmas.Grind.{common_steps}
-use Rattle.sch_control.specs.Valid.{in_scope_whole, numbered, ended, shaped_whole, fields_known}
 use Rattle.sch_control.specs.View.{code, expression}
 use Rattle.sch_control.specs.flow.Bare.{unlisted}
 use Rattle.sch_control.specs.flow.Middle.{listed}
@@ -8,7 +7,7 @@ use Rattle.sch_control.specs.flow.Reads.{VariablesBelow}
 use Rattle.sch_paths.proofs.saves.VariablesBelow.{some_below, code_below}
 use Rattle.sch_live.specs.Reached.{where_reached}
 use Rattle.sch_live.proofs.MadeLists.{made_lists}
-use Rattle.sch_live.proofs.LiveBodies.{same, sets, kept, runs, truncated}
+use Rattle.sch_live.proofs.LiveBodies.{bare, same, sets, runs, truncated}
 use Rattle.sch_live.proofs.live_bodies.live.Goals as goal
 
 pub list_live-requires : goal.list_live-requires
@@ -32,13 +31,8 @@ invariant_of-result g c =
     let s = c.new-nothing.result in
     let alike = c.list_live.ensures.same ∙ ap (λ z. unlisted (listed z)) c.deref_mut.ensures.value in
     let made = ap listed c.into_inner.ensures ∙ (c.keep_reached.ensures.made ∙ ap (λ z. where_reached true (listed z)) c.deref_mut-2.ensures.value) in
-    let name = c.in_ok-name.ensures ∙ c.as_slice.ensures in
     record {
-      scoped = kept b e0 e1 r s c.in_ok-exp.ensures alike c.new-nothing.ensures c.list_live.ensures.sets made _ name in_scope_whole b.scoped;
-      numbered = kept b e0 e1 r s c.in_ok-exp.ensures alike c.new-nothing.ensures c.list_live.ensures.sets made _ name numbered b.numbered;
-      ended = kept b e0 e1 r s c.in_ok-exp.ensures alike c.new-nothing.ensures c.list_live.ensures.sets made _ name ended b.ended;
-      shaped = kept b e0 e1 r s c.in_ok-exp.ensures alike c.new-nothing.ensures c.list_live.ensures.sets made _ name shaped_whole b.shaped;
-      fields = kept b e0 e1 r s c.in_ok-exp.ensures alike c.new-nothing.ensures c.list_live.ensures.sets made _ name fields_known b.fields;
+      bare = bare b e0 e1 r s c.in_ok-exp.ensures alike c.new-nothing.ensures c.list_live.ensures.sets made;
       fits = c.requires.fits;
       live = truncated b e0 e1 r s c.in_ok-exp.ensures alike c.new-nothing.ensures c.list_live.ensures.sets made;
     }

@@ -1,5 +1,6 @@
 use Rattle.std.proofs.Common.{◌≡◌, ℕ, ◌+◌, ◌<◌, ◌^◌, rules, arith, ◌∙◌, ◌++◌, ap, sym, subst}
 use Rattle.std.proofs.lemmas.Grind.{common_steps}
+use Rattle.sch_control.specs.declared.body.Body.{Body}
 use Rattle.sch_control.specs.declared.restored_body.RestoredBody.{RestoredBody}
 use Rattle.sch_control.specs.flow.Middle.{listed}
 use Rattle.sch_control.specs.flow.Places.{arrival, formals_of, place_of}
@@ -30,8 +31,8 @@ frame_listed-requires g c =
     let low : labels (restored c.in_ok-restored.restored.exp) < 2 ^ 32 = omega (arith, kept, few) in (
       first_of (search rules, grind (arith, common_steps), omega arith),
       (
-        subst (λ (b : RestoredBody g.row.N). EachSoonRestored (restored b.exp)) (sym p.body) r.enough,
-        subst (λ (b : RestoredBody g.row.N). labels (restored b.exp) < 2 ^ 32) (sym p.body) low,
+        subst (λ (b : RestoredBody g.row.N). EachSoonRestored (restored b.exp)) (sym p.restored) r.enough,
+        subst (λ (b : RestoredBody g.row.N). labels (restored b.exp) < 2 ^ 32) (sym p.restored) low,
       ),
     )
 
@@ -46,31 +47,28 @@ returns g c =
     let saved = c.in_ok-saved.saved in
     let placed = c.in_ok-placed.placed in
     let tree = restored c.in_ok-restored.restored.exp in
-    let saved_variables = s.variables ∙ l.variables in
-    let variables = r.variables ∙ saved_variables in
-    let entry = r.entry ∙ (s.entry ∙ l.entry) in
+    let saved_body = s.body ∙ l.body in
+    let body = r.body ∙ saved_body in
     let made : IsJoined b live saved c.in_ok-restored.restored placed.places = record {
-      name = r.name ∙ (s.name ∙ l.name);
-      entry = entry;
-      variables = variables;
-      saved_variables = saved_variables;
+      body = body;
+      saved_body = saved_body;
       bare = l.same;
       made_live = l.made;
       without_regions = s.same;
-      made_saved = s.made ∙ ap (λ n. lazily_saved n live) l.variables;
+      made_saved = s.made ∙ ap (λ (b : Body). lazily_saved b.variables live) l.body;
       lazy = s.lazy;
       stand = s.stand;
       followed = s.followed;
-      made_restored = r.made ∙ ap (λ n. eagerly_restored n (listed saved.exp)) saved_variables;
+      made_restored = r.made ∙ ap (λ (b : Body). eagerly_restored b.variables (listed saved.exp)) saved_body;
       soon = r.enough;
       eager = r.eager;
-      made_places = p.made ∙ (ap (λ entry. places entry c.in_ok-restored.restored.variables tree) entry ∙ ap (λ n. places b.entry n tree) variables);
+      made_places = p.made ∙ ap (λ (b : Body). places b.entry b.variables tree) body;
       formals =
-          subst (λ entry. (k : ℕ) → k < formals_of entry → place_of placed.places (2 + k) ≡ arrival k) entry
-          (subst (λ (b : RestoredBody g.row.N). (k : ℕ) → k < formals_of b.entry → place_of placed.places (2 + k) ≡ arrival k) p.body p.formals);
-      spills = subst (λ (b : RestoredBody g.row.N). SlotsWhenFull (place_of placed.places) (restored b.exp)) p.body p.slots;
+          subst (λ (b : Body). (k : ℕ) → k < formals_of b.entry → place_of placed.places (2 + k) ≡ arrival k) body
+          (subst (λ (b : RestoredBody g.row.N). (k : ℕ) → k < formals_of b.body.now.entry → place_of placed.places (2 + k) ≡ arrival k) p.restored p.formals);
+      spills = subst (λ (b : RestoredBody g.row.N). SlotsWhenFull (place_of placed.places) (restored b.exp)) p.restored p.slots;
     } in
-    let joined : IsJoined b live saved placed.body.now placed.places = subst (λ (r : RestoredBody g.row.N). IsJoined b live saved r placed.places) (sym p.body) made in
+    let joined : IsJoined b live saved placed.restored.now placed.places = subst (λ (r : RestoredBody g.row.N). IsJoined b live saved r placed.places) (sym p.restored) made in
     record {
       body = joined_body b live saved placed joined _ c.in_ok-f.ensures.made;
       calls = c.in_ok-f.ensures.calls ∙ ap (λ l. c.args.calls.now ++ l) (joined_calls b live saved placed joined);

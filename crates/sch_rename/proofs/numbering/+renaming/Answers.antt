@@ -4,7 +4,8 @@ use Rattle.sch_cells.specs.Tree.{bind, fix, letrec, no_trees, no_lambdas}
 use Rattle.sch_cells.specs.View as view
 use Rattle.sch_cells.specs.View.{tree, trees_of}
 use Rattle.sch_rename.specs.Made.{Renames}
-use Rattle.sch_rename.proofs.Loops.{then_same, each_made, each_next, each_inside, each_start, each_start_next, each_start_inside, each_renames, lambdas_made, lambdas_next, lambdas_inside, lambdas_start, lambdas_start_next, lambdas_start_inside, lambdas_rename, let_renames, fix_renames, rec_renames, lambda_renames}
+use Rattle.sch_rename.proofs.Loops.{then_same, each_made, each_next, each_inside, each_start, each_start_next, each_start_inside, each_renames, lambdas_made, lambdas_next, lambdas_inside, lambdas_start, lambdas_start_next, lambdas_start_inside, lambdas_rename}
+use Rattle.sch_rename.proofs.BindingNodes.{let_renames, fix_renames, rec_renames, lambda_renames}
 use Rattle.sch_rename.proofs.numbering.+renaming.Goals as goal
 
 pub rename_each-loop-e-init : goal.rename_each-loop-e-init

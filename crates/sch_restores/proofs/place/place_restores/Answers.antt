@@ -1,10 +1,9 @@
 use Rattle.std.proofs.Common.{rules, arith, ap, ◌∙◌}
 use Rattle.std.proofs.lemmas.Grind.{common_steps}
-use Rattle.sch_control.specs.Valid.{in_scope_whole, numbered, ended, shaped_whole, fields_known}
 use Rattle.sch_control.specs.flow.Middle.{listed}
 use Rattle.sch_control.specs.flow.RestoredView.{restored, restored_listed}
 use Rattle.sch_paths.proofs.paths.EagerByPaths.{by_paths}
-use Rattle.sch_restores.proofs.RestoredBodies.{apart, eagerly, enough, kept, of_none, runs, same_live, saved, saves_within, some_words, variables_within}
+use Rattle.sch_restores.proofs.RestoredBodies.{apart, bare, eagerly, enough, of_none, runs, same_live, saved, saves_within, some_words, variables_within}
 use Rattle.sch_restores.proofs.place.place_restores.Goals as goal
 
 pub restore-requires : goal.restore-requires
@@ -23,7 +22,7 @@ restore-requires g c =
 
 pub returns-clause-made : goal.returns-clause-made
 returns-clause-made g c =
-    of_none c.args.b.now.variables (listed c.args.b.now.exp) (restored c.into_inner.result) c.new-none.result c.new-none.result c.new-none.ensures c.new-none.ensures
+    of_none c.args.b.now.body.now.variables (listed c.args.b.now.exp) (restored c.into_inner.result) c.new-none.result c.new-none.result c.new-none.ensures c.new-none.ensures
     (ap restored c.into_inner.ensures ∙ c.in_ok-exp.ensures.made)
 
 pub returns-clause-eager : goal.returns-clause-eager
@@ -43,14 +42,9 @@ invariant_of-result g c =
     let b = c.args.b.now in
     let r = restored c.into_inner.result in
     let made =
-    of_none b.variables (listed b.exp) r c.new-none.result c.new-none.result c.new-none.ensures c.new-none.ensures (ap restored c.into_inner.ensures ∙ c.in_ok-exp.ensures.made) in
-    let name = c.in_ok-name.ensures ∙ c.as_slice.ensures in
+    of_none b.body.now.variables (listed b.exp) r c.new-none.result c.new-none.result c.new-none.ensures c.new-none.ensures (ap restored c.into_inner.ensures ∙ c.in_ok-exp.ensures.made) in
     record {
-      scoped = kept b r made _ name in_scope_whole b.scoped;
-      numbered = kept b r made _ name numbered b.numbered;
-      ended = kept b r made _ name ended b.ended;
-      shaped = kept b r made _ name shaped_whole b.shaped;
-      fields = kept b r made _ name fields_known b.fields;
+      bare = bare b r made;
       fits = b.fits;
       live = same_live b (restored_listed c.into_inner.result) (ap restored_listed c.into_inner.ensures ∙ c.in_ok-exp.ensures.same);
       apart = apart b r made;

@@ -1,7 +1,6 @@
 use Rattle.std.proofs.Common.{ap, ◌∙◌}
-use Rattle.sch_control.specs.Valid.{in_scope_whole, numbered, ended, shaped_whole, fields_known}
 use Rattle.sch_control.specs.flow.Middle.{listed}
-use Rattle.sch_saves.proofs.SavedBodies.{same, kept, live_sets, apart, stand, lazily, saved, followed, runs}
+use Rattle.sch_saves.proofs.SavedBodies.{bare, same, live_sets, apart, stand, lazily, saved, followed, runs}
 use Rattle.sch_saves.proofs.place.place_saves.Goals as goal
 
 pub invariant_of-result : goal.invariant_of-result
@@ -9,13 +8,8 @@ invariant_of-result g c =
     let b = c.args.b.now in
     let r = listed c.into_inner.result in
     let made = ap listed c.into_inner.ensures ∙ c.in_ok-exp.ensures in
-    let name = c.in_ok-name.ensures ∙ c.as_slice.ensures in
     record {
-      scoped = kept b r made _ name in_scope_whole b.scoped;
-      numbered = kept b r made _ name numbered b.numbered;
-      ended = kept b r made _ name ended b.ended;
-      shaped = kept b r made _ name shaped_whole b.shaped;
-      fields = kept b r made _ name fields_known b.fields;
+      bare = bare b r made;
       fits = b.fits;
       live = live_sets b r made;
       apart = apart b r made;

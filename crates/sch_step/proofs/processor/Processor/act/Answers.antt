@@ -1,27 +1,56 @@
 use Rattle.std.proofs.Common.{refl, Ok, Err}
 use Rattle.sch_insn.specs.Machine.{store, with_place, with_register, add64}
 use Rattle.sch_insn.specs.declared.state.StuckCause.TheVariants.{Kernel}
-use Rattle.sch_step.specs.View.{core_of}
-use Rattle.sch_step.proofs.Words.{with_word}
+use Rattle.sch_step.proofs.RowsOfWords.{row, with_word}
 use Rattle.sch_step.proofs.processor.Processor.act.Goals as goal
 
-pub returns-in-MovTo-clause-value : goal.returns-in-MovTo-clause-value
-returns-in-MovTo-clause-value c = with_word _ _ _ _ (store (with_place c.args.next (core_of c.args.self.now)) c.in-MovTo.m) _ _ c.mov_to.ensures.value c.reg.ensures c.in-MovTo.is refl
+pub returns-in-MovTo : goal.returns-in-MovTo
+returns-in-MovTo c = with_word (λ w d. store d c.in-MovTo.m w) c.in-MovTo.is c.mov_to.ensures c.reg.ensures refl
 
-pub returns-in-MovNumber-clause-value : goal.returns-in-MovNumber-clause-value
-returns-in-MovNumber-clause-value c = with_word
-    _ _ _ _ (store (with_place c.args.next (core_of c.args.self.now)) c.in-MovNumber.m) _ _ c.mov_to-in-MovNumber.ensures.value c.word_in.ensures c.in-MovNumber.is refl
+pub returns-in-MovNumber : goal.returns-in-MovNumber
+returns-in-MovNumber c = with_word (λ w d. store d c.in-MovNumber.m w) c.in-MovNumber.is c.mov_to-in-MovNumber.ensures c.word_in.ensures refl
 
-pub returns-in-Lea-clause-value : goal.returns-in-Lea-clause-value
-returns-in-Lea-clause-value c =
-    let d = with_place c.args.next (core_of c.args.self.now) in
-    with_word _ _ _ _ (λ w. Ok (with_register c.in-Lea.r w d)) _ _ c.set-in-Lea.ensures.value c.address.ensures c.in-Lea.is refl
+pub returns-in-Lea : goal.returns-in-Lea
+returns-in-Lea c = with_word (λ w d. Ok (with_register c.in-Lea.r w d)) c.in-Lea.is c.set-in-Lea.ensures c.address.ensures refl
 
-pub returns-in-Jump-clause-value : goal.returns-in-Jump-clause-value
-returns-in-Jump-clause-value c = with_word _ _ _ _ (λ d. Ok (with_place (add64 c.args.next d) (core_of c.args.self.now))) _ _ refl c.word_in-in-Jump.ensures c.in-Jump.is refl
+pub returns-in-Jump : goal.returns-in-Jump
+returns-in-Jump c = with_word (λ w d. Ok (with_place (add64 c.args.next w) d)) c.in-Jump.is (record { value = refl; same = tt }) c.word_in-in-Jump.ensures refl
 
-pub returns-in-Jump8-clause-value : goal.returns-in-Jump8-clause-value
-returns-in-Jump8-clause-value c = with_word _ _ _ _ (λ d. Ok (with_place (add64 c.args.next d) (core_of c.args.self.now))) _ _ refl c.word_in_byte.ensures c.in-Jump8.is refl
+pub returns-in-Jump8 : goal.returns-in-Jump8
+returns-in-Jump8 c = with_word (λ w d. Ok (with_place (add64 c.args.next w) d)) c.in-Jump8.is (record { value = refl; same = tt }) c.word_in_byte.ensures refl
 
-pub returns-in-Syscall-clause-value : goal.returns-in-Syscall-clause-value
-returns-in-Syscall-clause-value c = with_word _ _ _ _ (λ w. Err (Kernel w)) _ _ refl c.reg-in-Syscall.ensures c.in-Syscall.is refl
+pub returns-in-Syscall : goal.returns-in-Syscall
+returns-in-Syscall c = with_word (λ w d. Err (Kernel w)) c.in-Syscall.is (record { value = refl; same = refl }) c.reg-in-Syscall.ensures refl
+
+pub returns-in-MovFrom : goal.returns-in-MovFrom
+returns-in-MovFrom c = row c.in-MovFrom.is c.mov_from.ensures
+
+pub returns-in-StoreByte : goal.returns-in-StoreByte
+returns-in-StoreByte c = row c.in-StoreByte.is c.store_byte.ensures
+
+pub returns-in-LoadByte : goal.returns-in-LoadByte
+returns-in-LoadByte c = row c.in-LoadByte.is c.load_byte.ensures
+
+pub returns-in-Imul : goal.returns-in-Imul
+returns-in-Imul c = row c.in-Imul.is c.imul.ensures
+
+pub returns-in-Neg : goal.returns-in-Neg
+returns-in-Neg c = row c.in-Neg.is c.neg.ensures
+
+pub returns-in-Idiv : goal.returns-in-Idiv
+returns-in-Idiv c = row c.in-Idiv.is c.idiv.ensures
+
+pub returns-in-Cqo : goal.returns-in-Cqo
+returns-in-Cqo c = row c.in-Cqo.is c.cqo.ensures
+
+pub returns-in-Shl : goal.returns-in-Shl
+returns-in-Shl c = row c.in-Shl.is c.shl.ensures
+
+pub returns-in-Shr : goal.returns-in-Shr
+returns-in-Shr c = row c.in-Shr.is c.shr.ensures
+
+pub returns-in-Sar : goal.returns-in-Sar
+returns-in-Sar c = row c.in-Sar.is c.sar.ensures
+
+pub returns-in_default : goal.returns-in_default
+returns-in_default c = c.act_on_two.ensures

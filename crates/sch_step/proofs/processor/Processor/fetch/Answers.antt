@@ -1,4 +1,4 @@
-use Rattle.std.proofs.Common.{◌∙◌, sym, ap, arith}
+use Rattle.std.proofs.Common.{◌∙◌, refl, sym, ap, arith}
 use Rattle.sch_insn.specs.Decode.{decode}
 use Rattle.sch_word.specs.values.Options.{when_some}
 use Rattle.sch_step.specs.Fetched.{is_fixed}
@@ -48,3 +48,31 @@ pub tail-requires : goal.tail-requires
 tail-requires c =
     let room = lies_within c.args.self.now.segments.items c.in_ok-i.i c.args.self.now.at 1 c.index-s.result.now c.in_ok-i.ensures.within c.in_ok-i.ensures.some c.index-s.ensures in
     omega (arith, room)
+
+pub returns-then-not-s-clause-same : goal.returns-then-not-s-clause-same
+returns-then-not-s-clause-same c = refl
+
+pub returns-then-not-s-clause-valid : goal.returns-then-not-s-clause-valid
+returns-then-not-s-clause-valid c = tt
+
+pub returns-then-not-s-clause-low : goal.returns-then-not-s-clause-low
+returns-then-not-s-clause-low c = tt
+
+pub returns-then-not-s-2-clause-same : goal.returns-then-not-s-2-clause-same
+returns-then-not-s-2-clause-same c = c.keep.ensures
+
+pub returns-then-not-s-2-clause-valid : goal.returns-then-not-s-2-clause-valid
+returns-then-not-s-2-clause-valid c = c.decode-found.ensures.valid
+
+pub returns-else-not-s-2-clause-same : goal.returns-else-not-s-2-clause-same
+returns-else-not-s-2-clause-same c = refl
+
+pub returns-else-not-s-2-clause-valid : goal.returns-else-not-s-2-clause-valid
+returns-else-not-s-2-clause-valid c = c.decode-found.ensures.valid
+
+pub keep-requires-clause-valid : goal.keep-requires-clause-valid
+keep-requires-clause-valid c = c.decode-found.ensures.valid
+
+pub keep-requires-clause-low : goal.keep-requires-clause-low
+keep-requires-clause-low c = read_low c.args.self.now.segments.items c.in_ok-i.i c.args.self.now.at c.index-s.result.now c.tail.result.now c.decode-found.result
+    c.args.self.now.laid_out c.in_ok-i.ensures.within c.in_ok-i.ensures.some c.index-s.ensures c.tail.ensures c.decode-found.ensures.within

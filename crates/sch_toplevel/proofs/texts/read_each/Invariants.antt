@@ -8,9 +8,9 @@ use Rattle.sch_sketch.specs.Sketch.{sketches, sequencing}
 use Rattle.sch_expansion.specs.Following.{and_then}
 use Rattle.sch_expansion.specs.Reads.{PartsRead}
 use Rattle.sch_toplevel.specs.FormView.{sketches_at}
-use Rattle.sch_toplevel.proofs.texts.read_forms.Given as goal
+use Rattle.sch_toplevel.proofs.texts.read_each.Given as goal
 
 abbrev pub invariant-loop-form : goal.invariant-loop-form
 invariant-loop-form l =
     (b : Option Fault) (es : Drafts) → PartsRead (globals_of l.globals) sequencing false 1 [] Value (sketches (sketches_at (drop l.form-index l.forms))) l.fault b es →
-    PartsRead (globals_of l.globals) sequencing true 1 [] Value (sketches (sketches_at l.forms)) l.initial.fault b (and_then (map draft_of l.all) es)
+    PartsRead (globals_of l.globals) sequencing true 1 [] Value (sketches (sketches_at l.forms)) l.initial.fault b (and_then (map draft_of l.reading.drafts) es)

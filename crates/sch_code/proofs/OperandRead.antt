@@ -1,6 +1,6 @@
 -- The register of the form and the operand, as they are read.
-use Rattle.std.proofs.Common.{◌≡◌, ℕ, ◌+◌, ◌-◌, ◌*◌, ◌/◌, ◌%◌, ◌<◌, ◌≤◌, List, length, get_or, drop, take, false, ◌==◌, Option, Some, sym, ap, ◌∙◌, arith, length-drop}
-use Rattle.std.proofs.lemmas.Bool.{eqb-false, le-ltb}
+use Rattle.std.proofs.Common.{◌≡◌, ℕ, ◌+◌, ◌-◌, ◌*◌, ◌/◌, ◌%◌, ◌<◌, ◌≤◌, List, length, get_or, drop, take, true, false, ◌==◌, Option, Some, None, sym, ap, ◌∙◌, arith, length-drop}
+use Rattle.std.proofs.lemmas.Bool.{eqb-false, eqb-true, le-ltb, lt-ltb}
 use Rattle.std.proofs.lemmas.List.{take_rest}
 use Rattle.sch_insn.specs.declared.insn.Arg.{Arg}
 use Rattle.sch_insn.specs.Decode.{arg_of, operand_of}
@@ -17,3 +17,15 @@ module _ (bs : List ℕ) (some : (length bs == 0) ≡ false) where
       let long = le-ltb (length bs) 1 (omega arith) in
       let read = sym (e ∙ ap (arg_of (get_or bs 0 0 / 64) b (get_or bs 0 0 % 8)) (take_rest bs 1)) in
       rw (long, read)
+
+  pub nothing : (r b : ℕ) → None ≡ arg_of (get_or bs 0 0 / 64) b (get_or bs 0 0 % 8) (take (length bs - 1) (drop 1 bs)) → None ≡ operand_of r b bs
+  unfolding operand_of
+  nothing r b e =
+      let d = eqb-false (length bs) 0 some in
+      let long = le-ltb (length bs) 1 (omega arith) in
+      let read = sym (e ∙ ap (arg_of (get_or bs 0 0 / 64) b (get_or bs 0 0 % 8)) (take_rest bs 1)) in
+      rw (long, read)
+
+pub no_byte : (bs : List ℕ) → (length bs == 0) ≡ true → (r b : ℕ) → None ≡ operand_of r b bs
+unfolding operand_of
+no_byte bs e r b = let d = eqb-true (length bs) 0 e in let short = lt-ltb (length bs) 1 (omega arith) in rw short

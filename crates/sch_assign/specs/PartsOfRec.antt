@@ -15,7 +15,7 @@ module _ (has_cell : ℕ → Bool) (n : ℕ) where
   filled (letrec site x es e) = sequence (filling n x (count es) (converted has_cell n e))
   filled e = e
 
-  -- a Rec without its cells
-  abbrev pub with_inits : Tree → Tree
-  with_inits (letrec site x es e) = bind site x (converted_each has_cell n es) (filled (letrec site x es e))
-  with_inits e = e
+  -- what stands under its cells: the inits are bound around the body that fills them
+  abbrev pub under_cells : Tree → Tree
+  under_cells (letrec site x es e) = bind site x (converted_each has_cell n es) (filled (letrec site x es e))
+  under_cells e = e
