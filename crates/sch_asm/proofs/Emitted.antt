@@ -156,6 +156,10 @@ emitted_size place long (i ∷ is) k a =
 
 -- ---- two lists of items
 
+pub jumps_append : (xs ys : List Item) → jumps_in (xs ++ ys) ≡ jumps_in xs + jumps_in ys
+jumps_append [] ys = omega arith
+jumps_append (x ∷ xs) ys = omega (arith, jumps_append xs ys)
+
 pub size_append : (long : Set) (xs ys : List Item) (k : ℕ) → size_from long k (xs ++ ys) ≡ size_from long k xs + size_from long (k + jumps_in xs) ys
 size_append long [] ys k = let e : k ≡ k + 0 = omega arith in let m = ap (λ j. size_from long j ys) e in omega (arith, m)
 size_append long (x ∷ xs) ys k =

@@ -8,6 +8,7 @@ pub mod Beside
 pub mod Bytes
 pub mod EachItem
 pub mod Pieces
+pub mod ItemParts
 pub mod Joined
 mod Examples
 mod NarrowExamples

@@ -155,6 +155,14 @@ pub use_back : (xs ys : List Item) (n : ℕ) → UseBelow n (xs ++ ys) → UseBe
 use_back [] ys n h = h
 use_back (x ∷ xs) ys n h = use_back xs ys n h.1
 
+pub sound_front : (xs ys : List Item) → AreItems (xs ++ ys) → AreItems xs
+sound_front [] ys h = tt
+sound_front (x ∷ xs) ys h = (h.0, sound_front xs ys h.1)
+
+pub sound_back : (xs ys : List Item) → AreItems (xs ++ ys) → AreItems ys
+sound_back [] ys h = h
+sound_back (x ∷ xs) ys h = sound_back xs ys h.1
+
 pub sound_append : (xs ys : List Item) → AreItems xs → AreItems ys → AreItems (xs ++ ys)
 sound_append [] ys h k = k
 sound_append (x ∷ xs) ys h k = (h.0, sound_append xs ys h.1 k)

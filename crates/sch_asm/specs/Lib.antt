@@ -10,3 +10,4 @@ pub mod Views
 pub mod Propositions
 pub mod Routines
 pub mod Effects
+pub mod ItemParts

@@ -4,7 +4,7 @@ ghost use Rattle.std.specs.Prelude.{false, IsTrue};
 ghost use Rattle.sch_asm.specs.Items.{AreItems, AreKnown, IsEachOnce, labels_in, marks_arrive};
 ghost use Rattle.sch_asm.specs.Propositions.{AreItems-prop};
 
-use crate::item::Item;
+use crate::item_list::ItemList;
 use sch_word::List;
 
 /// A word of the data.
@@ -20,7 +20,7 @@ pub enum Word {
 /// greatest label that stands.
 #[derive(Drop)]
 pub struct Asm {
-    pub items: List<Item>,
+    pub items: ItemList,
     pub words: List<Word>,
     pub zeros: u64,
     // Each instruction is valid, and each number of a register, a condition and a data word is one.

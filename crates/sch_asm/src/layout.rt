@@ -1,12 +1,13 @@
 //! Where items and labels stand.
 
-ghost use Rattle.std.specs.Prelude.{◌≡◌, ◌+◌, ◌*◌, ◌^◌, ◌<◌, ◌++◌, EachIndex, IfOk, OnOk, false, length, slice_index, slice_index_or};
+ghost use Rattle.std.specs.Prelude.{◌≡◌, ◌+◌, ◌*◌, ◌^◌, ◌<◌, ◌++◌, EachIndex, IfOk, OnOk, length, slice_index};
 ghost use Rattle.sch_jumps.specs.Spans.{set_of};
 ghost use Rattle.sch_asm.specs.Items.{AreItems};
 ghost use Rattle.sch_asm.specs.Layout.{IsSized};
 ghost use Rattle.sch_asm.specs.Pieces.{piece_of, skeleton};
 
 use crate::item::Item;
+use crate::item_list::ItemList;
 use sch_jumps::Piece;
 use sch_word::Mem;
 use std::alloc::Global;
@@ -54,16 +55,28 @@ fn piece_of(item: &Item) -> Piece
 }
 
 /// The pieces of items, and behind them those of routines.
-pub fn pieces_of(alloc: Global, items: &[Item], routines: &[Item]) -> Result<Vec<Piece>, Mem>
+pub fn pieces_of(alloc: Global, items: &ItemList, routines: &ItemList) -> Result<Vec<Piece>, Mem>
     requires items { AreItems items.now }
     requires routines { AreItems routines.now }
     ensures { IfOk result (λ pieces. pieces.items ≡ skeleton items.now ++ skeleton routines.now) }
 {
     let count = items.len().saturating_add(routines.len());
     let mut pieces = Vec::with_capacity(alloc, count)?;
-    append_pieces(items, &mut pieces)?;
-    append_pieces(routines, &mut pieces)?;
+    append_all(items, &mut pieces)?;
+    append_all(routines, &mut pieces)?;
     Ok(pieces)
+}
+
+// Adds the pieces of a list of items, one part after the other.
+fn append_all(items: &ItemList, pieces: &mut Vec<Piece>) -> Result<(), Mem>
+    requires sound { AreItems items.now }
+    ensures { OnOk result (pieces.new.items ≡ pieces.old.items ++ skeleton items.now) }
+{
+    let (earlier, last) = items.parts();
+    for part in earlier {
+        append_pieces(part.as_slice(), pieces)?;
+    }
+    append_pieces(last, pieces)
 }
 
 // Adds the pieces of items.

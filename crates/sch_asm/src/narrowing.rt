@@ -1,11 +1,12 @@
 //! The narrow forms of instructions: a displacement and a number have one byte where they fit.
 
-ghost use Rattle.std.specs.Prelude.{◌≡◌};
+ghost use Rattle.std.specs.Prelude.{◌≡◌, List};
+ghost use Rattle.sch_asm.specs.ItemParts.{items_in_parts};
 ghost use Rattle.sch_asm.specs.Narrow.{is_byte, narrow, narrow_arg, narrow_item, narrow_number, narrow_operand, narrowed};
 
 use crate::item::Item;
+use crate::item_list::ItemList;
 use sch_insn::{Arg, Insn};
-use sch_word::List;
 
 /// Whether a number fits one byte.
 fn is_byte(n: i32) -> bool
@@ -96,14 +97,31 @@ fn narrow_item(item: &mut Item)
     }
 }
 
-/// The items with each instruction in its narrow form: a displacement and a number of add, or, and, sub, xor and cmp
-/// have one byte where they fit. The list is changed in place, which takes no memory.
-pub fn narrowed(items: List<Item>) -> List<Item>
-    ensures { result ≡ narrowed items }
+// Gives each item of a part its narrow form.
+fn narrow_part(part: &mut Vec<Item>)
+    ensures { part.new.items ≡ narrowed part.old.items }
 {
-    let mut items = items.into_vec();
-    for item in items.iter_mut() {
+    for item in part.iter_mut() {
         narrow_item(item);
     }
-    List::from_vec(items)
+}
+
+// Gives each item of some parts its narrow form.
+fn narrow_parts(parts: &mut Vec<Vec<Item>>)
+    ensures { (last : List Item) → items_in_parts parts.new.items (narrowed last) ≡ narrowed (items_in_parts parts.old.items last) }
+{
+    for part in parts.iter_mut() {
+        narrow_part(part);
+    }
+}
+
+/// The items with each instruction in its narrow form: a displacement and a number of add, or, and, sub, xor and cmp
+/// have one byte where they fit. The list is changed in place, which takes no memory.
+pub fn narrowed(items: ItemList) -> ItemList
+    ensures { result ≡ narrowed items }
+{
+    let (alloc, mut earlier, mut last) = items.into_parts();
+    narrow_parts(&mut earlier);
+    narrow_part(&mut last);
+    ItemList::from_parts(alloc, earlier, last)
 }

@@ -17,6 +17,7 @@ ghost use Rattle.sch_asm.specs.Pieces.{shortest_size, skeleton};
 use crate::assembly::{Asm, Word};
 use crate::error::AsmError;
 use crate::item::{Item, Mark};
+use crate::item_list::ItemList;
 use crate::layout::{Layout, pieces_of};
 use sch_code::Text;
 use sch_insn::{Arg, Insn};
@@ -61,16 +62,8 @@ pub fn resolve(alloc: Global, a: &Asm, routines: &Asm) -> Result<Resolved, AsmEr
     };
     let mut code = Text::with_capacity(alloc, layout.bytes as usize)?;
     let mut marks = List::new(alloc);
-    // so jumps are numbers of 64 bits
-    item_count(a.items.as_slice(), routines.items.as_slice());
-    let behind = emit(a.items.as_slice(), start, &layout, &mut code, &mut marks)?;
-    emit(
-        routines.items.as_slice(),
-        behind,
-        &layout,
-        &mut code,
-        &mut marks,
-    )?;
+    let behind = emit_all(&a.items, start, &layout, &mut code, &mut marks)?;
+    emit_all(&routines.items, behind, &layout, &mut code, &mut marks)?;
     let words = word_bytes(alloc, a.words.as_slice(), &layout)?;
     Ok(Resolved {
         code,
@@ -87,9 +80,11 @@ fn lay_out(alloc: Global, a: &Asm, routines: &Asm) -> Result<Layout, AsmError>
     ensures places { IfOk result (λ layout. IsLaidOut (a.now.items ++ routines.now.items) a.now.words layout.places.items layout.longs.items) }
     ensures bytes { IfOk result (λ layout. layout.bytes ≡ shortest_size (a.now.items ++ routines.now.items)) }
     ensures fits { IfOk result (λ layout. layout.bytes ≤ max_text_size) }
+    // There is a piece for each item, and a piece takes at least 8 bytes of memory.
+    ensures few { IfOk result (λ _. length a.now.items + length routines.now.items < 2 ^ 62) }
     ensures too_large { IfErr result (IsTooLarge (shortest_size (a.now.items ++ routines.now.items))) }
 {
-    let pieces = pieces_of(alloc, a.items.as_slice(), routines.items.as_slice())?;
+    let pieces = pieces_of(alloc, &a.items, &routines.items)?;
     let forms = choose(alloc, &pieces, TEXT_ADDRESS as u32)?;
     let bytes = forms.end - TEXT_ADDRESS;
     if bytes > MAX_TEXT_SIZE {
@@ -260,11 +255,33 @@ fn emit(
     Ok(spot)
 }
 
-// How many items two lists have. An item takes at least 16 bytes of memory, so there are fewer than 2^60.
-fn item_count(items: &[Item], routines: &[Item]) -> usize
-    ensures { length items.now + length routines.now < 2 ^ 62 }
+// Puts out the instructions and marks of a list of items from a place on, one part after the other, and gives the place behind
+// them.
+fn emit_all(
+    items: &ItemList,
+    from: Spot,
+    layout: &Layout,
+    code: &mut Text,
+    marks: &mut List<Mark>,
+) -> Result<Spot, Mem>
+    requires sound { AreItems items.now }
+    requires uses { UseBelow (length layout.now.places.items) items.now }
+    requires few { from.jumps + length items.now < 2 ^ 63 }
+    requires short { from.at + size_from (set_of layout.now.longs.items) from.jumps items.now < 2 ^ 30 }
+    requires reach { ReachFrom (slice_index layout.now.places.items) (set_of layout.now.longs.items) from.jumps from.at items.now }
+    ensures code { OnOk result (code.new ≡ code.old
+        ++ emitted_from (slice_index layout.now.places.items) (set_of layout.now.longs.items) from.jumps from.at items.now) }
+    ensures marks { OnOk result (marks.new ≡ marks.old
+        ++ marked_from (set_of layout.now.longs.items) from.jumps from.at items.now) }
+    ensures end { IfOk result (λ end. end.at ≡ from.at + size_from (set_of layout.now.longs.items) from.jumps items.now) }
+    ensures jumps { IfOk result (λ end. end.jumps ≡ from.jumps + jumps_in items.now) }
 {
-    items.len() + routines.len()
+    let (earlier, last) = items.parts();
+    let mut spot = from;
+    for part in earlier {
+        spot = emit(part.as_slice(), spot, layout, code, marks)?;
+    }
+    emit(last, spot, layout, code, marks)
 }
 
 // A word's value.

@@ -1,6 +1,6 @@
 //! The items of the run-time routines, made.
 
-ghost use Rattle.std.specs.Prelude.{◌≡◌, ◌<◌, ◌≤◌, ◌%◌, [], ◌∷◌, ◌++◌, true, IfOk, IsTrue, OnOk};
+ghost use Rattle.std.specs.Prelude.{◌≡◌, ◌<◌, ◌≤◌, ◌%◌, ◌∷◌, ◌++◌, true, IfOk, IsTrue, OnOk};
 ghost use Rattle.std.specs.List.{list_all};
 ghost use Rattle.sch_asm.specs.declared.item.Item.TheVariants as item;
 ghost use Rattle.sch_asm.specs.Items.{AreRoutines};
@@ -20,7 +20,7 @@ use crate::new_list::rest_routine;
 use crate::new_string::string_routine;
 use crate::new_vector::vector_routine;
 use crate::put_value::put_routine;
-use sch_asm::{Asm, FIRST_INNER_LABEL, Item, Routine, narrowed};
+use sch_asm::{Asm, FIRST_INNER_LABEL, Item, ItemList, Routine, narrowed};
 use sch_insn::condition::{E, GE, LE, NE};
 use sch_insn::system_call::{STDOUT, SYS_EXIT, SYS_WRITE};
 use sch_insn::{Arg, Insn};
@@ -95,7 +95,7 @@ pub fn routines(alloc: Global, heap_end: u32) -> Result<Asm, Mem>
 }
 
 // The items of all routines.
-fn all_items(alloc: Global, heap_end: u32) -> Result<List<Item>, Mem>
+fn all_items(alloc: Global, heap_end: u32) -> Result<ItemList, Mem>
     requires { heap_end ≤ max_heap_end }
     ensures { IfOk result (λ items. items ≡ all_routines heap_end) }
 {
@@ -106,17 +106,17 @@ fn all_items(alloc: Global, heap_end: u32) -> Result<List<Item>, Mem>
 }
 
 // The items of those that know how values are in the machine: each instruction has its shortest form.
-fn value_items(alloc: Global, heap_end: u32) -> Result<List<Item>, Mem>
+fn value_items(alloc: Global, heap_end: u32) -> Result<ItemList, Mem>
     requires { heap_end ≤ max_heap_end }
     ensures { IfOk result (λ items. items ≡ narrowed (value_code heap_end)) }
 {
-    let mut items = List::new(alloc);
+    let mut items = ItemList::new(alloc);
     value_routines(&mut items, heap_end)?;
     Ok(narrowed(items))
 }
 
 // The routines that know how values are in the machine, one behind the other. They name where the heap ends.
-fn value_routines(items: &mut List<Item>, heap_end: u32) -> Result<(), Mem>
+fn value_routines(items: &mut ItemList, heap_end: u32) -> Result<(), Mem>
     requires { heap_end ≤ max_heap_end }
     ensures { OnOk result (items.new ≡ items.old ++ value_code heap_end) }
 {

@@ -8,13 +8,13 @@ ghost use Rattle.sch_asm.specs.declared.item.Item.TheVariants as item;
 ghost use Rattle.sch_select_memory.specs.RestCode.{check_pairs, first_code, first_in_slot, first_slot_code, firsts_code, later_registers};
 ghost use Rattle.sch_select_memory.specs.RestCode.{list_label, more_code, registers_code, rest_routine, slot_address, slots_code};
 
-use sch_asm::Item;
+use sch_asm::{Item, ItemList};
 use sch_insn::condition::{A, E, NE};
 use sch_insn::{Arg, Insn};
 use sch_select_memory::addresses::{DATA_OFFSET, FIRST_IN_SLOT, heap_offset, list_label, stop};
 use sch_select_memory::word::{NIL, PAIR, PAIR_BYTES, UNIT_SHIFT};
 use sch_word::registers::{R11, RAX, RCX, RDX};
-use sch_word::{ARGUMENT_REGISTERS, FRAME_REGISTER, HEAP_REGISTER, List, Mem, Stop};
+use sch_word::{ARGUMENT_REGISTERS, FRAME_REGISTER, HEAP_REGISTER, Mem, Stop};
 
 // The labels inside the routine, most of them numbered by the operands in front.
 const REST_LABEL: u32 = 81;
@@ -28,7 +28,7 @@ const LOOP_LABEL: u32 = 102;
 const DONE_LABEL: u32 = 103;
 
 /// The heap has a pair for each operand that is left.
-fn check_list(out: &mut List<Item>, heap_end: u32) -> Result<(), Mem>
+fn check_list(out: &mut ItemList, heap_end: u32) -> Result<(), Mem>
     requires { heap_end ≤ max_heap_end }
     ensures { OnOk result ((rest : List Item) → out.new ++ rest ≡ out.old ++ check_pairs heap_end rest) }
 {
@@ -44,7 +44,7 @@ fn check_list(out: &mut List<Item>, heap_end: u32) -> Result<(), Mem>
 }
 
 /// The first operand is in a register, which then has the list.
-fn first_register(out: &mut List<Item>, m: u32, r: u8) -> Result<(), Mem>
+fn first_register(out: &mut ItemList, m: u32, r: u8) -> Result<(), Mem>
     requires few { m < first_in_slot }
     ensures { OnOk result ((rest : List Item) → out.new ++ rest ≡ out.old ++ first_code m r rest) }
 {
@@ -63,7 +63,7 @@ fn first_register(out: &mut List<Item>, m: u32, r: u8) -> Result<(), Mem>
 }
 
 /// The same, with the room of the heap looked at.
-fn first_list(out: &mut List<Item>, heap_end: u32, m: u32, r: u8) -> Result<(), Mem>
+fn first_list(out: &mut ItemList, heap_end: u32, m: u32, r: u8) -> Result<(), Mem>
     requires low { heap_end ≤ max_heap_end }
     requires few { m < first_in_slot }
     ensures { OnOk result ((rest : List Item) → out.new ++ rest
@@ -75,7 +75,7 @@ fn first_list(out: &mut List<Item>, heap_end: u32, m: u32, r: u8) -> Result<(), 
 }
 
 /// The ways into the routine with the first operand in a register, one for each of them.
-fn first_lists(out: &mut List<Item>, heap_end: u32) -> Result<(), Mem>
+fn first_lists(out: &mut ItemList, heap_end: u32) -> Result<(), Mem>
     requires { heap_end ≤ max_heap_end }
     ensures { OnOk result ((rest : List Item) → out.new ++ rest ≡ out.old ++ firsts_code heap_end 0 argument_registers rest) }
 {
@@ -86,7 +86,7 @@ fn first_lists(out: &mut List<Item>, heap_end: u32) -> Result<(), Mem>
 }
 
 /// The way into the routine with all operands in slots: RCX has the address of the first one.
-fn enter_slots(out: &mut List<Item>) -> Result<(), Mem>
+fn enter_slots(out: &mut ItemList) -> Result<(), Mem>
     ensures { OnOk result ((rest : List Item) → out.new ++ rest
         ≡ out.old ++ item.Label (list_label first_in_slot) ∷ slot_address rest) }
 {
@@ -97,7 +97,7 @@ fn enter_slots(out: &mut List<Item>) -> Result<(), Mem>
 }
 
 /// The first operand is in a slot, which then has the list.
-fn first_slot(out: &mut List<Item>) -> Result<(), Mem>
+fn first_slot(out: &mut ItemList) -> Result<(), Mem>
     ensures { OnOk result ((rest : List Item) → out.new ++ rest ≡ out.old ++ first_slot_code rest) }
 {
     out.extend_from_slice(&[
@@ -118,7 +118,7 @@ fn first_slot(out: &mut List<Item>) -> Result<(), Mem>
 }
 
 /// A pair is linked to the next one, for an operand in a register.
-fn more(out: &mut List<Item>, m: u32, r: u8) -> Result<(), Mem>
+fn more(out: &mut ItemList, m: u32, r: u8) -> Result<(), Mem>
     requires few { m < first_in_slot }
     ensures { OnOk result ((rest : List Item) → out.new ++ rest ≡ out.old ++ more_code m r rest) }
 {
@@ -135,7 +135,7 @@ fn more(out: &mut List<Item>, m: u32, r: u8) -> Result<(), Mem>
 }
 
 /// The operands in registers, but for the first.
-fn mores(out: &mut List<Item>) -> Result<(), Mem>
+fn mores(out: &mut ItemList) -> Result<(), Mem>
     ensures { OnOk result ((rest : List Item) → out.new ++ rest ≡ out.old ++ registers_code 1 later_registers rest) }
 {
     for m in 1..FIRST_IN_SLOT {
@@ -145,7 +145,7 @@ fn mores(out: &mut List<Item>) -> Result<(), Mem>
 }
 
 /// The operands in slots, and the end of the list.
-fn slots(out: &mut List<Item>) -> Result<(), Mem>
+fn slots(out: &mut ItemList) -> Result<(), Mem>
     ensures { OnOk result ((rest : List Item) → out.new ++ rest ≡ out.old ++ slots_code rest) }
 {
     out.extend_from_slice(&[
@@ -170,7 +170,7 @@ fn slots(out: &mut List<Item>) -> Result<(), Mem>
 }
 
 /// The routine that makes the list of the operands that are left over. It returns through R11.
-pub(crate) fn rest_routine(out: &mut List<Item>, heap_end: u32) -> Result<(), Mem>
+pub(crate) fn rest_routine(out: &mut ItemList, heap_end: u32) -> Result<(), Mem>
     requires { heap_end ≤ max_heap_end }
     ensures { OnOk result ((rest : List Item) → out.new ++ rest ≡ out.old ++ rest_routine heap_end rest) }
 {

@@ -7,7 +7,7 @@ ghost use Rattle.sch_asm.specs.declared.item.Item.TheVariants as item;
 ghost use Rattle.sch_select_memory.specs.MakeCode.{check_filling, make_string_code};
 
 use crate::new_vector::check_room;
-use sch_asm::{Item, Routine};
+use sch_asm::{Item, ItemList, Routine};
 use sch_insn::condition::{L, NE};
 use sch_insn::{Arg, Insn};
 use sch_select_memory::addresses::stop;
@@ -15,10 +15,10 @@ use sch_select_memory::word::{
     BYTE_MASK, CHARACTER, CHARACTER_SHIFT, FIXNUM_SHIFT, ROUNDING, TAG_MASK, UNIT_SHIFT,
 };
 use sch_word::registers::{RAX, RCX, RDX};
-use sch_word::{HEAP_REGISTER, List, Mem, Stop};
+use sch_word::{HEAP_REGISTER, Mem, Stop};
 
 /// RAX has a length and RCX a character, or the program stops.
-fn check_filling(out: &mut List<Item>) -> Result<(), Mem>
+fn check_filling(out: &mut ItemList) -> Result<(), Mem>
     ensures { OnOk result ((rest : List Item) → out.new ++ rest ≡ out.old ++ check_filling rest) }
 {
     out.extend_from_slice(&[
@@ -35,7 +35,7 @@ fn check_filling(out: &mut List<Item>) -> Result<(), Mem>
 }
 
 /// The routine that makes a string, but for its tag. It returns through R11.
-pub(crate) fn string_routine(out: &mut List<Item>, heap_end: u32) -> Result<(), Mem>
+pub(crate) fn string_routine(out: &mut ItemList, heap_end: u32) -> Result<(), Mem>
     requires { heap_end ≤ max_heap_end }
     ensures { OnOk result ((rest : List Item) → out.new ++ rest ≡ out.old ++ item.Label string_label ∷ make_string_code heap_end rest) }
 {

@@ -8,16 +8,16 @@ ghost use Rattle.sch_asm.specs.declared.item.Item.TheVariants as item;
 ghost use Rattle.sch_select_memory.specs.Checks.{check_fixnum};
 ghost use Rattle.sch_select_memory.specs.MakeCode.{check_length, check_room, make_vector_code};
 
-use sch_asm::{Item, Routine};
+use sch_asm::{Item, ItemList, Routine};
 use sch_insn::condition::{A, L, NE};
 use sch_insn::{Arg, Insn};
 use sch_select_memory::addresses::{DATA_OFFSET, heap_offset, stop};
 use sch_select_memory::word::{FIXNUM_SHIFT, ROUNDING, TAG_MASK, UNIT_SHIFT};
 use sch_word::registers::{RAX, RDX};
-use sch_word::{HEAP_REGISTER, List, Mem, Stop};
+use sch_word::{HEAP_REGISTER, Mem, Stop};
 
 /// The heap has as many bytes left as RDX says, or stop 71.
-pub(crate) fn check_room(out: &mut List<Item>, heap_end: u32) -> Result<(), Mem>
+pub(crate) fn check_room(out: &mut ItemList, heap_end: u32) -> Result<(), Mem>
     requires { heap_end ≤ max_heap_end }
     ensures { OnOk result ((rest : List Item) → out.new ++ rest ≡ out.old ++ check_room heap_end rest) }
 {
@@ -31,7 +31,7 @@ pub(crate) fn check_room(out: &mut List<Item>, heap_end: u32) -> Result<(), Mem>
 }
 
 /// RAX has a number that is not negative, or the program stops.
-fn check_length(out: &mut List<Item>) -> Result<(), Mem>
+fn check_length(out: &mut ItemList) -> Result<(), Mem>
     ensures { OnOk result ((rest : List Item) → out.new ++ rest ≡ out.old ++ check_fixnum RAX (check_length rest)) }
 {
     out.extend_from_slice(&[
@@ -44,7 +44,7 @@ fn check_length(out: &mut List<Item>) -> Result<(), Mem>
 }
 
 /// The routine that makes a vector, but for its tag. It returns through R11.
-pub(crate) fn vector_routine(out: &mut List<Item>, heap_end: u32) -> Result<(), Mem>
+pub(crate) fn vector_routine(out: &mut ItemList, heap_end: u32) -> Result<(), Mem>
     requires { heap_end ≤ max_heap_end }
     ensures { OnOk result ((rest : List Item) → out.new ++ rest ≡ out.old ++ item.Label vector_label ∷ make_vector_code heap_end rest) }
 {

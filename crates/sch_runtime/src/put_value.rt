@@ -5,7 +5,7 @@ ghost use Rattle.sch_asm.specs.declared.item.Item.TheVariants as item;
 ghost use Rattle.sch_select_memory.specs.PutCode.{immediate_put, objects_put, put_value_code, texts_code};
 ghost use Rattle.sch_select_memory.specs.Addresses.{put_label};
 
-use sch_asm::{Item, Routine};
+use sch_asm::{Item, ItemList, Routine};
 use sch_insn::condition::{E, NE};
 use sch_insn::{Arg, Insn};
 use sch_select_memory::addresses::{
@@ -17,7 +17,7 @@ use sch_select_memory::word::{
     SYMBOL, TAG_MASK, TRUE, VECTOR,
 };
 use sch_word::registers::{RAX, RDX};
-use sch_word::{List, Mem, Stop};
+use sch_word::{Mem, Stop};
 
 // The labels inside the routine.
 const NO_CHARACTER: u32 = 74;
@@ -135,7 +135,7 @@ fn put_objects() -> [Item; 12]
 }
 
 /// The routine that puts any value, whose word is in RAX. It returns through R11.
-pub(crate) fn put_routine(items: &mut List<Item>) -> Result<(), Mem>
+pub(crate) fn put_routine(items: &mut ItemList) -> Result<(), Mem>
     ensures { OnOk result (items.new ≡ items.old ++ (item.Label put_label ∷ put_value_code)) }
 {
     items.extend_from_slice(&put_tags())?;

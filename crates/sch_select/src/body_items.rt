@@ -15,7 +15,7 @@ ghost use Rattle.sch_select_memory.specs.Reach.{is_reached_place};
 ghost use Rattle.sch_select.specs.Reach.{is_reached_code, is_reached_entry, is_reached_instruction, names_below};
 ghost use Rattle.sch_select.specs.Program.{count_code, entry_code, form_code, forms_code, labels_end, own_labels, passed_code};
 
-use sch_asm::Item;
+use sch_asm::{Item, ItemList};
 use sch_control::{Entry, Operand, Operation};
 use sch_frames::{FrameBody, Instruction};
 use sch_insn::condition::E;
@@ -25,7 +25,7 @@ use sch_select_memory::enter_rest;
 use sch_select_memory::word::FALSE;
 use sch_select_operations::{call, check_count, group, operation, tail_call};
 use sch_word::registers::RAX;
-use sch_word::{LINK_REGISTER, List, MarkKind, Mem, Place};
+use sch_word::{LINK_REGISTER, MarkKind, Mem, Place};
 
 /// Where the labels of a body are, its own from `base` on, and `end` behind it; how many words a frame has; where
 /// the heap ends; and how many literals there are.
@@ -52,7 +52,7 @@ fn copy(to: Place, from: Place) -> Insn
 }
 
 /// What RAX has into a place.
-fn store(out: &mut List<Item>, p: Place) -> Result<(), Mem>
+fn store(out: &mut ItemList, p: Place) -> Result<(), Mem>
     requires { IsTrue (is_reached_place p) }
     ensures { OnOk result ((rest : List Item) → out.new ++ rest ≡ out.old ++ Plain (MovTo (place_operand p) RAX) ∷ rest) }
 {
@@ -60,7 +60,7 @@ fn store(out: &mut List<Item>, p: Place) -> Result<(), Mem>
 }
 
 /// One instruction, whose own labels are from n on.
-fn instruction(out: &mut List<Item>, labels: Labels, n: u32, i: &Instruction) -> Result<(), Mem>
+fn instruction(out: &mut ItemList, labels: Labels, n: u32, i: &Instruction) -> Result<(), Mem>
     requires words { labels.words ≤ max_words }
     requires low { labels.heap_end ≤ max_heap_end }
     requires reached { IsTrue (is_reached_instruction i.now) }
@@ -126,7 +126,7 @@ fn labels_needed(i: &Instruction) -> u32
 
 /// The instructions of a body, each with the labels that it needs, from n on, and the number behind these.
 fn body(
-    out: &mut List<Item>,
+    out: &mut ItemList,
     labels: Labels,
     n: u32,
     instructions: &[Instruction],
@@ -149,7 +149,7 @@ fn body(
 }
 
 /// A procedure's body is jumped over.
-fn passed(out: &mut List<Item>, entry: &Option<Entry>, end: u32) -> Result<(), Mem>
+fn passed(out: &mut ItemList, entry: &Option<Entry>, end: u32) -> Result<(), Mem>
     ensures { OnOk result ((rest : List Item) → out.new ++ rest ≡ out.old ++ passed_code entry.now end rest) }
 {
     match entry {
@@ -167,7 +167,7 @@ pub(crate) struct Frames {
 }
 
 /// The operands are as many as the formals; or those that are left over become a list, for which the label is.
-fn check_operands(out: &mut List<Item>, rest: bool, formals: u32, n: u32) -> Result<(), Mem>
+fn check_operands(out: &mut ItemList, rest: bool, formals: u32, n: u32) -> Result<(), Mem>
     requires { formals ≤ max_operands }
     ensures { OnOk result ((behind : List Item) → out.new ++ behind ≡ out.old ++ count_code rest formals n behind) }
 {
@@ -179,7 +179,7 @@ fn check_operands(out: &mut List<Item>, rest: bool, formals: u32, n: u32) -> Res
 }
 
 /// A procedure's body begins with a check of its operands' count.
-fn check_entry(out: &mut List<Item>, entry: &Option<Entry>, n: u32) -> Result<(), Mem>
+fn check_entry(out: &mut ItemList, entry: &Option<Entry>, n: u32) -> Result<(), Mem>
     requires { IsTrue (is_reached_entry entry.now) }
     ensures { OnOk result ((rest : List Item) → out.new ++ rest ≡ out.old ++ entry_code entry.now n rest) }
 {
@@ -190,7 +190,7 @@ fn check_entry(out: &mut List<Item>, entry: &Option<Entry>, n: u32) -> Result<()
 }
 
 /// The body of a label, with labels of its own from n on, and the number behind these.
-fn form(out: &mut List<Item>, frames: Frames, label: u32, n: u32, b: &FrameBody) -> Result<u32, Mem>
+fn form(out: &mut ItemList, frames: Frames, label: u32, n: u32, b: &FrameBody) -> Result<u32, Mem>
     requires words { frames.words ≤ max_words }
     requires low { frames.heap_end ≤ max_heap_end }
     requires reached { IsTrue (is_reached_code (code_of b.now)) }
@@ -219,7 +219,7 @@ fn form(out: &mut List<Item>, frames: Frames, label: u32, n: u32, b: &FrameBody)
 
 /// The bodies, in their order, with labels of their own from n on.
 pub(crate) fn forms(
-    out: &mut List<Item>,
+    out: &mut ItemList,
     frames: Frames,
     n: u32,
     bodies: &[FrameBody],

@@ -1,7 +1,7 @@
 //! A frame program's items and data: `select`.
 
 ghost use Rattle.std.specs.Prelude.{◌≡◌, ◌+◌, ◌*◌, ◌^◌, ◌<◌, ◌≤◌, ◌++◌, [], ◌∷◌, false, true, IfOk, IsTrue, OnOk, length};
-ghost use Rattle.std.specs.List.{list_all, sum_by};
+ghost use Rattle.std.specs.List.{list_all};
 ghost use Rattle.sch_word.specs.runs.ProgramLayout.{data_address, max_data_size};
 ghost use Rattle.sch_word.specs.declared.limits.TheConstants.{MAX_DEPTH};
 ghost use Rattle.sch_word.specs.runs.Runs.{max_statics};
@@ -31,17 +31,13 @@ ghost use Rattle.sch_select.specs.SlotAddress.{overwrites_slot};
 ghost use Rattle.sch_select.specs.Sizes.{kinds_in, kinds_of, steps_size};
 
 use crate::body_items::{Frames, forms};
-use sch_asm::{Asm, Item, Routine, narrowed};
+use sch_asm::{Asm, Item, ItemList, Routine, narrowed};
 use sch_frames::{FrameBody, FrameProgram};
 use sch_insn::Insn;
 use sch_select_data::{lay_out, literal_words, words_of};
 use sch_select_memory::addresses::body_label;
-use sch_word::{DEPTH_REGISTER, FRAME_REGISTER, HEAP_REGISTER, Limits, List, Mem};
+use sch_word::{DEPTH_REGISTER, FRAME_REGISTER, HEAP_REGISTER, Limits, Mem};
 use std::alloc::Global;
-
-/// About how many items an instruction of a frame body takes, with its share of the body's labels: three and a half where a form
-/// calls a procedure.
-const ITEMS_OF_INSTRUCTION: usize = 4;
 
 /// The bytes of the stack.
 fn stack_of(words: u32, depth: u64) -> u64
@@ -72,12 +68,7 @@ struct Ends {
 }
 
 /// The bodies, with labels of their own from n on, and a jump to the end behind them.
-fn put_bodies(
-    items: &mut List<Item>,
-    frames: Frames,
-    n: u32,
-    bodies: &[FrameBody],
-) -> Result<(), Mem>
+fn put_bodies(items: &mut ItemList, frames: Frames, n: u32, bodies: &[FrameBody]) -> Result<(), Mem>
     requires words { frames.words ≤ max_words }
     requires low { frames.heap_end ≤ max_heap_end }
     requires reached { IsTrue (list_all is_reached_code (codes_of bodies.now)) }
@@ -90,20 +81,8 @@ fn put_bodies(
     items.push(Item::Jump(Routine::End.label()))
 }
 
-/// About how many items some bodies take: the room that their list asks for at once, so that it, the longest of all, need not move as
-/// it grows. Another number would cost time or memory, and change no item.
-fn likely_count(bodies: &[FrameBody]) -> usize
-    ensures { result ≤ 4 * sum_by (λ b. length b.instructions) bodies.now }
-{
-    let mut count = 0usize;
-    for b in bodies {
-        count = count.saturating_add(b.instructions.len());
-    }
-    count.saturating_mul(ITEMS_OF_INSTRUCTION)
-}
-
 /// What the instructions of a program are selected to, whose heap and stack begin so.
-fn selected_items(alloc: Global, p: &FrameProgram, ends: Ends) -> Result<List<Item>, Mem>
+fn selected_items(alloc: Global, p: &FrameProgram, ends: Ends) -> Result<ItemList, Mem>
     requires heap { ends.heap < 2 ^ 31 }
     requires stack { ends.stack ≤ max_heap_end }
     requires depth { ends.depth ≤ MAX_DEPTH }
@@ -115,7 +94,7 @@ fn selected_items(alloc: Global, p: &FrameProgram, ends: Ends) -> Result<List<It
 {
     let bodies = p.bodies.as_slice();
     let own = body_label(bodies.len() as u32);
-    let mut items = List::from_vec(Vec::with_capacity(alloc, likely_count(bodies))?);
+    let mut items = ItemList::new(alloc);
     items.extend_from_slice(&[
         Item::Plain(Insn::MovWord(FRAME_REGISTER, ends.stack as i64)),
         Item::Plain(Insn::MovWord(HEAP_REGISTER, ends.heap as i64)),
@@ -131,7 +110,7 @@ fn selected_items(alloc: Global, p: &FrameProgram, ends: Ends) -> Result<List<It
 }
 
 /// Its items: each instruction has its shortest form.
-fn items_of(alloc: Global, p: &FrameProgram, ends: Ends) -> Result<List<Item>, Mem>
+fn items_of(alloc: Global, p: &FrameProgram, ends: Ends) -> Result<ItemList, Mem>
     requires heap { ends.heap < 2 ^ 31 }
     requires stack { ends.stack ≤ max_heap_end }
     requires depth { ends.depth ≤ MAX_DEPTH }

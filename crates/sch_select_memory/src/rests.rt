@@ -6,14 +6,14 @@ ghost use Rattle.sch_asm.specs.declared.item.Item.{Item};
 ghost use Rattle.sch_select_memory.specs.RestCode.{check_enough, first_in_slot, list_code, rest_entry};
 
 use crate::addresses::{FIRST_IN_SLOT, immediate, list_label, slot_bytes, stop};
-use sch_asm::Item;
+use sch_asm::{Item, ItemList};
 use sch_insn::condition::B;
 use sch_insn::{Arg, Insn};
 use sch_word::registers::{R11, RAX, RCX};
-use sch_word::{List, Mem, Stop};
+use sch_word::{Mem, Stop};
 
 /// Enough operands, or stop 68; then RAX has the number of those that are left over.
-fn check_enough(out: &mut List<Item>, required: u32) -> Result<(), Mem>
+fn check_enough(out: &mut ItemList, required: u32) -> Result<(), Mem>
     requires { required ≤ max_operands }
     ensures { OnOk result ((rest : List Item) → out.new ++ rest ≡ out.old ++ check_enough required rest) }
 {
@@ -26,7 +26,7 @@ fn check_enough(out: &mut List<Item>, required: u32) -> Result<(), Mem>
 }
 
 /// The list is made by the routine, which comes back to the label n.
-fn make_list(out: &mut List<Item>, required: u32, n: u32) -> Result<(), Mem>
+fn make_list(out: &mut ItemList, required: u32, n: u32) -> Result<(), Mem>
     requires { required ≤ max_operands }
     ensures { OnOk result ((rest : List Item) → out.new ++ rest ≡ out.old ++ list_code (nat_lt required first_in_slot) required n rest) }
 {
@@ -48,7 +48,7 @@ fn make_list(out: &mut List<Item>, required: u32, n: u32) -> Result<(), Mem>
 }
 
 /// The operands that are left over become a list, which is the last argument.
-pub fn enter_rest(out: &mut List<Item>, required: u32, n: u32) -> Result<(), Mem>
+pub fn enter_rest(out: &mut ItemList, required: u32, n: u32) -> Result<(), Mem>
     requires { required ≤ max_operands }
     ensures { OnOk result ((rest : List Item) → out.new ++ rest ≡ out.old ++ rest_entry required n rest) }
 {

@@ -8,7 +8,7 @@ ghost use Rattle.sch_select_operations.specs.OperandCode.{binary_code, unary_cod
 ghost use Rattle.sch_select_memory.specs.Checks.{boolean_code, check_fixnum, overflow_code, test_code};
 ghost use Rattle.sch_select_operations.specs.ArithmeticCode.{compare_code, comparison_code, division_code, modulo_code};
 
-use sch_asm::Item;
+use sch_asm::{Item, ItemList};
 use sch_insn::condition::{A, E, GE, L, NE, O};
 use sch_insn::{Arg, Insn};
 use sch_select_memory::addresses::stop;
@@ -16,7 +16,7 @@ use sch_select_memory::word::{
     BYTE_MASK, CHARACTER, CHARACTER_SHIFT, FALSE, FIXNUM_SHIFT, TAG_MASK, TRUE,
 };
 use sch_word::registers::{RAX, RCX, RDX};
-use sch_word::{List, Mem, Stop};
+use sch_word::{Mem, Stop};
 
 /// The word of 255, the greatest number that is a character's.
 const MAX_BYTE_WORD: i32 = 8 * 255;
@@ -45,7 +45,7 @@ fn boolean(n: u32, condition: u8) -> [Item; 4]
 }
 
 /// Whether the low bits of RAX are these.
-pub(crate) fn test(out: &mut List<Item>, n: u32, mask: i32, tag: i32) -> Result<(), Mem>
+pub(crate) fn test(out: &mut ItemList, n: u32, mask: i32, tag: i32) -> Result<(), Mem>
     requires mask { IsTrue (int_le (pos 0) mask) }
     requires tag { IsTrue (int_le (pos 0) tag) }
     ensures { OnOk result ((rest : List Item) → out.new ++ rest ≡ out.old ++ test_code n (nat_abs mask) (nat_abs tag) rest) }
@@ -59,7 +59,7 @@ pub(crate) fn test(out: &mut List<Item>, n: u32, mask: i32, tag: i32) -> Result<
 }
 
 /// RAX and RCX are compared.
-pub(crate) fn compare(out: &mut List<Item>, n: u32, condition: u8) -> Result<(), Mem>
+pub(crate) fn compare(out: &mut ItemList, n: u32, condition: u8) -> Result<(), Mem>
     ensures { OnOk result ((rest : List Item) → out.new ++ rest ≡ out.old ++ compare_code n condition rest) }
 {
     out.push(Item::Plain(Insn::CmpTo(Arg::Reg(RAX), RCX)))?;
@@ -67,7 +67,7 @@ pub(crate) fn compare(out: &mut List<Item>, n: u32, condition: u8) -> Result<(),
 }
 
 /// RAX and RCX have fixnums, or stop 65.
-fn check_both(out: &mut List<Item>) -> Result<(), Mem>
+fn check_both(out: &mut ItemList) -> Result<(), Mem>
     ensures { OnOk result ((rest : List Item) → out.new ++ rest ≡ out.old ++ check_fixnum RAX (check_fixnum RCX rest)) }
 {
     out.extend_from_slice(&check(RAX))?;
@@ -75,7 +75,7 @@ fn check_both(out: &mut List<Item>) -> Result<(), Mem>
 }
 
 /// Two fixnums are compared.
-pub(crate) fn comparison(out: &mut List<Item>, n: u32, condition: u8) -> Result<(), Mem>
+pub(crate) fn comparison(out: &mut ItemList, n: u32, condition: u8) -> Result<(), Mem>
     ensures { OnOk result ((rest : List Item) → out.new ++ rest ≡ out.old ++ comparison_code n condition rest) }
 {
     check_both(out)?;
@@ -83,7 +83,7 @@ pub(crate) fn comparison(out: &mut List<Item>, n: u32, condition: u8) -> Result<
 }
 
 /// What computes a fixnum from two, with its overflow.
-pub(crate) fn arithmetic(out: &mut List<Item>, insns: &[Item]) -> Result<(), Mem>
+pub(crate) fn arithmetic(out: &mut ItemList, insns: &[Item]) -> Result<(), Mem>
     ensures { OnOk result ((rest : List Item) → out.new ++ rest
         ≡ out.old ++ check_fixnum RAX (check_fixnum RCX (insns.now ++ overflow_code rest))) }
 {
@@ -93,7 +93,7 @@ pub(crate) fn arithmetic(out: &mut List<Item>, insns: &[Item]) -> Result<(), Mem
 }
 
 /// The quotient into RAX and the remainder into RDX, or stop 69.
-fn division(out: &mut List<Item>) -> Result<(), Mem>
+fn division(out: &mut ItemList) -> Result<(), Mem>
     ensures { OnOk result ((rest : List Item) → out.new ++ rest ≡ out.old ++ division_code rest) }
 {
     check_both(out)?;
@@ -128,7 +128,7 @@ fn adjusted(n: u32) -> [Item; 12]
     ]
 }
 
-pub(crate) fn modulo(out: &mut List<Item>, n: u32) -> Result<(), Mem>
+pub(crate) fn modulo(out: &mut ItemList, n: u32) -> Result<(), Mem>
     requires { n + 4 ≤ 2 ^ 32 }
     ensures { OnOk result ((rest : List Item) → out.new ++ rest ≡ out.old ++ modulo_code n rest) }
 {
@@ -136,7 +136,7 @@ pub(crate) fn modulo(out: &mut List<Item>, n: u32) -> Result<(), Mem>
 }
 
 /// A character becomes its number.
-pub(crate) fn character_number(out: &mut List<Item>) -> Result<(), Mem>
+pub(crate) fn character_number(out: &mut ItemList) -> Result<(), Mem>
     ensures { OnOk result ((rest : List Item) → out.new ++ rest ≡ out.old ++ unary_code 0 CharToInteger rest) }
 {
     out.extend_from_slice(&[
@@ -150,7 +150,7 @@ pub(crate) fn character_number(out: &mut List<Item>) -> Result<(), Mem>
 }
 
 /// A number from 0 to 255 becomes its character.
-pub(crate) fn number_character(out: &mut List<Item>) -> Result<(), Mem>
+pub(crate) fn number_character(out: &mut ItemList) -> Result<(), Mem>
     ensures { OnOk result ((rest : List Item) → out.new ++ rest ≡ out.old ++ unary_code 0 IntegerToChar rest) }
 {
     out.extend_from_slice(&check(RAX))?;
@@ -163,7 +163,7 @@ pub(crate) fn number_character(out: &mut List<Item>) -> Result<(), Mem>
 }
 
 /// A quotient, or stop 69 or 70.
-pub(crate) fn quotient(out: &mut List<Item>) -> Result<(), Mem>
+pub(crate) fn quotient(out: &mut ItemList) -> Result<(), Mem>
     ensures { OnOk result ((rest : List Item) → out.new ++ rest ≡ out.old ++ binary_code 0 Quotient rest) }
 {
     division(out)?;
@@ -175,7 +175,7 @@ pub(crate) fn quotient(out: &mut List<Item>) -> Result<(), Mem>
 }
 
 /// A remainder, or stop 69.
-pub(crate) fn remainder(out: &mut List<Item>) -> Result<(), Mem>
+pub(crate) fn remainder(out: &mut ItemList) -> Result<(), Mem>
     ensures { OnOk result ((rest : List Item) → out.new ++ rest ≡ out.old ++ binary_code 0 Remainder rest) }
 {
     division(out)?;
@@ -183,7 +183,7 @@ pub(crate) fn remainder(out: &mut List<Item>) -> Result<(), Mem>
 }
 
 /// A product, or stop 70.
-pub(crate) fn product(out: &mut List<Item>) -> Result<(), Mem>
+pub(crate) fn product(out: &mut ItemList) -> Result<(), Mem>
     ensures { OnOk result ((rest : List Item) → out.new ++ rest ≡ out.old ++ binary_code 0 Multiply rest) }
 {
     arithmetic(

@@ -7,13 +7,13 @@ ghost use Rattle.sch_select_operations.specs.CallCode.{tail_code};
 ghost use Rattle.sch_frames.specs.Valid.{max_words};
 ghost use Rattle.sch_word.specs.trees.Shape.{max_operands};
 
-use sch_asm::Item;
+use sch_asm::{Item, ItemList};
 use sch_insn::condition::{E, NE};
 use sch_insn::{Arg, Insn};
 use sch_select_memory::addresses::{immediate, slot_bytes, stop};
 use sch_select_memory::word::{PROCEDURE, TAG_MASK};
 use sch_word::registers::{RAX, RCX, RDX};
-use sch_word::{CLOSURE_REGISTER, DEPTH_REGISTER, FRAME_REGISTER, LINK_REGISTER, List, Mem, Stop};
+use sch_word::{CLOSURE_REGISTER, DEPTH_REGISTER, FRAME_REGISTER, LINK_REGISTER, Mem, Stop};
 
 /// The address of the code of the procedure in the register of the closure: the first word of its record.
 const CODE_ADDRESS: Arg = Arg::Base32(CLOSURE_REGISTER, -PROCEDURE);
@@ -41,7 +41,7 @@ fn depth_check() -> [Item; 2]
 }
 
 /// The procedure in the register of the closure is entered with a number of operands.
-fn enter(out: &mut List<Item>, count: u32) -> Result<(), Mem>
+fn enter(out: &mut ItemList, count: u32) -> Result<(), Mem>
     requires { count ≤ max_operands }
     ensures { OnOk result ((rest : List Item) → out.new ++ rest ≡ out.old ++ enter_code count rest) }
 {
@@ -54,7 +54,7 @@ fn enter(out: &mut List<Item>, count: u32) -> Result<(), Mem>
 }
 
 /// A frame is opened behind the own one.
-fn open(out: &mut List<Item>, words: u32, n: u32) -> Result<(), Mem>
+fn open(out: &mut ItemList, words: u32, n: u32) -> Result<(), Mem>
     requires { words ≤ max_words }
     ensures { OnOk result ((rest : List Item) → out.new ++ rest ≡ out.old ++ open_code words n rest) }
 {
@@ -67,7 +67,7 @@ fn open(out: &mut List<Item>, words: u32, n: u32) -> Result<(), Mem>
 }
 
 /// It is closed where the procedure returns.
-fn close(out: &mut List<Item>, words: u32, n: u32) -> Result<(), Mem>
+fn close(out: &mut ItemList, words: u32, n: u32) -> Result<(), Mem>
     requires { words ≤ max_words }
     ensures { OnOk result ((rest : List Item) → out.new ++ rest ≡ out.old ++ close_code words n rest) }
 {
@@ -80,7 +80,7 @@ fn close(out: &mut List<Item>, words: u32, n: u32) -> Result<(), Mem>
 }
 
 /// The procedure in the register of the closure is entered in a frame of its own.
-fn enter_frame(out: &mut List<Item>, words: u32, n: u32, count: u32) -> Result<(), Mem>
+fn enter_frame(out: &mut ItemList, words: u32, n: u32, count: u32) -> Result<(), Mem>
     requires words { words ≤ max_words }
     requires few { count ≤ max_operands }
     ensures { OnOk result ((rest : List Item) → out.new ++ rest ≡ out.old ++ open_code words n (enter_code count rest)) }
@@ -90,7 +90,7 @@ fn enter_frame(out: &mut List<Item>, words: u32, n: u32, count: u32) -> Result<(
 }
 
 /// Both checks of a call that is no tail call.
-fn check_call(out: &mut List<Item>) -> Result<(), Mem>
+fn check_call(out: &mut ItemList) -> Result<(), Mem>
     ensures { OnOk result ((rest : List Item) → out.new ++ rest ≡ out.old ++ check_operator (check_depth rest)) }
 {
     out.extend_from_slice(&operator_check())?;
@@ -98,7 +98,7 @@ fn check_call(out: &mut List<Item>) -> Result<(), Mem>
 }
 
 /// A call that is no tail call, with a frame of its own. The procedure returns to the label n.
-pub fn call(out: &mut List<Item>, words: u32, n: u32, count: u32) -> Result<(), Mem>
+pub fn call(out: &mut ItemList, words: u32, n: u32, count: u32) -> Result<(), Mem>
     requires words { words ≤ max_words }
     requires few { count ≤ max_operands }
     ensures { OnOk result ((rest : List Item) → out.new ++ rest ≡ out.old ++ call_code words n count rest) }
@@ -109,7 +109,7 @@ pub fn call(out: &mut List<Item>, words: u32, n: u32, count: u32) -> Result<(), 
 }
 
 /// A tail call.
-pub fn tail_call(out: &mut List<Item>, count: u32) -> Result<(), Mem>
+pub fn tail_call(out: &mut ItemList, count: u32) -> Result<(), Mem>
     requires { count ≤ max_operands }
     ensures { OnOk result ((rest : List Item) → out.new ++ rest ≡ out.old ++ tail_code count rest) }
 {
@@ -118,7 +118,7 @@ pub fn tail_call(out: &mut List<Item>, count: u32) -> Result<(), Mem>
 }
 
 /// The operands are as many as the formals, or stop 68.
-pub fn check_count(out: &mut List<Item>, formals: u32) -> Result<(), Mem>
+pub fn check_count(out: &mut ItemList, formals: u32) -> Result<(), Mem>
     requires { formals ≤ max_operands }
     ensures { OnOk result ((rest : List Item) → out.new ++ rest ≡ out.old ++ check_count formals rest) }
 {

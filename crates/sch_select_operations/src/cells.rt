@@ -10,14 +10,14 @@ ghost use Rattle.sch_select_operations.specs.Reach.{is_reached_source};
 
 use crate::operands::atom;
 use crate::pairs::{check_heap, part};
-use sch_asm::Item;
+use sch_asm::{Item, ItemList};
 use sch_control::Source;
 use sch_insn::condition::{E, NE};
 use sch_insn::{Arg, Insn};
 use sch_select_memory::addresses::{place_operand, stop};
 use sch_select_memory::word::{CELL, PROCEDURE, TAG_MASK, UNSET, UNSPECIFIED};
 use sch_word::registers::{RAX, RCX, RDX};
-use sch_word::{HEAP_REGISTER, List, Mem, Place, Stop};
+use sch_word::{HEAP_REGISTER, Mem, Place, Stop};
 
 /// The displacement of the first field of a record, which the address of the code is before, from the word of its closure.
 const FIRST_FIELD: i32 = 8 - PROCEDURE;
@@ -40,7 +40,7 @@ fn field_operand(register: u8, k: u32) -> Arg
 }
 
 /// What a closure captures, or a cell that is read or set, into a register.
-pub(crate) fn source(out: &mut List<Item>, register: u8, x: &Source<Place>) -> Result<(), Mem>
+pub(crate) fn source(out: &mut ItemList, register: u8, x: &Source<Place>) -> Result<(), Mem>
     requires { IsTrue (is_reached_source x.now) }
     ensures { OnOk result ((rest : List Item) → out.new ++ rest ≡ out.old ++ source_code register x.now rest) }
 {
@@ -77,7 +77,7 @@ fn cell_operand(register: u8) -> Arg
 }
 
 /// Reads the cell that RAX has into RAX.
-pub(crate) fn read_cell(out: &mut List<Item>) -> Result<(), Mem>
+pub(crate) fn read_cell(out: &mut ItemList) -> Result<(), Mem>
     ensures { OnOk result ((rest : List Item) → out.new ++ rest ≡ out.old ++ read_cell_code rest) }
 {
     out.extend_from_slice(&cell_checked(RAX))?;
@@ -89,7 +89,7 @@ pub(crate) fn read_cell(out: &mut List<Item>) -> Result<(), Mem>
 }
 
 /// Sets the cell that RCX has to RAX.
-pub(crate) fn write_cell(out: &mut List<Item>) -> Result<(), Mem>
+pub(crate) fn write_cell(out: &mut ItemList) -> Result<(), Mem>
     ensures { OnOk result ((rest : List Item) → out.new ++ rest ≡ out.old ++ write_cell_code rest) }
 {
     out.extend_from_slice(&cell_checked(RCX))?;
@@ -100,7 +100,7 @@ pub(crate) fn write_cell(out: &mut List<Item>) -> Result<(), Mem>
 }
 
 /// A new cell, which has what RAX has.
-pub(crate) fn new_cell(out: &mut List<Item>, heap_end: u32) -> Result<(), Mem>
+pub(crate) fn new_cell(out: &mut ItemList, heap_end: u32) -> Result<(), Mem>
     requires { heap_end ≤ max_heap_end }
     ensures { OnOk result ((rest : List Item) → out.new ++ rest ≡ out.old ++ new_cell_code heap_end rest) }
 {
@@ -110,7 +110,7 @@ pub(crate) fn new_cell(out: &mut List<Item>, heap_end: u32) -> Result<(), Mem>
 }
 
 /// A new cell that is unset.
-pub(crate) fn unset_cell(out: &mut List<Item>, heap_end: u32) -> Result<(), Mem>
+pub(crate) fn unset_cell(out: &mut ItemList, heap_end: u32) -> Result<(), Mem>
     requires { heap_end ≤ max_heap_end }
     ensures { OnOk result ((rest : List Item) → out.new ++ rest ≡ out.old ++ unset_cell_code heap_end rest) }
 {

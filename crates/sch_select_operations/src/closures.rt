@@ -11,13 +11,13 @@ ghost use Rattle.sch_select_operations.specs.Reach.{is_reached_closure, is_reach
 
 use crate::cells::source;
 use crate::pairs::{check_heap, part};
-use sch_asm::Item;
+use sch_asm::{Item, ItemList};
 use sch_control::{Closure, Member, Source};
 use sch_insn::{Arg, Insn};
 use sch_select_memory::addresses::{body_label, immediate, part_operand, place_operand};
 use sch_select_memory::word::PROCEDURE;
 use sch_word::registers::RCX;
-use sch_word::{HEAP_REGISTER, List, MarkKind, Mem, Place};
+use sch_word::{HEAP_REGISTER, MarkKind, Mem, Place};
 
 /// The low three bits of a procedure's word.
 const PROCEDURE_TAG: u32 = PROCEDURE as u32;
@@ -32,7 +32,7 @@ fn closure_bytes(c: &Closure<Place>) -> u32
 }
 
 /// The fields of a record, from an offset on.
-fn fields(out: &mut List<Item>, offset: u32, sources: &[Source<Place>]) -> Result<(), Mem>
+fn fields(out: &mut ItemList, offset: u32, sources: &[Source<Place>]) -> Result<(), Mem>
     requires low { offset + 8 * length sources.now < 2 ^ 31 }
     requires reached { IsTrue (list_all is_reached_source sources.now) }
     ensures { OnOk result ((rest : List Item) → out.new ++ rest ≡ out.old ++ fields_code offset sources.now rest) }
@@ -47,7 +47,7 @@ fn fields(out: &mut List<Item>, offset: u32, sources: &[Source<Place>]) -> Resul
 }
 
 /// A record at an offset: the address of its code, and its fields.
-fn record(out: &mut List<Item>, offset: u32, c: &Closure<Place>) -> Result<(), Mem>
+fn record(out: &mut ItemList, offset: u32, c: &Closure<Place>) -> Result<(), Mem>
     requires low { offset ≤ max_group_bytes }
     requires reached { IsTrue (is_reached_closure c.now) }
     ensures { OnOk result ((rest : List Item) → out.new ++ rest ≡ out.old ++ record_code offset c.now rest) }
@@ -61,7 +61,7 @@ fn record(out: &mut List<Item>, offset: u32, c: &Closure<Place>) -> Result<(), M
 }
 
 /// A new closure.
-pub(crate) fn closure(out: &mut List<Item>, heap_end: u32, c: &Closure<Place>) -> Result<(), Mem>
+pub(crate) fn closure(out: &mut ItemList, heap_end: u32, c: &Closure<Place>) -> Result<(), Mem>
     requires low { heap_end ≤ max_heap_end }
     requires reached { IsTrue (is_reached_closure c.now) }
     ensures { OnOk result ((rest : List Item) → out.new ++ rest ≡ out.old ++ closure_code heap_end c.now rest) }
@@ -88,7 +88,7 @@ fn group_bytes(members: &[Member<Place>]) -> u32
 
 /// The mark of what is stored in a place, where that is a slot: it has the first of the spilled variables. Those whose marks
 /// are to come are answered.
-fn spill<'a>(out: &mut List<Item>, p: Place, spills: &'a [u32]) -> Result<&'a [u32], Mem>
+fn spill<'a>(out: &mut ItemList, p: Place, spills: &'a [u32]) -> Result<&'a [u32], Mem>
     ensures items { OnOk result ((rest : List Item) → out.new ++ rest ≡ out.old ++ spill_code p spills.now rest) }
     ensures behind { IfOk result (λ behind. behind.now ≡ spills_behind p spills.now) }
 {
@@ -104,7 +104,7 @@ fn spill<'a>(out: &mut List<Item>, p: Place, spills: &'a [u32]) -> Result<&'a [u
 /// The words of a group's closures into their places, whose records are from an offset on. What is stored in a slot stands
 /// behind the mark of a spilled variable.
 fn places(
-    out: &mut List<Item>,
+    out: &mut ItemList,
     offset: u32,
     members: &[Member<Place>],
     spills: &[u32],
@@ -130,7 +130,7 @@ fn places(
 }
 
 /// The records of a group, from an offset on.
-fn records(out: &mut List<Item>, offset: u32, members: &[Member<Place>]) -> Result<(), Mem>
+fn records(out: &mut ItemList, offset: u32, members: &[Member<Place>]) -> Result<(), Mem>
     requires low { offset + max_record_bytes * length members.now ≤ max_group_bytes }
     requires reached { IsTrue (list_all is_reached_member members.now) }
     ensures { OnOk result ((rest : List Item) → out.new ++ rest ≡ out.old ++ records_code offset members.now rest) }
@@ -146,7 +146,7 @@ fn records(out: &mut List<Item>, offset: u32, members: &[Member<Place>]) -> Resu
 /// A group of closures that know one another: all are charged, each has its word in its place, and then each
 /// has its record. What is stored in a slot stands behind the mark of the spilled variable that lives there.
 pub fn group(
-    out: &mut List<Item>,
+    out: &mut ItemList,
     heap_end: u32,
     members: &[Member<Place>],
     spills: &[u32],

@@ -6,17 +6,17 @@ ghost use Rattle.sch_select_operations.specs.Reach.{is_reached_operand};
 ghost use Rattle.sch_select_operations.specs.PrimitiveCode.{global_code, set_global_code};
 
 use crate::operands::operand;
-use sch_asm::Item;
+use sch_asm::{Item, ItemList};
 use sch_control::Operand;
 use sch_insn::condition::E;
 use sch_insn::{Arg, Insn};
 use sch_select_memory::addresses::{global_address, stop};
 use sch_select_memory::word::{UNSET, UNSPECIFIED};
 use sch_word::registers::RAX;
-use sch_word::{List, Mem, Place, Stop};
+use sch_word::{Mem, Place, Stop};
 
 /// A global into RAX, or stop 73. Its word stands behind those of a number of literals.
-pub fn global(out: &mut List<Item>, literals: u32, g: u32) -> Result<(), Mem>
+pub fn global(out: &mut ItemList, literals: u32, g: u32) -> Result<(), Mem>
     ensures { OnOk result ((rest : List Item) → out.new ++ rest ≡ out.old ++ global_code literals g rest) }
 {
     out.extend_from_slice(&[
@@ -28,7 +28,7 @@ pub fn global(out: &mut List<Item>, literals: u32, g: u32) -> Result<(), Mem>
 
 /// An operand into a global. Its labels are from n on.
 pub fn set_global(
-    out: &mut List<Item>,
+    out: &mut ItemList,
     literals: u32,
     n: u32,
     g: u32,

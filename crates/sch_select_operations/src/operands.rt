@@ -15,7 +15,7 @@ use crate::arithmetic::{
 use crate::pairs::{CAR, CDR, part_of_pair, set_part_of_pair};
 use crate::strings::{make_string, string_length, string_ref, symbol_length, symbol_ref};
 use crate::vectors::{make_vector, vector_length, vector_ref};
-use sch_asm::{Item, Routine};
+use sch_asm::{Item, ItemList, Routine};
 use sch_control::{Atom, Operand};
 use sch_insn::condition::{E, G, GE, L, LE};
 use sch_insn::{Arg, Insn};
@@ -26,10 +26,10 @@ use sch_select_memory::word::{
     TAG_MASK, UNSPECIFIED, VECTOR,
 };
 use sch_word::registers::{R11, RAX, RCX};
-use sch_word::{List, Mem, Place, Primitive};
+use sch_word::{Mem, Place, Primitive};
 
 /// An atom into a register.
-pub(crate) fn atom(out: &mut List<Item>, register: u8, a: &Atom<Place>) -> Result<(), Mem>
+pub(crate) fn atom(out: &mut ItemList, register: u8, a: &Atom<Place>) -> Result<(), Mem>
     requires { IsTrue (is_reached_atom a.now) }
     ensures { OnOk result ((rest : List Item) → out.new ++ rest ≡ out.old ++ atom_code register a.now rest) }
 {
@@ -44,7 +44,7 @@ pub(crate) fn atom(out: &mut List<Item>, register: u8, a: &Atom<Place>) -> Resul
 }
 
 /// RAX is put.
-fn put(out: &mut List<Item>, n: u32) -> Result<(), Mem>
+fn put(out: &mut ItemList, n: u32) -> Result<(), Mem>
     ensures { OnOk result ((rest : List Item) → out.new ++ rest ≡ out.old ++ put_code n rest) }
 {
     out.extend_from_slice(&[
@@ -56,7 +56,7 @@ fn put(out: &mut List<Item>, n: u32) -> Result<(), Mem>
 }
 
 /// A primitive of one operand, in RAX.
-pub(crate) fn unary(out: &mut List<Item>, n: u32, which: Primitive) -> Result<(), Mem>
+pub(crate) fn unary(out: &mut ItemList, n: u32, which: Primitive) -> Result<(), Mem>
     ensures { OnOk result ((rest : List Item) → out.new ++ rest ≡ out.old ++ unary_code n which rest) }
 {
     match which {
@@ -82,7 +82,7 @@ pub(crate) fn unary(out: &mut List<Item>, n: u32, which: Primitive) -> Result<()
 }
 
 /// A primitive of two operands, in RAX and RCX.
-pub(crate) fn binary(out: &mut List<Item>, n: u32, which: Primitive) -> Result<(), Mem>
+pub(crate) fn binary(out: &mut ItemList, n: u32, which: Primitive) -> Result<(), Mem>
     requires { n + 4 ≤ 2 ^ 32 }
     ensures { OnOk result ((rest : List Item) → out.new ++ rest ≡ out.old ++ binary_code n which rest) }
 {
@@ -114,7 +114,7 @@ pub(crate) fn binary(out: &mut List<Item>, n: u32, which: Primitive) -> Result<(
 }
 
 /// A primitive that reads, over atoms.
-fn read(out: &mut List<Item>, n: u32, which: Primitive, atoms: &[Atom<Place>]) -> Result<(), Mem>
+fn read(out: &mut ItemList, n: u32, which: Primitive, atoms: &[Atom<Place>]) -> Result<(), Mem>
     requires labels { n + 4 ≤ 2 ^ 32 }
     requires reached { IsTrue (list_all is_reached_atom atoms.now) }
     ensures { OnOk result ((rest : List Item) → out.new ++ rest ≡ out.old ++ read_code n which atoms.now rest) }
@@ -134,7 +134,7 @@ fn read(out: &mut List<Item>, n: u32, which: Primitive, atoms: &[Atom<Place>]) -
 }
 
 /// An operand into RAX.
-pub(crate) fn operand(out: &mut List<Item>, n: u32, o: &Operand<Place>) -> Result<(), Mem>
+pub(crate) fn operand(out: &mut ItemList, n: u32, o: &Operand<Place>) -> Result<(), Mem>
     requires labels { n + 4 ≤ 2 ^ 32 }
     requires reached { IsTrue (is_reached_operand o.now) }
     ensures { OnOk result ((rest : List Item) → out.new ++ rest ≡ out.old ++ operand_code n o.now rest) }
@@ -146,7 +146,7 @@ pub(crate) fn operand(out: &mut List<Item>, n: u32, o: &Operand<Place>) -> Resul
 }
 
 /// A second operand into RCX, while RAX keeps the first.
-pub(crate) fn second(out: &mut List<Item>, n: u32, o: &Operand<Place>) -> Result<(), Mem>
+pub(crate) fn second(out: &mut ItemList, n: u32, o: &Operand<Place>) -> Result<(), Mem>
     requires labels { n + 4 ≤ 2 ^ 32 }
     requires reached { IsTrue (is_reached_operand o.now) }
     ensures { OnOk result ((rest : List Item) → out.new ++ rest ≡ out.old ++ second_code n o.now rest) }

@@ -11,14 +11,14 @@ use crate::closures::closure;
 use crate::globals::{global, set_global};
 use crate::operands::operand;
 use crate::primitives::primitive;
-use sch_asm::Item;
+use sch_asm::ItemList;
 use sch_control::{Operation, Source};
 use sch_word::registers::{RAX, RCX};
-use sch_word::{List, Mem, Place};
+use sch_word::{Mem, Place};
 
 /// An operation, whose value is left in RAX. Its labels are from n on, twelve at most.
 pub fn operation(
-    out: &mut List<Item>,
+    out: &mut ItemList,
     heap_end: u32,
     literals: u32,
     n: u32,

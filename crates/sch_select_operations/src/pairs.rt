@@ -6,13 +6,13 @@ ghost use Rattle.sch_select_memory.specs.Addresses.{max_heap_end};
 ghost use Rattle.sch_asm.specs.declared.item.Item.{Item};
 ghost use Rattle.sch_select_operations.specs.ObjectCode.{check_heap, pair_code, part_code, part_of_pair, set_part_of_pair};
 
-use sch_asm::Item;
+use sch_asm::{Item, ItemList};
 use sch_insn::condition::{A, NE};
 use sch_insn::{Arg, Insn};
 use sch_select_memory::addresses::{heap_offset, immediate, stop};
 use sch_select_memory::word::{PAIR, PAIR_BYTES, TAG_MASK, UNSPECIFIED};
 use sch_word::registers::{RAX, RCX, RDX};
-use sch_word::{DATA_ADDRESS, HEAP_REGISTER, List, Mem, Stop};
+use sch_word::{DATA_ADDRESS, HEAP_REGISTER, Mem, Stop};
 
 /// The first word of the pair whose word is in RAX.
 pub(crate) const CAR: Arg = Arg::Base32(RAX, -PAIR);
@@ -21,7 +21,7 @@ pub(crate) const CAR: Arg = Arg::Base32(RAX, -PAIR);
 pub(crate) const CDR: Arg = Arg::Base32(RAX, 8 - PAIR);
 
 /// The heap has this number of bytes left, or stop 71.
-pub fn check_heap(out: &mut List<Item>, heap_end: u32, bytes: u32) -> Result<(), Mem>
+pub fn check_heap(out: &mut ItemList, heap_end: u32, bytes: u32) -> Result<(), Mem>
     requires low { heap_end ≤ max_heap_end }
     requires few { bytes ≤ data_address }
     ensures { OnOk result ((rest : List Item) → out.new ++ rest ≡ out.old ++ check_heap heap_end bytes rest) }
@@ -37,7 +37,7 @@ pub fn check_heap(out: &mut List<Item>, heap_end: u32, bytes: u32) -> Result<(),
 }
 
 /// The word of a part with a tag into RAX, and the address of the next part into the heap's register.
-pub fn part(out: &mut List<Item>, tag: u32, bytes: u32) -> Result<(), Mem>
+pub fn part(out: &mut ItemList, tag: u32, bytes: u32) -> Result<(), Mem>
     requires tag { tag < 8 }
     requires few { bytes < 2 ^ 31 }
     ensures { OnOk result ((rest : List Item) → out.new ++ rest ≡ out.old ++ part_code tag bytes rest) }
@@ -52,7 +52,7 @@ pub fn part(out: &mut List<Item>, tag: u32, bytes: u32) -> Result<(), Mem>
 }
 
 /// One of the words of the pair in RAX.
-pub(crate) fn part_of_pair(out: &mut List<Item>, from: Arg) -> Result<(), Mem>
+pub(crate) fn part_of_pair(out: &mut ItemList, from: Arg) -> Result<(), Mem>
     ensures { OnOk result ((rest : List Item) → out.new ++ rest ≡ out.old ++ part_of_pair from rest) }
 {
     out.extend_from_slice(&[
@@ -65,7 +65,7 @@ pub(crate) fn part_of_pair(out: &mut List<Item>, from: Arg) -> Result<(), Mem>
 }
 
 /// One of the words of the pair in RAX becomes RCX.
-pub(crate) fn set_part_of_pair(out: &mut List<Item>, to: Arg) -> Result<(), Mem>
+pub(crate) fn set_part_of_pair(out: &mut ItemList, to: Arg) -> Result<(), Mem>
     ensures { OnOk result ((rest : List Item) → out.new ++ rest ≡ out.old ++ set_part_of_pair to rest) }
 {
     out.extend_from_slice(&[
@@ -79,7 +79,7 @@ pub(crate) fn set_part_of_pair(out: &mut List<Item>, to: Arg) -> Result<(), Mem>
 }
 
 /// A new pair of RAX and RCX.
-pub(crate) fn pair(out: &mut List<Item>, heap_end: u32) -> Result<(), Mem>
+pub(crate) fn pair(out: &mut ItemList, heap_end: u32) -> Result<(), Mem>
     requires { heap_end ≤ max_heap_end }
     ensures { OnOk result ((rest : List Item) → out.new ++ rest ≡ out.old ++ pair_code heap_end rest) }
 {

@@ -11,15 +11,15 @@ use crate::operands::{atom, binary, operand, second, unary};
 use crate::pairs::pair;
 use crate::strings::set_string;
 use crate::vectors::set_vector;
-use sch_asm::Item;
+use sch_asm::{Item, ItemList};
 use sch_control::{Atom, Operand};
 use sch_insn::{Arg, Insn};
 use sch_select_memory::addresses::stop;
 use sch_word::registers::{R11, RAX, RCX};
-use sch_word::{List, Mem, Place, Primitive, Stop};
+use sch_word::{Mem, Place, Primitive, Stop};
 
 /// An index into RCX. What a primitive reads is no number: stop 65.
-fn index(out: &mut List<Item>, o: &Operand<Place>) -> Result<(), Mem>
+fn index(out: &mut ItemList, o: &Operand<Place>) -> Result<(), Mem>
     requires { IsTrue (is_reached_operand o.now) }
     ensures { OnOk result ((rest : List Item) → out.new ++ rest ≡ out.old ++ index_operand o.now rest) }
 {
@@ -31,7 +31,7 @@ fn index(out: &mut List<Item>, o: &Operand<Place>) -> Result<(), Mem>
 
 /// Three operands into R11, RAX and RCX, the last one first.
 fn three(
-    out: &mut List<Item>,
+    out: &mut ItemList,
     n: u32,
     a: &Operand<Place>,
     b: &Operand<Place>,
@@ -50,7 +50,7 @@ fn three(
 }
 
 /// What R11 has is stored at the index in RCX.
-fn ternary(out: &mut List<Item>, which: Primitive) -> Result<(), Mem>
+fn ternary(out: &mut ItemList, which: Primitive) -> Result<(), Mem>
     ensures { OnOk result ((rest : List Item) → out.new ++ rest ≡ out.old ++ ternary_code which rest) }
 {
     match which {
@@ -61,7 +61,7 @@ fn ternary(out: &mut List<Item>, which: Primitive) -> Result<(), Mem>
 }
 
 /// A primitive of two operands, or a new pair.
-fn pair_or_binary(out: &mut List<Item>, heap_end: u32, n: u32, which: Primitive) -> Result<(), Mem>
+fn pair_or_binary(out: &mut ItemList, heap_end: u32, n: u32, which: Primitive) -> Result<(), Mem>
     requires low { heap_end ≤ max_heap_end }
     requires labels { n + 4 ≤ 2 ^ 32 }
     ensures { OnOk result ((rest : List Item) → out.new ++ rest ≡ out.old ++ pair_or_binary heap_end n which rest) }
@@ -74,7 +74,7 @@ fn pair_or_binary(out: &mut List<Item>, heap_end: u32, n: u32, which: Primitive)
 
 /// A primitive. Its labels are from n to n + 11.
 pub fn primitive(
-    out: &mut List<Item>,
+    out: &mut ItemList,
     heap_end: u32,
     n: u32,
     which: Primitive,

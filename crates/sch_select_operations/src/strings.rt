@@ -7,7 +7,7 @@ ghost use Rattle.sch_select_operations.specs.ObjectCode.{length_code, string_cod
 ghost use Rattle.sch_select_operations.specs.ObjectCode.{symbol_ref_code};
 ghost use Rattle.sch_select_memory.specs.Checks.{string_length};
 
-use sch_asm::{Item, Routine};
+use sch_asm::{Item, ItemList, Routine};
 use sch_insn::condition::{AE, NE};
 use sch_insn::{Arg, Insn};
 use sch_select_memory::addresses::{
@@ -18,7 +18,7 @@ use sch_select_memory::word::{
     UNIT_SHIFT, UNSPECIFIED,
 };
 use sch_word::registers::{R11, RAX, RCX, RDX};
-use sch_word::{HEAP_REGISTER, List, Mem, Stop};
+use sch_word::{HEAP_REGISTER, Mem, Stop};
 
 /// A byte of the string in RAX, at the index that is added to RAX.
 const STRING_BYTE: Arg = Arg::Base32(RAX, STRING_BYTES);
@@ -27,7 +27,7 @@ const STRING_BYTE: Arg = Arg::Base32(RAX, STRING_BYTES);
 const NAME_BYTE: Arg = Arg::Base32(RAX, 8);
 
 /// The length of the string in RAX.
-pub(crate) fn string_length(out: &mut List<Item>) -> Result<(), Mem>
+pub(crate) fn string_length(out: &mut ItemList) -> Result<(), Mem>
     ensures { OnOk result ((rest : List Item) → out.new ++ rest ≡ out.old ++ length_code string_tag string_length rest) }
 {
     out.extend_from_slice(&[
@@ -40,7 +40,7 @@ pub(crate) fn string_length(out: &mut List<Item>) -> Result<(), Mem>
 }
 
 /// The character of the string in RAX at the index in RCX.
-pub(crate) fn string_ref(out: &mut List<Item>) -> Result<(), Mem>
+pub(crate) fn string_ref(out: &mut ItemList) -> Result<(), Mem>
     ensures { OnOk result ((rest : List Item) → out.new ++ rest ≡ out.old ++ string_ref_code rest) }
 {
     out.extend_from_slice(&[
@@ -62,7 +62,7 @@ pub(crate) fn string_ref(out: &mut List<Item>) -> Result<(), Mem>
 }
 
 /// The character of the string in RAX at the index in RCX becomes R11.
-pub(crate) fn set_string(out: &mut List<Item>) -> Result<(), Mem>
+pub(crate) fn set_string(out: &mut ItemList) -> Result<(), Mem>
     ensures { OnOk result ((rest : List Item) → out.new ++ rest ≡ out.old ++ string_set_code rest) }
 {
     out.extend_from_slice(&[
@@ -88,7 +88,7 @@ pub(crate) fn set_string(out: &mut List<Item>) -> Result<(), Mem>
 }
 
 /// The length of the name of the symbol in RAX.
-pub(crate) fn symbol_length(out: &mut List<Item>) -> Result<(), Mem>
+pub(crate) fn symbol_length(out: &mut ItemList) -> Result<(), Mem>
     ensures { OnOk result ((rest : List Item) → out.new ++ rest ≡ out.old ++ symbol_length_code rest) }
 {
     out.extend_from_slice(&[
@@ -104,7 +104,7 @@ pub(crate) fn symbol_length(out: &mut List<Item>) -> Result<(), Mem>
 }
 
 /// The character of the name of the symbol in RAX at the index in RCX.
-pub(crate) fn symbol_ref(out: &mut List<Item>) -> Result<(), Mem>
+pub(crate) fn symbol_ref(out: &mut ItemList) -> Result<(), Mem>
     ensures { OnOk result ((rest : List Item) → out.new ++ rest ≡ out.old ++ symbol_ref_code rest) }
 {
     out.extend_from_slice(&[
@@ -129,7 +129,7 @@ pub(crate) fn symbol_ref(out: &mut List<Item>) -> Result<(), Mem>
 }
 
 /// A new string, with its length in RAX and its characters in RCX. The label is its own.
-pub(crate) fn make_string(out: &mut List<Item>, n: u32) -> Result<(), Mem>
+pub(crate) fn make_string(out: &mut ItemList, n: u32) -> Result<(), Mem>
     ensures { OnOk result ((rest : List Item) → out.new ++ rest ≡ out.old ++ string_code n rest) }
 {
     out.extend_from_slice(&[

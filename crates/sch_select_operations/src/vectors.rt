@@ -5,13 +5,13 @@ ghost use Rattle.sch_asm.specs.declared.item.Item.{Item};
 ghost use Rattle.sch_select_memory.specs.Encoded.{vector_tag};
 ghost use Rattle.sch_select_operations.specs.ObjectCode.{length_code, vector_code, vector_length, vector_ref_code, vector_set_code};
 
-use sch_asm::{Item, Routine};
+use sch_asm::{Item, ItemList, Routine};
 use sch_insn::condition::{AE, NE};
 use sch_insn::{Arg, Insn};
 use sch_select_memory::addresses::stop;
 use sch_select_memory::word::{ROUNDING, TAG_MASK, UNIT_SHIFT, UNSPECIFIED, VECTOR};
 use sch_word::registers::{R11, RAX, RCX, RDX};
-use sch_word::{HEAP_REGISTER, List, Mem, Stop};
+use sch_word::{HEAP_REGISTER, Mem, Stop};
 
 /// The word of the length of the vector in RAX.
 const LENGTH: Arg = Arg::Base32(RAX, -VECTOR);
@@ -20,7 +20,7 @@ const LENGTH: Arg = Arg::Base32(RAX, -VECTOR);
 const ELEMENT: Arg = Arg::Base32(RAX, 8 - VECTOR);
 
 /// The length of the vector in RAX.
-pub(crate) fn vector_length(out: &mut List<Item>) -> Result<(), Mem>
+pub(crate) fn vector_length(out: &mut ItemList) -> Result<(), Mem>
     ensures { OnOk result ((rest : List Item) → out.new ++ rest ≡ out.old ++ length_code vector_tag vector_length rest) }
 {
     out.extend_from_slice(&[
@@ -33,7 +33,7 @@ pub(crate) fn vector_length(out: &mut List<Item>) -> Result<(), Mem>
 }
 
 /// The element of the vector in RAX at the index in RCX.
-pub(crate) fn vector_ref(out: &mut List<Item>) -> Result<(), Mem>
+pub(crate) fn vector_ref(out: &mut ItemList) -> Result<(), Mem>
     ensures { OnOk result ((rest : List Item) → out.new ++ rest ≡ out.old ++ vector_ref_code rest) }
 {
     out.extend_from_slice(&[
@@ -52,7 +52,7 @@ pub(crate) fn vector_ref(out: &mut List<Item>) -> Result<(), Mem>
 }
 
 /// The element of the vector in RAX at the index in RCX becomes R11.
-pub(crate) fn set_vector(out: &mut List<Item>) -> Result<(), Mem>
+pub(crate) fn set_vector(out: &mut ItemList) -> Result<(), Mem>
     ensures { OnOk result ((rest : List Item) → out.new ++ rest ≡ out.old ++ vector_set_code rest) }
 {
     out.extend_from_slice(&[
@@ -72,7 +72,7 @@ pub(crate) fn set_vector(out: &mut List<Item>) -> Result<(), Mem>
 }
 
 /// A new vector, with its length in RAX and its elements in RCX. The label is its own.
-pub(crate) fn make_vector(out: &mut List<Item>, n: u32) -> Result<(), Mem>
+pub(crate) fn make_vector(out: &mut ItemList, n: u32) -> Result<(), Mem>
     ensures { OnOk result ((rest : List Item) → out.new ++ rest ≡ out.old ++ vector_code n rest) }
 {
     out.extend_from_slice(&[

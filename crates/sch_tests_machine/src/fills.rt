@@ -5,7 +5,7 @@ ghost use Rattle.sch_asm.specs.Items.{AreItems, AreKnown, AreOwn, IsEachOnce, la
 
 use crate::machine::{machine, runs_so};
 use crate::routines::resolved;
-use sch_asm::{Asm, Item};
+use sch_asm::{Asm, Item, ItemList};
 use sch_insn::{Arg, Insn};
 use sch_io::MemOutlet;
 use sch_step::Machine;
@@ -55,9 +55,10 @@ pub(crate) fn program(alloc: Global, items: &[Item]) -> Result<Asm, Mem>
     requires marked { IsTrue (marks_arrive false items.now) }
     ensures { IfOk result (λ a. AreOwn a.items) }
 {
-    let items = List::from_slice(alloc, items)?;
+    let mut list = ItemList::new(alloc);
+    list.extend_from_slice(items)?;
     Ok(Asm {
-        items,
+        items: list,
         words: List::new(alloc),
         zeros: 552,
     })

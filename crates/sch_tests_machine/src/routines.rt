@@ -3,7 +3,7 @@
 ghost use Rattle.std.specs.Prelude.{IfOk};
 ghost use Rattle.sch_asm.specs.Items.{AreOwn};
 
-use sch_asm::{Asm, AsmError, Resolved, Word, resolve};
+use sch_asm::{Asm, AsmError, ItemList, Resolved, Word, resolve};
 use sch_runtime::routines;
 use sch_word::{List, Mem};
 use std::alloc::Global;
@@ -27,7 +27,7 @@ fn one_word(alloc: Global) -> Result<Asm, Mem>
     let mut words = List::new(alloc);
     words.push(Word::Fixed(258))?;
     Ok(Asm {
-        items: List::new(alloc),
+        items: ItemList::new(alloc),
         words,
         zeros: 8,
     })

@@ -39,12 +39,12 @@ laid_out xs ys ws rs places longs z own routines once once' known known' least e
       words_use = u.1;
     }
 
-the_pieces : (xs ys first second : List Item) (made given : List Piece) → first ≡ xs → second ≡ ys → made ≡ skeleton first ++ skeleton second → given ≡ made → given ≡ skeleton (xs ++ ys)
-the_pieces xs ys first second made given f g h i = i ∙ h ∙ ap (λ l. skeleton l ++ skeleton second) f ∙ ap (λ l. skeleton xs ++ skeleton l) g ∙ sym (skeleton_append xs ys)
+the_pieces : (xs ys : List Item) (made given : List Piece) → made ≡ skeleton xs ++ skeleton ys → given ≡ made → given ≡ skeleton (xs ++ ys)
+the_pieces xs ys made given h i = i ∙ h ∙ sym (skeleton_append xs ys)
 
 pub choose-requires-clause-sound : goal.choose-requires-clause-sound
 choose-requires-clause-sound c =
-    let e = the_pieces c.args.a.now.items c.args.routines.now.items c.as_slice.result.now c.as_slice-2.result.now c.in_ok-pieces.pieces.items c.deref.result.now c.as_slice.ensures c.as_slice-2.ensures c.in_ok-pieces.ensures c.deref.ensures.value in
+    let e = the_pieces c.args.a.now.items c.args.routines.now.items c.in_ok-pieces.pieces.items c.deref.result.now c.in_ok-pieces.ensures c.deref.ensures.value in
     subst ArePieces (sym e) (sound_pieces (c.args.a.now.items ++ c.args.routines.now.items))
 
 pub returns-clause-places : goal.returns-clause-places
@@ -52,7 +52,7 @@ returns-clause-places c =
     let xs = c.args.a.now.items in
     let ys = c.args.routines.now.items in
     let ps = c.deref.result.now in
-    let e : ps ≡ skeleton (xs ++ ys) = the_pieces xs ys c.as_slice.result.now c.as_slice-2.result.now c.in_ok-pieces.pieces.items ps c.as_slice.ensures c.as_slice-2.ensures c.in_ok-pieces.ensures c.deref.ensures.value in
+    let e : ps ≡ skeleton (xs ++ ys) = the_pieces xs ys c.in_ok-pieces.pieces.items ps c.in_ok-pieces.ensures c.deref.ensures.value in
     let f = c.in_ok-forms.forms in
     let h = c.in_ok-forms.ensures in
     let low : f.end < 1073741824 = omega (arith, c.if-bytes-gt-MAX_TEXT_SIZE.false, h.end) in

@@ -16,7 +16,7 @@ use Rattle.sch_asm.specs.declared.item.Mark as mark
 use Rattle.sch_asm.specs.Items.{AreItems}
 use Rattle.sch_asm.specs.Codes.{AreResolved, Codes, bytes_of}
 use Rattle.sch_asm.specs.Forms.{jump_forms}
-use Rattle.sch_asm.specs.Layout.{IsLaidOut, ReachFrom, UseBelow, emitted_from, jumps_in, marked_from, size_from}
+use Rattle.sch_asm.specs.Layout.{IsLaidOut, ReachFrom, emitted_from, jumps_in, marked_from, size_from}
 use Rattle.sch_asm.specs.Pieces.{shortest_size, skeleton}
 use Rattle.sch_asm.proofs.Skeleton.{sound_pieces}
 use Rattle.sch_asm.proofs.Tables.{Below, below_anywhere, sound_append, use_back, use_front}
@@ -56,25 +56,20 @@ record Written (is : List Item) (ws : List Word) (code : List Insn) (marks : Lis
   words_are : words ≡ flat_map (bytes_of (slice_index places)) ws
 
 module _ (longs : List Bool) where
-  behind_spot : (xs first : List Item) (at jumps : ℕ) → first ≡ xs → at ≡ text_address + size_from (set_of longs) 0 first → jumps ≡ 0 + jumps_in first → (at ≡ text_address + size_from (set_of longs) 0 xs) × (jumps ≡ 0 + jumps_in xs)
-  behind_spot xs first at jumps e f g = (f ∙ ap (λ l. text_address + size_from (set_of longs) 0 l) e, g ∙ ap (λ l. 0 + jumps_in l) e)
-
-  both_code : (place : ℕ → ℕ) (xs ys first second : List Item) (at jumps : ℕ) (start code code' : List Insn) → start ≡ [] → first ≡ xs → second ≡ ys → at ≡ text_address + size_from (set_of longs) 0 first → jumps ≡ 0 + jumps_in first → code ≡ start ++ emitted_from place (set_of longs) 0 text_address first → code' ≡ code ++ emitted_from place (set_of longs) jumps at second → code' ≡ emitted_from place (set_of longs) 0 text_address (xs ++ ys)
-  both_code place xs ys first second at jumps start code code' e f g h n i j =
+  both_code : (place : ℕ → ℕ) (xs ys : List Item) (at jumps : ℕ) (start code code' : List Insn) → start ≡ [] → at ≡ text_address + size_from (set_of longs) 0 xs → jumps ≡ 0 + jumps_in xs → code ≡ start ++ emitted_from place (set_of longs) 0 text_address xs → code' ≡ code ++ emitted_from place (set_of longs) jumps at ys → code' ≡ emitted_from place (set_of longs) 0 text_address (xs ++ ys)
+  both_code place xs ys at jumps start code code' e h n i j =
       let s = set_of longs in
-      let b = behind_spot xs first at jumps f h n in
       let front = emitted_from place s 0 text_address xs in
-      j ∙ ap (λ l. l ++ emitted_from place s jumps at second) (i ∙ ap (λ l. l ++ emitted_from place s 0 text_address first) e ∙ ap (emitted_from place s 0 text_address) f)
-      ∙ ap (λ a. front ++ emitted_from place s jumps a second) b.0 ∙ ap (λ k. front ++ emitted_from place s k (text_address + size_from s 0 xs) second) b.1 ∙ ap (λ l. front ++ emitted_from place s (0 + jumps_in xs) (text_address + size_from s 0 xs) l) g
+      j ∙ ap (λ l. l ++ emitted_from place s jumps at ys) (i ∙ ap (λ l. l ++ front) e)
+      ∙ ap (λ a. front ++ emitted_from place s jumps a ys) h ∙ ap (λ k. front ++ emitted_from place s k (text_address + size_from s 0 xs) ys) n
       ∙ sym (emitted_append place s xs ys 0 text_address)
 
-  both_marks : (xs ys first second : List Item) (at jumps : ℕ) (start marks marks' : List mark.Mark) → start ≡ [] → first ≡ xs → second ≡ ys → at ≡ text_address + size_from (set_of longs) 0 first → jumps ≡ 0 + jumps_in first → marks ≡ start ++ marked_from (set_of longs) 0 text_address first → marks' ≡ marks ++ marked_from (set_of longs) jumps at second → marks' ≡ marked_from (set_of longs) 0 text_address (xs ++ ys)
-  both_marks xs ys first second at jumps start marks marks' e f g h n i j =
+  both_marks : (xs ys : List Item) (at jumps : ℕ) (start marks marks' : List mark.Mark) → start ≡ [] → at ≡ text_address + size_from (set_of longs) 0 xs → jumps ≡ 0 + jumps_in xs → marks ≡ start ++ marked_from (set_of longs) 0 text_address xs → marks' ≡ marks ++ marked_from (set_of longs) jumps at ys → marks' ≡ marked_from (set_of longs) 0 text_address (xs ++ ys)
+  both_marks xs ys at jumps start marks marks' e h n i j =
       let s = set_of longs in
-      let b = behind_spot xs first at jumps f h n in
       let front = marked_from s 0 text_address xs in
-      j ∙ ap (λ l. l ++ marked_from s jumps at second) (i ∙ ap (λ l. l ++ marked_from s 0 text_address first) e ∙ ap (marked_from s 0 text_address) f)
-      ∙ ap (λ a. front ++ marked_from s jumps a second) b.0 ∙ ap (λ k. front ++ marked_from s k (text_address + size_from s 0 xs) second) b.1 ∙ ap (λ l. front ++ marked_from s (0 + jumps_in xs) (text_address + size_from s 0 xs) l) g
+      j ∙ ap (λ l. l ++ marked_from s jumps at ys) (i ∙ ap (λ l. l ++ front) e)
+      ∙ ap (λ a. front ++ marked_from s jumps a ys) h ∙ ap (λ k. front ++ marked_from s k (text_address + size_from s 0 xs) ys) n
       ∙ sym (marked_append s xs ys 0 text_address)
 
 record Answer (is : List Item) (ws : List Word) (code : List Insn) (marks : List mark.Mark) (words : List ℕ) : Type 0 where
@@ -109,69 +104,59 @@ resolved is ws code marks words places longs w =
 
 -- ---- the goals
 
-first_fits : (xs ys first : List Item) (longs : List Bool) (bytes : ℕ) → IsLeast (skeleton (xs ++ ys)) (set_of longs) → bytes ≡ shortest_size (xs ++ ys) → bytes ≤ 16777216 → first ≡ xs → text_address + size_from (set_of longs) 0 first < 1073741824
-first_fits xs ys first longs bytes h e le f =
+first_fits : (xs ys : List Item) (longs : List Bool) (bytes : ℕ) → IsLeast (skeleton (xs ++ ys)) (set_of longs) → bytes ≡ shortest_size (xs ++ ys) → bytes ≤ 16777216 → text_address + size_from (set_of longs) 0 xs < 1073741824
+first_fits xs ys longs bytes h e le =
     let a = whole_size (xs ++ ys) longs h in
     let b = size_append (set_of longs) xs ys 0 in
-    let c = ap (size_from (set_of longs) 0) f in
-    omega (arith, a, b, c, e, le)
+    omega (arith, a, b, e, le)
 
-second_fits : (xs ys first second : List Item) (longs : List Bool) (bytes at jumps : ℕ) → IsLeast (skeleton (xs ++ ys)) (set_of longs) → bytes ≡ shortest_size (xs ++ ys) → bytes ≤ 16777216 → first ≡ xs → second ≡ ys → at ≡ text_address + size_from (set_of longs) 0 first → jumps ≡ 0 + jumps_in first → at + size_from (set_of longs) jumps second < 1073741824
-second_fits xs ys first second longs bytes at jumps h e le f g i j =
+second_fits : (xs ys : List Item) (longs : List Bool) (bytes at jumps : ℕ) → IsLeast (skeleton (xs ++ ys)) (set_of longs) → bytes ≡ shortest_size (xs ++ ys) → bytes ≤ 16777216 → at ≡ text_address + size_from (set_of longs) 0 xs → jumps ≡ 0 + jumps_in xs → at + size_from (set_of longs) jumps ys < 1073741824
+second_fits xs ys longs bytes at jumps h e le i j =
     let a = whole_size (xs ++ ys) longs h in
     let b = size_append (set_of longs) xs ys 0 in
-    let c = ap (size_from (set_of longs) 0) f in
-    let p = behind_spot longs xs first at jumps f i j in
-    let d = ap (λ l. size_from (set_of longs) jumps l) g ∙ ap (λ k. size_from (set_of longs) k ys) p.1 in
-    omega (arith, a, b, c, d, e, le, p.0)
+    let d = ap (λ k. size_from (set_of longs) k ys) j in
+    omega (arith, a, b, d, e, le, i)
 
-first_reaches : (xs ys ws first : _) (places : List ℕ) (longs : List Bool) → IsLaidOut (xs ++ ys) ws places longs → first ≡ xs → ReachFrom (slice_index places) (set_of longs) 0 text_address first
-first_reaches xs ys ws first places longs h e =
+first_reaches : (xs ys ws : _) (places : List ℕ) (longs : List Bool) → IsLaidOut (xs ++ ys) ws places longs → ReachFrom (slice_index places) (set_of longs) 0 text_address xs
+first_reaches xs ys ws places longs h =
     let place = slice_index places in
     let s = set_of longs in
-    subst (ReachFrom place s 0 text_address) (sym e) (reach_front place s xs ys 0 text_address (reach_items place s (xs ++ ys) 0 text_address h.reach))
+    reach_front place s xs ys 0 text_address (reach_items place s (xs ++ ys) 0 text_address h.reach)
 
-second_reaches : (xs ys ws first second : _) (places : List ℕ) (longs : List Bool) (at jumps : ℕ) → IsLaidOut (xs ++ ys) ws places longs → first ≡ xs → second ≡ ys → at ≡ text_address + size_from (set_of longs) 0 first → jumps ≡ 0 + jumps_in first → ReachFrom (slice_index places) (set_of longs) jumps at second
-second_reaches xs ys ws first second places longs at jumps h e f g i =
+second_reaches : (xs ys ws : _) (places : List ℕ) (longs : List Bool) (at jumps : ℕ) → IsLaidOut (xs ++ ys) ws places longs → at ≡ text_address + size_from (set_of longs) 0 xs → jumps ≡ 0 + jumps_in xs → ReachFrom (slice_index places) (set_of longs) jumps at ys
+second_reaches xs ys ws places longs at jumps h g i =
     let place = slice_index places in
     let s = set_of longs in
-    let p = behind_spot longs xs first at jumps e g i in
-    subst (ReachFrom place s jumps at) (sym f) (subst (λ k. ReachFrom place s k at ys) (sym p.1) (subst (λ a. ReachFrom place s (0 + jumps_in xs) a ys) (sym p.0) (reach_back place s xs ys 0 text_address (reach_items place s (xs ++ ys) 0 text_address h.reach))))
+    subst (λ k. ReachFrom place s k at ys) (sym i) (subst (λ a. ReachFrom place s (0 + jumps_in xs) a ys) (sym g) (reach_back place s xs ys 0 text_address (reach_items place s (xs ++ ys) 0 text_address h.reach)))
 
-pub emit-requires-clause-uses : goal.emit-requires-clause-uses
-emit-requires-clause-uses c =
-    subst (UseBelow (length c.in_ok-layout.layout.places.items)) (sym c.as_slice-3.ensures) (use_front c.args.a.now.items c.args.routines.now.items (length c.in_ok-layout.layout.places.items) c.in_ok-layout.ensures.places.uses)
+pub emit_all-requires-clause-uses : goal.emit_all-requires-clause-uses
+emit_all-requires-clause-uses c = use_front c.args.a.now.items c.args.routines.now.items (length c.in_ok-layout.layout.places.items) c.in_ok-layout.ensures.places.uses
 
-pub emit-requires-clause-short : goal.emit-requires-clause-short
-emit-requires-clause-short c =
-    first_fits c.args.a.now.items c.args.routines.now.items c.as_slice-3.result.now c.in_ok-layout.layout.longs.items c.in_ok-layout.layout.bytes c.in_ok-layout.ensures.places.least c.in_ok-layout.ensures.bytes c.in_ok-layout.ensures.fits c.as_slice-3.ensures
+pub emit_all-requires-clause-short : goal.emit_all-requires-clause-short
+emit_all-requires-clause-short c =
+    first_fits c.args.a.now.items c.args.routines.now.items c.in_ok-layout.layout.longs.items c.in_ok-layout.layout.bytes c.in_ok-layout.ensures.places.least c.in_ok-layout.ensures.bytes c.in_ok-layout.ensures.fits
 
-pub emit-requires-clause-reach : goal.emit-requires-clause-reach
-emit-requires-clause-reach c =
-    first_reaches c.args.a.now.items c.args.routines.now.items c.args.a.now.words c.as_slice-3.result.now c.in_ok-layout.layout.places.items c.in_ok-layout.layout.longs.items c.in_ok-layout.ensures.places c.as_slice-3.ensures
+pub emit_all-requires-clause-reach : goal.emit_all-requires-clause-reach
+emit_all-requires-clause-reach c =
+    first_reaches c.args.a.now.items c.args.routines.now.items c.args.a.now.words c.in_ok-layout.layout.places.items c.in_ok-layout.layout.longs.items c.in_ok-layout.ensures.places
 
-pub emit-requires-2-clause-uses : goal.emit-requires-2-clause-uses
-emit-requires-2-clause-uses c =
-    subst (UseBelow (length c.in_ok-layout.layout.places.items)) (sym c.as_slice-4.ensures) (use_back c.args.a.now.items c.args.routines.now.items (length c.in_ok-layout.layout.places.items) c.in_ok-layout.ensures.places.uses)
+pub emit_all-requires-2-clause-uses : goal.emit_all-requires-2-clause-uses
+emit_all-requires-2-clause-uses c = use_back c.args.a.now.items c.args.routines.now.items (length c.in_ok-layout.layout.places.items) c.in_ok-layout.ensures.places.uses
 
-pub emit-requires-2-clause-few : goal.emit-requires-2-clause-few
-emit-requires-2-clause-few c =
-    let a = ap length c.as_slice.ensures in
-    let b = ap length c.as_slice-2.ensures in
-    let d = ap length c.as_slice-3.ensures in
-    let e = ap length c.as_slice-4.ensures in
-    let f = few_jumps c.as_slice-3.result.now in
-    omega (arith, a, b, d, e, f, c.item_count.ensures, c.in_ok-behind.ensures.jumps)
+pub emit_all-requires-2-clause-few : goal.emit_all-requires-2-clause-few
+emit_all-requires-2-clause-few c =
+    let some = few_jumps c.args.a.now.items in
+    omega (arith, some, c.in_ok-layout.ensures.few, c.in_ok-behind.ensures.jumps)
 
-pub emit-requires-2-clause-short : goal.emit-requires-2-clause-short
-emit-requires-2-clause-short c =
-    second_fits c.args.a.now.items c.args.routines.now.items c.as_slice-3.result.now c.as_slice-4.result.now c.in_ok-layout.layout.longs.items c.in_ok-layout.layout.bytes c.in_ok-behind.behind.at c.in_ok-behind.behind.jumps
-    c.in_ok-layout.ensures.places.least c.in_ok-layout.ensures.bytes c.in_ok-layout.ensures.fits c.as_slice-3.ensures c.as_slice-4.ensures c.in_ok-behind.ensures.end c.in_ok-behind.ensures.jumps
+pub emit_all-requires-2-clause-short : goal.emit_all-requires-2-clause-short
+emit_all-requires-2-clause-short c =
+    second_fits c.args.a.now.items c.args.routines.now.items c.in_ok-layout.layout.longs.items c.in_ok-layout.layout.bytes c.in_ok-behind.behind.at c.in_ok-behind.behind.jumps
+    c.in_ok-layout.ensures.places.least c.in_ok-layout.ensures.bytes c.in_ok-layout.ensures.fits c.in_ok-behind.ensures.end c.in_ok-behind.ensures.jumps
 
-pub emit-requires-2-clause-reach : goal.emit-requires-2-clause-reach
-emit-requires-2-clause-reach c =
-    second_reaches c.args.a.now.items c.args.routines.now.items c.args.a.now.words c.as_slice-3.result.now c.as_slice-4.result.now c.in_ok-layout.layout.places.items c.in_ok-layout.layout.longs.items c.in_ok-behind.behind.at c.in_ok-behind.behind.jumps
-    c.in_ok-layout.ensures.places c.as_slice-3.ensures c.as_slice-4.ensures c.in_ok-behind.ensures.end c.in_ok-behind.ensures.jumps
+pub emit_all-requires-2-clause-reach : goal.emit_all-requires-2-clause-reach
+emit_all-requires-2-clause-reach c =
+    second_reaches c.args.a.now.items c.args.routines.now.items c.args.a.now.words c.in_ok-layout.layout.places.items c.in_ok-layout.layout.longs.items c.in_ok-behind.behind.at c.in_ok-behind.behind.jumps
+    c.in_ok-layout.ensures.places c.in_ok-behind.ensures.end c.in_ok-behind.ensures.jumps
 
 pub returns : goal.returns
 returns c =
@@ -179,15 +164,20 @@ returns c =
     let ys = c.args.routines.now.items in
     let longs = c.in_ok-layout.layout.longs.items in
     let place = slice_index c.in_ok-layout.layout.places.items in
-    let w : Written (xs ++ ys) c.args.a.now.words c.emit-2.new.code c.emit-2.new.marks c.in_ok-words.words c.in_ok-layout.layout.places.items longs = record {
+    let behind = c.in_ok-behind.behind in
+    let first = c.in_ok-behind.ensures in
+    let second = c.in_ok-emit_all.ensures in
+    let code = c.emit_all-2.new.code in
+    let marks = c.emit_all-2.new.marks in
+    let w : Written (xs ++ ys) c.args.a.now.words code marks c.in_ok-words.words c.in_ok-layout.layout.places.items longs = record {
       laid = c.in_ok-layout.ensures.places;
       small = c.in_ok-layout.layout.low;
       sound = sound_append xs ys c.args.a.now.sound c.args.routines.now.sound;
       fits = omega (arith, c.in_ok-layout.ensures.bytes, c.in_ok-layout.ensures.fits);
-      code_is = both_code longs place xs ys c.as_slice-3.result.now c.as_slice-4.result.now c.in_ok-behind.behind.at c.in_ok-behind.behind.jumps c.in_ok-code.code c.emit.new.code c.emit-2.new.code c.in_ok-code.ensures c.as_slice-3.ensures c.as_slice-4.ensures c.in_ok-behind.ensures.end c.in_ok-behind.ensures.jumps c.in_ok-behind.ensures.code c.in_ok-emit.ensures.code;
-      marks_is = both_marks longs xs ys c.as_slice-3.result.now c.as_slice-4.result.now c.in_ok-behind.behind.at c.in_ok-behind.behind.jumps c.new-marks.result c.emit.new.marks c.emit-2.new.marks c.new-marks.ensures c.as_slice-3.ensures c.as_slice-4.ensures c.in_ok-behind.ensures.end c.in_ok-behind.ensures.jumps c.in_ok-behind.ensures.marks c.in_ok-emit.ensures.marks;
-      words_are = c.in_ok-words.ensures ∙ ap (flat_map (bytes_of place)) c.as_slice-5.ensures;
+      code_is = both_code longs place xs ys behind.at behind.jumps c.in_ok-code.code c.emit_all.new.code code c.in_ok-code.ensures first.end first.jumps first.code second.code;
+      marks_is = both_marks longs xs ys behind.at behind.jumps c.new-marks.result c.emit_all.new.marks marks c.new-marks.ensures first.end first.jumps first.marks second.marks;
+      words_are = c.in_ok-words.ensures ∙ ap (flat_map (bytes_of place)) c.as_slice.ensures;
     } in
-    let r = resolved (xs ++ ys) c.args.a.now.words c.emit-2.new.code c.emit-2.new.marks c.in_ok-words.words c.in_ok-layout.layout.places.items longs w in
+    let r = resolved (xs ++ ys) c.args.a.now.words code marks c.in_ok-words.words c.in_ok-layout.layout.places.items longs w in
     let e = r.size in
-    record { stands = r.stands; valid = r.valid; shortest = r.shortest; exact = r.exact; as_many = as_many r.stands.place_of text_address (xs ++ ys) c.emit-2.new.code c.emit-2.new.marks r.stands.codes; words = ap length w.words_are ∙ data_length place c.args.a.now.words; zeros = refl; size = r.size; fits = omega (arith, e, w.fits); too_large = tt }
+    record { stands = r.stands; valid = r.valid; shortest = r.shortest; exact = r.exact; as_many = as_many r.stands.place_of text_address (xs ++ ys) code marks r.stands.codes; words = ap length w.words_are ∙ data_length place c.args.a.now.words; zeros = refl; size = r.size; fits = omega (arith, e, w.fits); too_large = tt }
